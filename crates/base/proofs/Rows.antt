@@ -1,0 +1,143 @@
+-- Laws of rows of a work slice: what a row holds, what a change leaves as it was, and parts that were lent. Assumes nothing.
+use mathlib.Core.Path.{_≡_, refl, sym, ap, _∙_}
+use mathlib.Core.List.{List, _++_}
+use mathlib.Core.Logic.{_⊎_, inl, inr, ⊎-elim}
+use Prim.Native.Nat.{ℕ, zero, suc, _+_, _-_, _≤_, _<_}
+use native.Mathlib.Omega.{arith}
+use borrow.Rule.Slice.PartMut.{putMid, midOf, same-len-mid, mid-len}
+use lib.ListN.{length, take, drop, getD, length-take, length-drop, List·getD-append}
+use lib.Seq.{take-all, getD-take, getD-drop, getD-append-add, length-take-le, take-at, drop-at, ext-getD}
+use lib.Ieee.{Float, nan}
+use Rattle.base.specs.Sum.{_!_}
+use Rattle.base.specs.List.{build, fillAt, fillTo}
+use Rattle.base.specs.Rows.{row, Out, Apart, Only, Wrote}
+use Rattle.base.proofs.Sums.{lt-or-ge}
+use Rattle.base.proofs.Fills.{build-is, build-length, build-at, length-fillat, fillat-end, fillat-in, fillat-below, fillat-above}
+
+-- ---- a row's entries
+module _ (b n : ℕ) (w : List Float) (fits : b + n ≤ length w) where
+  pub row-length : length (row b n w) ≡ n
+  unfolding row
+  row-length = simp (length-take, length-drop) (omega arith)
+
+  pub row-at : (i : ℕ) → i < n → row b n w ! i ≡ w ! (b + i)
+  unfolding row
+  row-at i h = rw (getD-take, getD-drop)
+
+  pub row-build : (f : ℕ → Float) → ((k : ℕ) → k < n → w ! (b + k) ≡ f k) → row b n w ≡ build f n
+  row-build f h = build-is f n (row b n w) row-length (λ i l. row-at i l ∙ h i l)
+
+-- the part `&w[b..b + n]` is the row
+pub part-row : (b n : ℕ) (w : List Float) → take (b + n - b) (drop b w) ≡ row b n w
+unfolding row
+part-row b n w = let e : b + n - b ≡ n = omega arith in rw e
+
+-- the row of the whole list
+pub row-whole : (n : ℕ) (w : List Float) → length w ≡ n → row 0 n w ≡ w
+unfolding row
+row-whole n w h = take-all n w (omega arith)
+
+-- ---- what a change leaves as it was
+pub only-none : (b n : ℕ) (w : List Float) → Only b n w w
+only-none b n w = record { len = refl; kept = λ j o. refl }
+
+pub only-trans : {b n : ℕ} {u v w : List Float} → Only b n u v → Only b n v w → Only b n u w
+only-trans p q = record { len = q .len ∙ p .len; kept = λ j o. q .kept j o ∙ p .kept j o }
+
+-- a change within the n places from b on is one within any range that holds them
+pub only-wide : (b n c m : ℕ) {v w : List Float} → c ≤ b → b + n ≤ c + m → Only b n v w → Only c m v w
+only-wide b n c m l h p =
+    record { len = p .len; kept = λ j o. p .kept j (⊎-elim (λ a. inl (omega arith)) (λ a. inr (omega arith)) o) }
+
+-- a row apart from the change is as it was
+pub only-row : (c m b n : ℕ) {v w : List Float} → Apart c m b n → c + m ≤ length v → Only b n v w → row c m w ≡ row c m v
+only-row c m b n {v} {w} a h p =
+    ext-getD nan (row c m w) (row c m v) (row-length c m w hw ∙ sym (row-length c m v h))
+    (λ i l.
+    let l' : i < m = omega (arith, row-length c m w hw) in
+    row-at c m w hw i l' ∙ p .kept (c + i) (⊎-elim (λ x. inl (omega arith)) (λ x. inr (omega arith)) a) ∙ sym (row-at c m v h i l'))
+  where
+    hw : c + m ≤ length w
+    hw = omega (arith, p .len)
+
+-- what lies past the change is as it was
+pub only-drop : (m b n : ℕ) {v w : List Float} → b + n ≤ m → Only b n v w → drop m w ≡ drop m v
+only-drop m b n {v} {w} h p =
+    ext-getD nan (drop m w) (drop m v) (simp length-drop (ap (λ (k : ℕ). k - m) (p .len)))
+    (λ i l. rw (getD-drop m w i nan, getD-drop m v i nan) (p .kept (m + i) (inr (omega arith))))
+
+-- a row that was written, and what it was written from, leave one list
+pub wrote-unique : (b n : ℕ) (f v w x : List Float) → b + n ≤ length v → Wrote b n f v w → Wrote b n f v x → w ≡ x
+wrote-unique b n f v w x h p q =
+    ext-getD nan w x (p .only .len ∙ sym (q .only .len))
+    (λ i l. ⊎-elim (λ a. outside i (inl a)) (λ a. ⊎-elim (λ c. inside i a c) (λ c. outside i (inr c)) (lt-or-ge i (b + n))) (lt-or-ge i b))
+  where
+    outside : (i : ℕ) → Out b n i → w ! i ≡ x ! i
+    outside i o = p .only .kept i o ∙ sym (q .only .kept i o)
+
+    entry : (y : List Float) → Wrote b n f v y → (k : ℕ) → k < n → y ! (b + k) ≡ f ! k
+    entry y r k l = sym (row-at b n y (omega (arith, r .only .len)) k l) ∙ ap (λ (z : List Float). z ! k) (r .row')
+
+    inside : (i : ℕ) → b ≤ i → i < b + n → w ! i ≡ x ! i
+    inside i a c =
+        let k : b + (i - b) ≡ i = omega arith in
+        let e : w ! (b + (i - b)) ≡ x ! (b + (i - b)) = entry w p (i - b) (omega arith) ∙ sym (entry x q (i - b) (omega arith)) in
+        rw k at e
+
+-- ---- a loop that fills a row: its invariant is `w ≡ fillAt b i f v`
+-- it changes no place but those of the row
+pub fillat-only : (b n i : ℕ) (f : ℕ → Float) (v : List Float) → i ≤ n → Only b n v (fillAt b i f v)
+fillat-only b n i f v l =
+    record {
+      len = length-fillat b i f v;
+      kept = λ j o. ⊎-elim (λ a. fillat-below b i f v j a) (λ a. fillat-above b i f v j (omega arith)) o;
+    }
+
+-- what it leaves when its test fails: the row that was written, and nothing else
+pub fillat-wrote : (b n i : ℕ) (f : ℕ → Float) (v w : List Float) → w ≡ fillAt b i f v → i ≤ n → n ≤ i → b + n ≤ length v → Wrote b n (build f n) v w
+fillat-wrote b n i f v w e l m h =
+    rw (fillat-end b f v i n w e l m)
+    (record {
+      row' = row-build b n (fillAt b n f v) (omega (arith, length-fillat b n f v)) f (λ k g. fillat-in b n f v h k g);
+      only = fillat-only b n n f v (omega arith);
+    })
+
+-- a read of a row apart from it gives the entry that was there
+pub fillat-read : (c m b n i j : ℕ) (f : ℕ → Float) (v w : List Float) → Apart c m b n → i ≤ n → j < m → w ≡ fillAt b i f v → w ! (c + j) ≡ v ! (c + j)
+fillat-read c m b n i j f v w a l k e =
+    rw e (⊎-elim (λ (x : c + m ≤ b). fillat-below b i f v (c + j) (omega arith)) (λ (x : b + n ≤ c). fillat-above b i f v (c + j) (omega arith)) a)
+
+-- ---- a part `&mut xs[a..e]` that was lent and comes back as ys
+put-below : (a k : ℕ) (xs ys : List Float) (i : ℕ) → a ≤ length xs → i < a → putMid a k xs ys ! i ≡ xs ! i
+put-below a k xs ys i h l =
+    List·getD-append (take a xs) (ys ++ drop k (drop a xs)) nan i (rw (length-take-le a xs h) l) ∙ getD-take a xs i nan l
+
+put-above : (a k : ℕ) (xs ys : List Float) (i : ℕ) → a + k ≤ length xs → length ys ≡ k → a + k ≤ i → putMid a k xs ys ! i ≡ xs ! i
+put-above a k xs ys i h e l =
+    let d : a + (k + (i - (a + k))) ≡ i = omega arith in
+    let there : putMid a k xs ys ! (a + (k + (i - (a + k)))) ≡ xs ! (a + (k + (i - (a + k)))) =
+    ap (λ (n : ℕ). putMid a k xs ys ! (n + (k + (i - (a + k))))) (sym (length-take-le a xs (omega arith)))
+    ∙ getD-append-add (take a xs) (ys ++ drop k (drop a xs)) (k + (i - (a + k))) nan
+    ∙ ap (λ (n : ℕ). (ys ++ drop k (drop a xs)) ! (n + (i - (a + k)))) (sym e)
+    ∙ getD-append-add ys (drop k (drop a xs)) (i - (a + k)) nan
+    ∙ getD-drop k (drop a xs) (i - (a + k)) nan
+    ∙ getD-drop a xs (k + (i - (a + k))) nan in
+    rw d at there
+
+put-row : (a k : ℕ) (xs ys : List Float) → a ≤ length xs → length ys ≡ k → row a k (putMid a k xs ys) ≡ ys
+unfolding row
+put-row a k xs ys h e = rw (drop-at (take a xs) (ys ++ drop k (drop a xs)) a (length-take-le a xs h)) (take-at ys (drop k (drop a xs)) k e)
+
+-- the row there is what was made of the part, and nothing else has changed
+pub part-wrote : (a k e : ℕ) (xs ys : List Float) → e ≡ a + k → e ≤ length xs → length ys ≡ k → Wrote a k ys xs (putMid a (e - a) xs ys)
+part-wrote a k e xs ys q h l =
+    let d : e - a ≡ k = omega arith in
+    let m : length (midOf a (e - a) xs) ≡ e - a = mid-len a e xs h in
+    rw d
+    (record {
+      row' = put-row a k xs ys (omega arith) l;
+      only = record {
+        len = same-len-mid a k xs ys (l ∙ sym (rw d at m));
+        kept = λ i o. ⊎-elim (λ b. put-below a k xs ys i (omega arith) b) (λ b. put-above a k xs ys i (omega arith) l b) o;
+      };
+    })
