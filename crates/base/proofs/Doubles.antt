@@ -1,15 +1,15 @@
 -- Laws of single doubles: NaN, order, signs and bit patterns. Assumes nothing.
-use mathlib.Core.Path.{_≡_, refl, sym, ap, subst, _∙_}
-use mathlib.Core.Bool.{Bool, true, false, not, cond, _&&_, _||_, Bool·beq, true≢false}
+use mathlib.Core.Path.{_≡_, refl, sym, ap, _∙_}
+use mathlib.Core.Bool.{Bool, true, false, cond, _||_, true≢false}
 use mathlib.Core.Logic.{⊎-elim}
 use Prim.Native.Nat.{ℕ, zero, suc, _+_, _*_, _/_, _%_, _<_, _≤_}
 use native.Mathlib.Nat.{eq-or-lt-of-le}
 use native.Mathlib.Omega.{arith}
-use borrow.Author.Tests.{lt-ltb, le-ltb, eq-eqb, ltb-true, ltb-false}
+use borrow.Author.Tests.{lt-ltb, le-ltb, eq-eqb, ltb-false}
 use lib.Dec.{T, leb, ltb, eqb}
-use lib.Ieee.{Float, nan, inf, fin, up, down, below, level, binary64, div, ofBits, toBits, ofFields, odd, nanBits, isNan, fits, neg, lt, eq, le, ne, top, hid, ones, prec, low}
+use lib.Ieee.{Float, nan, inf, fin, up, down, below, level, binary64, div, ofBits, toBits, ofFields, odd, nanBits, isNan, fits, neg, lt, eq, le, ne, top, hid}
 use lib.Ieee.Bits.{nanBits-is, nanBits-above, ofBits-toBits}
-use Rattle.base.specs.Number.{bits, zeroF, finite, negative, absF, maxF, clampF}
+use Rattle.base.specs.Number.{bits, zeroF, finite, negative, absF}
 
 -- ---- tests
 pub ff : false ≡ true → ⊥
@@ -77,11 +77,6 @@ at-most (inf false) (fin t n d) p q h = refl
 at-most (fin s m e) (inf true) p q h = refl
 at-most (fin s m e) (inf false) p q h = absurd (ff (sym h))
 at-most (fin s m e) (fin t n d) p q h = turned s (m * up e * down d) t (n * up d * down e) h
-
--- what is below is at most
-pub below-at-most : (x y : Float) → lt x y ≡ true → le x y ≡ true
-unfolding le
-below-at-most x y h = rw h refl
 
 -- a number is at most itself
 pub at-most-self : (x : Float) → isNan x ≡ false → le x x ≡ true

@@ -1,3 +1,4 @@
+-- The laws that the proofs of every crate cite. Assumes nothing.
 pub mod Doubles
 pub mod Sums
 pub mod Fills
@@ -5,3 +6,5 @@ pub mod Rows
 pub mod InPlace
 pub mod SparseRows
 pub mod Loops
+pub mod NumberFacts
+pub mod Unique

@@ -1,18 +1,18 @@
 -- Laws of rows of a work slice: what a row holds, what a change leaves as it was, and parts that were lent. Assumes nothing.
 use mathlib.Core.Path.{_≡_, refl, sym, ap, _∙_}
 use mathlib.Core.List.{List, _++_}
-use mathlib.Core.Logic.{_⊎_, inl, inr, ⊎-elim}
-use Prim.Native.Nat.{ℕ, zero, suc, _+_, _-_, _≤_, _<_}
+use mathlib.Core.Logic.{inl, inr, ⊎-elim}
+use Prim.Native.Nat.{ℕ, _+_, _-_, _≤_, _<_}
 use native.Mathlib.Omega.{arith}
 use borrow.Rule.Slice.PartMut.{putMid, midOf, same-len-mid, mid-len}
-use lib.ListN.{length, take, drop, getD, length-take, length-drop, List·getD-append}
+use lib.ListN.{length, take, drop, length-take, length-drop, List·getD-append}
 use lib.Seq.{take-all, getD-take, getD-drop, getD-append-add, length-take-le, take-at, drop-at, ext-getD}
 use lib.Ieee.{Float, nan}
 use Rattle.base.specs.Sum.{_!_}
-use Rattle.base.specs.List.{build, fillAt, fillTo}
+use Rattle.base.specs.List.{build, fillAt}
 use Rattle.base.specs.Rows.{row, Out, Apart, Only, Wrote}
 use Rattle.base.proofs.Sums.{lt-or-ge}
-use Rattle.base.proofs.Fills.{build-is, build-length, build-at, length-fillat, fillat-end, fillat-in, fillat-below, fillat-above}
+use Rattle.base.proofs.Fills.{build-is, length-fillat, fillat-end, fillat-in, fillat-below, fillat-above}
 
 -- ---- a row's entries
 module _ (b n : ℕ) (w : List Float) (fits : b + n ≤ length w) where

@@ -1,18 +1,17 @@
 -- Laws of sparse rows: the tests and the facts of number 6, and sums over what rows store. Assumes nothing.
 use mathlib.Core.Path.{_≡_, refl, sym, ap, _∙_}
 use mathlib.Core.List.{List}
-use mathlib.Core.Logic.{⊎-elim, _⊎_, inl, inr}
-use mathlib.Core.Bool.{Bool, true, false, _&&_, _||_, cond}
+use mathlib.Core.Logic.{⊎-elim}
+use mathlib.Core.Bool.{Bool, true, false, _&&_, _||_}
 use Prim.Native.Nat.{ℕ, zero, suc, _+_, _-_, _<_, _≤_}
 use native.Mathlib.Nat.{add-zero, le-refl, not-suc-le-zero, eq-or-lt-of-le}
 use native.Mathlib.Omega.{arith}
-use borrow.Author.Tests.{eq-eqb, ne-eqb, eqb-true, leb-true, ltb-true, le-leb, lt-ltb}
-use lib.Dec.{leb, ltb, eqb}
+use borrow.Author.Tests.{eq-eqb, ne-eqb, eqb-true, leb-true, ltb-true}
+use lib.Dec.{ltb, eqb}
 use lib.ListN.{length}
 use lib.Ieee.{Float}
-use Rattle.base.specs.Number.{_⊕_, zeroF}
-use Rattle.base.specs.Sum.{_!_, _!!_, sumTo, sumFrom, sumWhere, allTo, anyTo}
-use Rattle.base.specs.Sparse.{notFalling, goodStarts, columnFits, goodColumns, goodRow, goodRows, Rising, Rows, storedIn, findTo, placeIn, Sparse, stored, valueAt, rowSum, bothSum}
+use Rattle.base.specs.Sum.{_!_, _!!_, sumFrom, sumWhere, allTo}
+use Rattle.base.specs.Sparse.{notFalling, goodStarts, columnFits, goodColumns, goodRow, goodRows, Rising, Rows, storedIn, findTo, placeIn, Sparse, stored, valueAt, rowSum}
 use Rattle.base.proofs.Sums.{lt-or-ge, last-or-before, from-none, from-step, where-none, where-take, where-gap, all-at, any-at, any-none, and-true}
 
 -- the last number that passes the test is found

@@ -1,6 +1,6 @@
 -- `base::pattern` meets its contract: the definition gives a NaN the one pattern that the test returns.
-use mathlib.Core.Path.{_≡_, refl, sym, ap, _∙_}
-use lib.Ieee.{isNan, toBits, binary64}
+use mathlib.Core.Path.{refl, sym, ap, _∙_}
+use lib.Ieee.{toBits, binary64}
 use borrow.Author.Needs.{needs}
 use Rattle.base.proofs.Doubles.{is-nan}
 use Rattle.base.proofs.number.pattern.Statement.{statement}

@@ -6,7 +6,7 @@ use native.Mathlib.Omega.{arith}
 use borrow.Author.Tests.{not-true, not-false}
 use Rattle.base.specs.Sum.{allTo}
 use Rattle.base.specs.Sparse.{columnFits, goodColumns}
-use Rattle.base.proofs.Sums.{all-fails, all-step, all-end}
+use Rattle.base.proofs.Sums.{all-fails, all-step}
 use Rattle.base.proofs.Loops.{loops}
 use borrow.Author.Needs.{needs}
 use Rattle.base.proofs.sparse.columns_ok.Statement.{statement}

@@ -1,5 +1,5 @@
 -- `base::starts_ok` meets its contract: the two ends are tested first, then before row a no earlier row fell.
-use mathlib.Core.Path.{_≡_, sym, _∙_}
+use mathlib.Core.Path.{_≡_}
 use mathlib.Core.Bool.{true}
 use Prim.Native.Nat.{_≤_, _-_}
 use native.Mathlib.Omega.{arith}

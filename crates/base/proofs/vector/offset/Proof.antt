@@ -2,8 +2,6 @@
 use mathlib.Core.Path.{refl}
 use native.Mathlib.Omega.{arith}
 use Rattle.base.proofs.Fills.{row-fits}
-use Rattle.base.proofs.Loops.{loops}
-use borrow.Author.Needs.{needs}
 use Rattle.base.proofs.vector.offset.Statement.{statement}
 use Rattle.base.proofs.vector.offset.Tie as tie
 

@@ -1,0 +1,139 @@
+// Runs the functions of `base` on special values and prints every bit, one line a call.
+ghost use Prim.Native.Nat.{_<_};
+
+// NaN, the infinities, zeros, subnormals, the smallest normal, E, 1 - E, 1, 2, pi and MAX, of both signs.
+const SPECIAL: [u64; 24] = [
+    0x7ff8_0000_0000_0000,
+    0x7ff0_0000_0000_0000,
+    0xfff0_0000_0000_0000,
+    0x0000_0000_0000_0000,
+    0x8000_0000_0000_0000,
+    0x0000_0000_0000_0001,
+    0x8000_0000_0000_0001,
+    0x000f_ffff_ffff_ffff,
+    0x800f_ffff_ffff_ffff,
+    0x0010_0000_0000_0000,
+    0x8010_0000_0000_0000,
+    0x3cb0_0000_0000_0000,
+    0xbcb0_0000_0000_0000,
+    0x3fef_ffff_ffff_fffe,
+    0x3ff0_0000_0000_0000,
+    0xbff0_0000_0000_0000,
+    0x4000_0000_0000_0000,
+    0xc000_0000_0000_0000,
+    0x4009_21fb_5444_2d18,
+    0xc009_21fb_5444_2d18,
+    0x7fef_ffff_ffff_ffff,
+    0xffef_ffff_ffff_ffff,
+    0x7ff0_0000_0000_0001,
+    0xffff_ffff_ffff_ffff,
+];
+
+fn special(i: usize) -> f64
+    requires { ⌜ i < 24 ⌝ }
+{
+    base::double(SPECIAL[i])
+}
+
+// The tests and the sign of one number, and what the clamps leave of it.
+fn one(x: f64) {
+    text::put_word(b"one");
+    text::put_double(x);
+    text::put_test(base::is_nan(x));
+    text::put_test(base::is_finite(x));
+    text::put_test(base::is_sign_negative(x));
+    text::put_double(base::abs(x));
+    text::put_double(base::clamp(base::EPSILON, 1.0 - base::EPSILON, x));
+    text::put_double(base::clamp(-1.0, base::infinity(), x));
+    text::end_line();
+}
+
+fn two(a: f64, b: f64) {
+    text::put_word(b"max");
+    text::put_double(a);
+    text::put_double(b);
+    text::put_double(base::max(a, b));
+    text::end_line();
+}
+
+fn with_each(a: f64) {
+    let mut i = 0;
+    while i < 24 {
+        two(a, special(i));
+        i += 1;
+    }
+}
+
+fn numbers() {
+    let mut i = 0;
+    while i < 24 {
+        let x = special(i);
+        one(x);
+        with_each(x);
+        i += 1;
+    }
+}
+
+// Sums whose last bits depend on their order, and on where they begin.
+fn sums() {
+    let a = [1.0, 1e16, -1e16, 0.1, 0.7, -0.0];
+    let b = [3.0, 1.0, 1.0, 0.3, -0.9, 5.0];
+    text::put_word(b"dot");
+    text::put_double(base::dot(&a, &b, 0));
+    text::put_double(base::dot(&a, &b, 3));
+    text::put_double(base::dot(&a, &b, 5));
+    text::put_double(base::dot(&a, &b, 6));
+    text::put_double(base::dot_from(&a, 5, &b, 1));
+    text::put_double(base::dot_from(&a, 1, &b, 4));
+    text::end_line();
+}
+
+// What is written, and that the rest stays.
+fn fills() {
+    let a = [1.5, -0.0, 0.0 / 0.0, 4.0];
+    let mut out = [9.0, 8.0, 7.0, 6.0];
+    base::copy(&a, &mut out, 3);
+    text::put_word(b"copy");
+    text::put_double(out[0]);
+    text::put_double(out[1]);
+    text::put_double(out[2]);
+    text::put_double(out[3]);
+    text::end_line();
+    base::wipe(&mut out, 2);
+    text::put_word(b"wipe");
+    text::put_double(out[0]);
+    text::put_double(out[1]);
+    text::put_double(out[2]);
+    text::put_double(out[3]);
+    text::end_line();
+    text::put_word(b"finite");
+    text::put_test(base::all_finite(&a, 2));
+    text::put_test(base::all_finite(&a, 3));
+    text::put_test(base::all_finite(&a, 0));
+    text::end_line();
+}
+
+// Number 6: a good matrix, then one fault at a time.
+fn rows() {
+    let starts = [0, 2, 2, 5];
+    let columns = [1, 3, 0, 2, 3];
+    text::put_word(b"rows");
+    text::put_test(base::rows_ok(&starts, &columns, 3, 4));
+    text::put_test(base::rows_ok(&starts, &columns, 3, 3));
+    text::put_test(base::rows_ok(&starts, &columns, 2, 4));
+    text::put_test(base::rows_ok(&[1, 2, 2, 5], &columns, 3, 4));
+    text::put_test(base::rows_ok(&[0, 3, 2, 5], &columns, 3, 4));
+    text::put_test(base::rows_ok(&[0, 2, 2, 4], &columns, 3, 4));
+    text::put_test(base::rows_ok(&starts, &[3, 1, 0, 2, 3], 3, 4));
+    text::put_test(base::rows_ok(&starts, &[1, 3, 0, 2, 2], 3, 4));
+    text::put_test(base::rows_ok(&[0], &columns, 0, 4));
+    text::put_test(base::rows_ok(&[0, 5], &[0, 2, 4, 6, 8], 1, 9));
+    text::end_line();
+}
+
+fn main() {
+    numbers();
+    sums();
+    fills();
+    rows();
+}

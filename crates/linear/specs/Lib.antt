@@ -1,0 +1,2 @@
+-- The linear algebra of the fit, by entries. Assumes nothing.
+pub mod Product

@@ -1,0 +1,2 @@
+-- What the programs' text is made of. Assumes nothing.
+pub mod Hex
