@@ -2,7 +2,8 @@
 """usage: genproof.py CRATE FN --unfolding NAMES [--tested CALL]... [--use LINE]... [--force]
 Writes the Proof.antt of a function made of tests, calls and early returns whose contract is `r ≡ f ..`, f a chain of `cond` in the code's order.
 Each return is `rw` with the ensures of the calls on its way, last call first, and then its tests, the outermost first. A test on integers
-goes through borrow.Author.Tests. Every other need gets `search needs` (`from_bits` needs: under `unfolding nanBits`).
+goes through borrow.Author.Tests, and an arm of a `match` on an enum by its case. Every other need gets `search needs` (`from_bits` needs: under `unfolding nanBits`).
+  --why TEXT         the comment line that opens the file
   --unfolding NAMES  the definitions that the returns open
   --tested CALL      CALL's result is what the next test looks at: its equation is used backwards, just before that test
   genproof.py elemfn expm1/exp_m1 --unfolding expm1Of --tested magnitude --use 'use Rattle.elemfn.specs.Expm1.{expm1Of}'"""
@@ -14,6 +15,7 @@ a = argparse.ArgumentParser(usage=__doc__)
 a.add_argument("crate")
 a.add_argument("fn")
 a.add_argument("--unfolding", required=True)
+a.add_argument("--why")
 a.add_argument("--tested", action="append", default=[])
 a.add_argument("--use", action="append", default=[])
 a.add_argument("--force", action="store_true")
@@ -62,7 +64,9 @@ def equations(place):
     for k, _, fields in chain(recs, place):
         c = "c" + " .before" * k
         for f, ty in fields:
-            if re.fullmatch(r"if\d+", f):
+            if re.fullmatch(r"enum-told\d*", f):
+                tests.insert(0, f"{c} .{f} .given .1")
+            elif re.fullmatch(r"if\d+", f):
                 tests.insert(0, test(f"{c} .{f}", ty.split()[0]))
             elif ty.split()[0] == f"After-{f}·own":
                 if f in a.tested:
@@ -83,7 +87,7 @@ def fill(m):
 
 
 t = re.sub(r"(?m)^((\S+) c(?: κs)?) = \?$", fill, t)
-heads = list(a.use)
+heads = (["-- " + a.why] if a.why else []) + list(a.use)
 if "search needs" in t:
     heads.append("use borrow.Author.Needs.{needs}")
 if lemmas:
@@ -92,4 +96,5 @@ if "nanBits" in t:
     heads.append("use lib.Ieee.{nanBits}")
 if "= refl" in t:
     heads.append("use mathlib.Core.Path.{refl}")
+t = "\n".join(l for l in t.splitlines() if l not in heads)
 write(a.crate, a.fn, "\n".join(heads + [t]))

@@ -5,11 +5,11 @@ use mathlib.Core.Logic.{⊎-elim}
 use Prim.Native.Nat.{ℕ, zero, suc, _+_, _*_, _/_, _%_, _<_, _≤_}
 use native.Mathlib.Nat.{eq-or-lt-of-le}
 use native.Mathlib.Omega.{arith}
-use borrow.Author.Tests.{lt-ltb, le-ltb, eq-eqb, ltb-false}
+use borrow.Author.Tests.{lt-ltb, le-ltb, eq-eqb, ltb-true, ltb-false}
 use lib.Dec.{T, leb, ltb, eqb}
-use lib.Ieee.{Float, nan, inf, fin, up, down, below, level, binary64, div, ofBits, toBits, ofFields, odd, nanBits, isNan, fits, neg, lt, eq, le, ne, top, hid}
+use lib.Ieee.{Float, nan, inf, fin, up, down, below, level, binary64, add, div, ofBits, toBits, ofFields, odd, nanBits, isNan, fits, neg, lt, eq, le, ne, top, hid}
 use lib.Ieee.Bits.{nanBits-is, nanBits-above, ofBits-toBits}
-use Rattle.base.specs.Number.{bits, zeroF, finite, negative, absF}
+use Rattle.base.specs.Number.{_⊕_, bits, zeroF, finite, negative, absF}
 
 -- ---- tests
 pub ff : false ≡ true → ⊥
@@ -35,6 +35,17 @@ unfolding isNan
 is-nan nan e = refl
 is-nan (inf s) e = absurd (ff e)
 is-nan (fin s m d) e = absurd (ff e)
+
+-- a sum with a NaN is one
+pub nan-plus : (y : Float) → nan ⊕ y ≡ nan
+unfolding add
+nan-plus y = refl
+
+pub plus-nan : (x : Float) → x ⊕ nan ≡ nan
+unfolding add
+plus-nan nan = refl
+plus-nan (inf s) = refl
+plus-nan (fin s m e) = refl
 
 -- ---- order: of two numbers that are no NaN, one is at most the other
 low-or : (a b : ℕ) (l : Bool) → a ≤ b → (a ≡ b → l ≡ true) → ltb a b || l ≡ true
@@ -77,6 +88,27 @@ at-most (inf false) (fin t n d) p q h = refl
 at-most (fin s m e) (inf true) p q h = refl
 at-most (fin s m e) (inf false) p q h = absurd (ff (sym h))
 at-most (fin s m e) (fin t n d) p q h = turned s (m * up e * down d) t (n * up d * down e) h
+
+-- what is below a number is not above it
+pub not-both : (x y : Float) → lt x y ≡ true → lt y x ≡ false
+unfolding lt
+not-both nan y h = absurd (ff h)
+not-both (inf s) nan h = absurd (ff h)
+not-both (fin s m e) nan h = absurd (ff h)
+not-both (inf true) (inf true) h = refl
+not-both (inf true) (inf false) h = refl
+not-both (inf false) (inf t) h = absurd (ff h)
+not-both (inf true) (fin t n d) h = refl
+not-both (inf false) (fin t n d) h = absurd (ff h)
+not-both (fin s m e) (inf true) h = absurd (ff h)
+not-both (fin s m e) (inf false) h = refl
+not-both (fin s m e) (fin t n d) h = apart s (m * up e * down d) t (n * up d * down e) h
+  where
+    apart : (s : Bool) (a : ℕ) (t : Bool) (b : ℕ) → below s a t b ≡ true → below t b s a ≡ false
+    apart false a false b h = le-ltb b a (omega (arith, ltb-true a b h))
+    apart false a true b h = absurd (ff h)
+    apart true a false b h = refl
+    apart true a true b h = le-ltb a b (omega (arith, ltb-true b a h))
 
 -- a number is at most itself
 pub at-most-self : (x : Float) → isNan x ≡ false → le x x ≡ true

@@ -1,0 +1,19 @@
+-- `logtable::entry` meets its contract: the array and the list are the same, entry after entry.
+use mathlib.Core.Path.{refl}
+use borrow.Author.Needs.{needs}
+use Rattle.elementary.specs.LogTable.{logTable}
+use Rattle.elementary.proofs.logtable.entry.Statement.{statement}
+use Rattle.elementary.proofs.logtable.entry.Tie as tie
+
+mul-result : tie.Need-mul-result
+mul-result c = search needs
+
+array-read-result : tie.Need-array-read-result
+array-read-result c = search needs
+
+returns : tie.Need-returns
+unfolding logTable
+returns c = refl
+
+pub entry-spec : {M : Type 1} → statement M
+entry-spec = tie.close (tie.spec mul-result array-read-result returns)

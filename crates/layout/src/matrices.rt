@@ -1,0 +1,134 @@
+// Where the pieces of the work slice `matrices` begin.
+use crate::products::product;
+use crate::products::square;
+ghost use mathlib.Core.Path.{_≡_};
+ghost use Prim.Native.Nat.{_≤_};
+ghost use Rattle.layout.specs.Products.{Small};
+ghost use Rattle.layout.specs.WorkMatrices.{systemAt, inverseAt, solvedAt, rootInverseAt, rightAt, wyAt, uAt, bAt, trialUAt, trialBAt, pointAt, columnAt, betaAt, logWeightsAt, matricesLength};
+
+// S, q²: Z'WZ, then A over it.
+pub fn system_at() -> usize
+    ensures { λ r. ⌜ r ≡ systemAt ⌝ }
+{
+    0
+}
+
+// I, q²: the inverse of a block or of A, then its Cholesky factor.
+pub fn inverse_at(q: usize) -> usize
+    requires { ⌜ q ≤ 32 ⌝ }
+    ensures { λ r. ⌜ r ≡ inverseAt q ⌝ }
+{
+    square(q)
+}
+
+// W, qp: the solved columns.
+pub fn solved_at(q: usize) -> usize
+    requires { ⌜ q ≤ 32 ⌝ }
+    ensures { λ r. ⌜ r ≡ solvedAt q ⌝ }
+{
+    2 * square(q)
+}
+
+// P, p²: the inverse of the normal matrix's Cholesky factor.
+pub fn root_inverse_at(p: usize, q: usize) -> usize
+    requires { ⌜ (p ≤ 16) × (q ≤ 32) ⌝ }
+    ensures { λ r. ⌜ r ≡ rootInverseAt p q ⌝ }
+{
+    2 * square(q) + product(q, p)
+}
+
+// Where the vectors begin, after the four matrices.
+fn vectors_at(p: usize, q: usize) -> usize
+    requires { ⌜ (p ≤ 16) × (q ≤ 32) ⌝ }
+    ensures { λ r. ⌜ Small (rightAt p q) 3584 r ⌝ }
+{
+    2 * square(q) + product(q, p) + square(p)
+}
+
+// The right side Λ'(Z'(w·(z - offset))), the first of eight vectors of q numbers.
+pub fn right_at(p: usize, q: usize) -> usize
+    requires { ⌜ (p ≤ 16) × (q ≤ 32) ⌝ }
+    ensures { λ r. ⌜ r ≡ rightAt p q ⌝ }
+{
+    vectors_at(p, q)
+}
+
+// wy, the right side solved with A's factor.
+pub fn wy_at(p: usize, q: usize) -> usize
+    requires { ⌜ (p ≤ 16) × (q ≤ 32) ⌝ }
+    ensures { λ r. ⌜ r ≡ wyAt p q ⌝ }
+{
+    vectors_at(p, q) + q
+}
+
+// u.
+pub fn u_at(p: usize, q: usize) -> usize
+    requires { ⌜ (p ≤ 16) × (q ≤ 32) ⌝ }
+    ensures { λ r. ⌜ r ≡ uAt p q ⌝ }
+{
+    vectors_at(p, q) + 2 * q
+}
+
+// b.
+pub fn b_at(p: usize, q: usize) -> usize
+    requires { ⌜ (p ≤ 16) × (q ≤ 32) ⌝ }
+    ensures { λ r. ⌜ r ≡ bAt p q ⌝ }
+{
+    vectors_at(p, q) + 3 * q
+}
+
+// The trial u.
+pub fn trial_u_at(p: usize, q: usize) -> usize
+    requires { ⌜ (p ≤ 16) × (q ≤ 32) ⌝ }
+    ensures { λ r. ⌜ r ≡ trialUAt p q ⌝ }
+{
+    vectors_at(p, q) + 4 * q
+}
+
+// The trial b.
+pub fn trial_b_at(p: usize, q: usize) -> usize
+    requires { ⌜ (p ≤ 16) × (q ≤ 32) ⌝ }
+    ensures { λ r. ⌜ r ≡ trialBAt p q ⌝ }
+{
+    vectors_at(p, q) + 5 * q
+}
+
+// z of a quadrature point.
+pub fn point_at(p: usize, q: usize) -> usize
+    requires { ⌜ (p ≤ 16) × (q ≤ 32) ⌝ }
+    ensures { λ r. ⌜ r ≡ pointAt p q ⌝ }
+{
+    vectors_at(p, q) + 6 * q
+}
+
+// One column of q numbers.
+pub fn column_at(p: usize, q: usize) -> usize
+    requires { ⌜ (p ≤ 16) × (q ≤ 32) ⌝ }
+    ensures { λ r. ⌜ r ≡ columnAt p q ⌝ }
+{
+    vectors_at(p, q) + 7 * q
+}
+
+// β, p numbers.
+pub fn beta_at(p: usize, q: usize) -> usize
+    requires { ⌜ (p ≤ 16) × (q ≤ 32) ⌝ }
+    ensures { λ r. ⌜ r ≡ betaAt p q ⌝ }
+{
+    vectors_at(p, q) + 8 * q
+}
+
+// The logarithms of a rule's weights, 11 numbers.
+pub fn log_weights_at(p: usize, q: usize) -> usize
+    requires { ⌜ (p ≤ 16) × (q ≤ 32) ⌝ }
+    ensures { λ r. ⌜ r ≡ logWeightsAt p q ⌝ }
+{
+    vectors_at(p, q) + 8 * q + p
+}
+
+// The named length of the slice.
+pub fn matrices_length(p: usize, q: usize) -> usize
+    requires { ⌜ (p ≤ 16) × (q ≤ 32) ⌝ }
+    ensures { λ r. ⌜ r ≡ matricesLength p q ⌝ }
+{
+    3 * square(q) + 4 * square(p) + 2 * product(q, p) + 12 * (q + p)
+}

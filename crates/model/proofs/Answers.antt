@@ -1,0 +1,46 @@
+-- An answer's number is 0 exactly for a fit, and every other answer is blank but for its number and account. Assumes nothing.
+use mathlib.Core.Path.{_≡_, refl}
+use mathlib.Core.Bool.{true}
+use Prim.Native.Nat.{ℕ, _≤_}
+use native.Mathlib.Omega.{arith}
+use Rattle.model.specs.Answer.{endNumber, refusalNumber, refusedAnswer, unfittedAnswer, fittedAnswer, Possible, refused, unfitted, fitted, isFitted, Blank}
+use Rattle.model.specs.declared.ends.Answer.{Answer}
+use Rattle.model.specs.declared.ends.End.{End}
+use Rattle.model.specs.declared.ends.End.the-variants.{SystemPivot, NormalPivot, NoStep, NoStop}
+use Rattle.model.specs.declared.ends.Refusal.{Refusal}
+use Rattle.model.specs.declared.ends.Refusal.the-variants.{OutOfRange, Lengths, Work, SparseRows, NotFinite, LinkForFamily, NotCarried}
+
+-- refusals are 1 to 7
+pub refusal-range : (r : Refusal) → (1 ≤ refusalNumber r) × (refusalNumber r ≤ 7)
+refusal-range OutOfRange = (omega arith, omega arith)
+refusal-range Lengths = (omega arith, omega arith)
+refusal-range Work = (omega arith, omega arith)
+refusal-range SparseRows = (omega arith, omega arith)
+refusal-range NotFinite = (omega arith, omega arith)
+refusal-range LinkForFamily = (omega arith, omega arith)
+refusal-range NotCarried = (omega arith, omega arith)
+
+-- ends without a result are 10 to 13
+pub end-range : (e : End) → (10 ≤ endNumber e) × (endNumber e ≤ 13)
+end-range SystemPivot = (omega arith, omega arith)
+end-range NormalPivot = (omega arith, omega arith)
+end-range NoStep = (omega arith, omega arith)
+end-range NoStop = (omega arith, omega arith)
+
+pub fitted-zero : {a : Answer} (g : Possible a) → isFitted g ≡ true → a .number ≡ 0
+unfolding refusedAnswer unfittedAnswer fittedAnswer
+fitted-zero (refused r) e = let z : _≡_ {A = ℕ} 0 1 = cc in omega arith
+fitted-zero (unfitted e a) h = let z : _≡_ {A = ℕ} 0 1 = cc in omega arith
+fitted-zero (fitted d phi order converged iterations a) e = refl
+
+pub zero-fitted : {a : Answer} (g : Possible a) → a .number ≡ 0 → isFitted g ≡ true
+unfolding refusedAnswer unfittedAnswer fittedAnswer
+zero-fitted (refused r) e = absurd (omega (arith, refusal-range r))
+zero-fitted (unfitted e a) h = absurd (omega (arith, end-range e))
+zero-fitted (fitted d phi order converged iterations a) e = refl
+
+pub blank-unless-zero : {a : Answer} → Possible a → (a .number ≡ 0 → ⊥) → Blank a
+unfolding refusedAnswer unfittedAnswer fittedAnswer
+blank-unless-zero (refused r) h = record { deviance = refl; phi = refl; order = refl; converged = refl; iterations = refl }
+blank-unless-zero (unfitted e a) h = record { deviance = refl; phi = refl; order = refl; converged = refl; iterations = refl }
+blank-unless-zero (fitted d phi order converged iterations a) h = absurd (h refl)

@@ -1,0 +1,11 @@
+pub mod Every
+pub mod Totals
+pub mod Codes
+pub mod Shapes
+pub mod Sized
+pub mod Accounts
+pub mod Caps
+pub mod Tallies
+pub mod Answers
+pub mod Unique
+pub mod Examples

@@ -1,0 +1,15 @@
+-- `model::Answer::unfitted` meets its contract: the number is the end's, all else is the definition.
+use borrow.Author.Needs.{needs}
+use Rattle.model.specs.Answer.{unfittedAnswer}
+use Rattle.model.proofs.ends.Answer.unfitted.Statement.{statement}
+use Rattle.model.proofs.ends.Answer.unfitted.Tie as tie
+
+end-number-requires : tie.Need-end-number-requires
+end-number-requires c κs = search needs
+
+returns : tie.Need-returns
+unfolding unfittedAnswer
+returns c = rw (c .end-number .ensures)
+
+pub unfitted-spec : {M : Type 1} → statement M
+unfitted-spec = tie.close (tie.spec end-number-requires returns)

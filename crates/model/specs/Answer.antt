@@ -1,0 +1,67 @@
+-- How a call can end, and the record that it answers. Document 01, "Numbers of an answer". Assumes nothing.
+use mathlib.Core.Path.{_≡_}
+use mathlib.Core.Bool.{Bool, true, false}
+use Prim.Native.Nat.{ℕ}
+use lib.Ieee.{Float}
+use Rattle.base.specs.Number.{zeroF}
+use Rattle.model.specs.Account.{noCounts}
+use Rattle.model.specs.declared.counts.Account.{Account}
+use Rattle.model.specs.declared.ends.Answer.{Answer}
+use Rattle.model.specs.declared.ends.End.{End}
+use Rattle.model.specs.declared.ends.End.the-variants.{SystemPivot, NormalPivot, NoStep, NoStop}
+use Rattle.model.specs.declared.ends.Refusal.{Refusal}
+use Rattle.model.specs.declared.ends.Refusal.the-variants.{OutOfRange, Lengths, Work, SparseRows, NotFinite, LinkForFamily, NotCarried}
+
+-- the number of each end without a result
+abbrev pub endNumber : End → ℕ
+endNumber SystemPivot = 10
+endNumber NormalPivot = 11
+endNumber NoStep = 12
+endNumber NoStop = 13
+
+-- the number of each refusal, in the table's order
+abbrev pub refusalNumber : Refusal → ℕ
+refusalNumber OutOfRange = 1
+refusalNumber Lengths = 2
+refusalNumber Work = 7
+refusalNumber SparseRows = 6
+refusalNumber NotFinite = 3
+refusalNumber LinkForFamily = 4
+refusalNumber NotCarried = 5
+
+-- "But for number 0 the record's deviance, phi, order, flag and iterations are 0"
+abbrev pub blankAnswer : ℕ → Account → Answer
+blankAnswer k a = record { number = k; deviance = zeroF; phi = zeroF; order = 0; converged = false; iterations = 0; account = a }
+
+-- refusals: "all counts are 0"
+unfoldable pub refusedAnswer : Refusal → Answer
+refusedAnswer r = blankAnswer (refusalNumber r) noCounts
+
+-- an accepted call without a result has its account
+unfoldable pub unfittedAnswer : End → Account → Answer
+unfittedAnswer e a = blankAnswer (endNumber e) a
+
+-- 0: fitted, with the deviance, phi, the order used, the dispersion flag and the last inner fit's iterations
+unfoldable pub fittedAnswer : Float → Float → ℕ → Bool → ℕ → Account → Answer
+fittedAnswer d phi order converged iterations a =
+    record { number = 0; deviance = d; phi = phi; order = order; converged = converged; iterations = iterations; account = a }
+
+-- the answers that a call can give
+pub data Possible : Answer → Type 0 where
+  refused : (r : Refusal) → Possible (refusedAnswer r)
+  unfitted : (e : End) (a : Account) → Possible (unfittedAnswer e a)
+  fitted : (d phi : Float) (order : ℕ) (converged : Bool) (iterations : ℕ) (a : Account) → Possible (fittedAnswer d phi order converged iterations a)
+
+-- a possible answer is one of a fit
+abbrev pub isFitted : {a : Answer} → Possible a → Bool
+isFitted (refused r) = false
+isFitted (unfitted e a) = false
+isFitted (fitted d phi order converged iterations a) = true
+
+-- deviance, phi, order, flag and iterations are 0
+pub record Blank (a : Answer) : Type 0 where
+  pub deviance : a .deviance ≡ zeroF
+  pub phi : a .phi ≡ zeroF
+  pub order : a .order ≡ 0
+  pub converged : a .converged ≡ false
+  pub iterations : a .iterations ≡ 0

@@ -1,0 +1,60 @@
+-- Codes of the families and links, and the limit of iterations. Document 01, "The job and the program" and "Sizes". Assumes nothing.
+use mathlib.Core.Bool.{Bool, true, false, cond}
+use mathlib.Core.List.{[], _∷_}
+use Prim.Native.Nat.{ℕ}
+use lib.ListN.{getD}
+use Rattle.model.specs.declared.names.Family.{Family}
+use Rattle.model.specs.declared.names.Family.the-variants.{Binomial, Poisson, Gaussian, Gamma}
+use Rattle.model.specs.declared.names.FamilyFound.{FamilyFound}
+use Rattle.model.specs.declared.names.FamilyFound.the-variants as familyFound
+use Rattle.model.specs.declared.names.Link.{Link}
+use Rattle.model.specs.declared.names.Link.the-variants.{Logit, Probit, Cloglog, Log, Identity, Inverse, Sqrt}
+use Rattle.model.specs.declared.names.LinkFound.{LinkFound}
+use Rattle.model.specs.declared.names.LinkFound.the-variants as linkFound
+use Rattle.model.specs.declared.names.Limit.{Limit}
+use Rattle.model.specs.declared.names.Limit.the-variants.{Given, NotGiven}
+
+-- "family 2 (binomial, Poisson, Gaussian, Gamma)": the code is the place in this list
+abbrev pub familyCode : Family → ℕ
+familyCode Binomial = 0
+familyCode Poisson = 1
+familyCode Gaussian = 2
+familyCode Gamma = 3
+
+-- the family with a code, none from 4 on
+unfoldable pub familyCoded : ℕ → FamilyFound
+familyCoded code =
+    getD (familyFound.Found Binomial ∷ familyFound.Found Poisson ∷ familyFound.Found Gaussian ∷ familyFound.Found Gamma ∷ []) code familyFound.NoSuch
+
+-- "link 3 (order of `Link`, 7 refused)": the code is the place in this list
+abbrev pub linkCode : Link → ℕ
+linkCode Logit = 0
+linkCode Probit = 1
+linkCode Cloglog = 2
+linkCode Log = 3
+linkCode Identity = 4
+linkCode Inverse = 5
+linkCode Sqrt = 6
+
+-- the link with a code, none from 7 on
+unfoldable pub linkCoded : ℕ → LinkFound
+linkCoded code =
+    getD
+    (linkFound.Found Logit ∷ linkFound.Found Probit ∷ linkFound.Found Cloglog ∷ linkFound.Found Log ∷ linkFound.Found Identity
+    ∷ linkFound.Found Inverse ∷ linkFound.Found Sqrt ∷ [])
+    code linkFound.NoSuch
+
+-- the link is `inverse`, which has a limit, a number of tries and a test of its own
+abbrev pub isInverse : Link → Bool
+isInverse Logit = false
+isInverse Probit = false
+isInverse Cloglog = false
+isInverse Log = false
+isInverse Identity = false
+isInverse Inverse = true
+isInverse Sqrt = false
+
+-- the limit L of a call; where it is not given "100, inverse link 1000"
+unfoldable pub limitOf : Limit → Link → ℕ
+limitOf (Given l) link = l
+limitOf NotGiven link = cond (isInverse link) 1000 100

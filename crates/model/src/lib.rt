@@ -1,0 +1,31 @@
+// What a call of the fit is made of, by value: names, sizes, account and answer.
+mod counts;
+mod ends;
+mod names;
+mod sizes;
+
+pub use counts::Account;
+pub use ends::Answer;
+pub use ends::End;
+pub use ends::Refusal;
+pub use ends::end_number;
+pub use ends::refusal_number;
+pub use names::Family;
+pub use names::FamilyFound;
+pub use names::Limit;
+pub use names::Link;
+pub use names::LinkFound;
+pub use names::family_code;
+pub use names::family_coded;
+pub use names::is_inverse;
+pub use names::limit_of;
+pub use names::link_code;
+pub use names::link_coded;
+pub use sizes::Settings;
+pub use sizes::Shape;
+pub use sizes::effects;
+pub use sizes::first_effect;
+pub use sizes::first_theta;
+pub use sizes::shape_ok;
+pub use sizes::sizes_ok;
+pub use sizes::theta_length;

@@ -1,0 +1,6 @@
+pub mod Powers
+pub mod Chosen
+pub mod RuleFacts
+pub mod OrderFacts
+pub mod Cases
+pub mod LogSums

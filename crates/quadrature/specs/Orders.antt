@@ -1,0 +1,83 @@
+-- Quadrature orders: by the wish, and by the cap on the points. Document 01, module 2 (`resolve_gh_order`, `_product`, `_joint`). Assumes nothing.
+use mathlib.Core.List.{List, [], _∷_}
+use mathlib.Core.Bool.{Bool, _||_, cond}
+use Prim.Native.Nat.{ℕ, _^_}
+use lib.Dec.{leb, ltb, eqb}
+use Rattle.quadrature.specs.declared.orders.Order.{Order}
+use Rattle.quadrature.specs.declared.orders.Order.the-variants.{Three, Five, Seven, Nine, Eleven}
+use Rattle.quadrature.specs.declared.orders.Decline.the-variants.{Wish, Effects, Cap}
+use Rattle.quadrature.specs.declared.orders.Choice.{Choice}
+use Rattle.quadrature.specs.declared.orders.Choice.the-variants.{Use, Without}
+use Rattle.quadrature.specs.declared.orders.Lower.{Lower}
+use Rattle.quadrature.specs.declared.orders.Lower.the-variants.{To, Nothing}
+use Rattle.quadrature.specs.declared.orders.Named.{Named}
+use Rattle.quadrature.specs.declared.orders.Named.the-variants.{Known, NoRule}
+
+-- how many nodes a rule has
+unfoldable pub sizeOf : Order → ℕ
+sizeOf Three = 3
+sizeOf Five = 5
+sizeOf Seven = 7
+sizeOf Nine = 9
+sizeOf Eleven = 11
+
+-- the order of a number of nodes; any other number has no rule
+unfoldable pub orderOf : ℕ → Named
+orderOf n =
+    cond (eqb n 3) (Known Three)
+    (cond (eqb n 5) (Known Five) (cond (eqb n 7) (Known Seven) (cond (eqb n 9) (Known Nine) (cond (eqb n 11) (Known Eleven) NoRule))))
+
+-- the first of 3, 5, 7, 9, 11 not below the wish, and 11 above
+unfoldable pub firstOrder : ℕ → Order
+firstOrder w = cond (leb w 3) Three (cond (leb w 5) Five (cond (leb w 7) Seven (cond (leb w 9) Nine Eleven)))
+
+-- `resolve_gh_order`: below 2 none
+unfoldable pub wished : ℕ → Choice
+wished w = cond (ltb w 2) (Without Wish) (Use (firstOrder w))
+
+-- size^dims is at most the cap
+unfoldable pub withinCap : ℕ → ℕ → ℕ → Bool
+withinCap size dims cap = leb (size ^ dims) cap
+
+-- the next order down, none below 3
+unfoldable pub lowerOf : Order → Lower
+lowerOf Three = Nothing
+lowerOf Five = To Three
+lowerOf Seven = To Five
+lowerOf Nine = To Seven
+lowerOf Eleven = To Nine
+
+-- an order and those below it
+unfoldable pub downFrom : Order → List Order
+downFrom Three = Three ∷ []
+downFrom Five = Five ∷ Three ∷ []
+downFrom Seven = Seven ∷ Five ∷ Three ∷ []
+downFrom Nine = Nine ∷ Seven ∷ Five ∷ Three ∷ []
+downFrom Eleven = Eleven ∷ Nine ∷ Seven ∷ Five ∷ Three ∷ []
+
+-- the first of the orders with order^dims at most the cap
+unfoldable pub firstWithin : ℕ → ℕ → List Order → Choice
+firstWithin cap dims [] = Without Cap
+firstWithin cap dims (o ∷ os) = cond (withinCap (sizeOf o) dims cap) (Use o) (firstWithin cap dims os)
+
+-- step down until order^dims is at most the cap, none below 3
+unfoldable pub cappedFrom : ℕ → ℕ → Order → Choice
+cappedFrom cap dims o = firstWithin cap dims (downFrom o)
+
+-- product: k = 1 keeps the order, else the cap is 400
+unfoldable pub productFrom : ℕ → Choice → Choice
+productFrom k (Without d) = Without d
+productFrom k (Use o) = cond (eqb k 1) (Use o) (cappedFrom 400 k o)
+
+-- `resolve_gh_order_product`
+unfoldable pub productOrder : ℕ → ℕ → Choice
+productOrder w k = productFrom k (wished w)
+
+-- joint: none for q = 0 or q above 8, else the cap is 7,000
+unfoldable pub jointFrom : ℕ → Choice → Choice
+jointFrom q (Without d) = Without d
+jointFrom q (Use o) = cond (eqb q 0 || ltb 8 q) (Without Effects) (cappedFrom 7000 q o)
+
+-- `resolve_gh_order_joint`
+unfoldable pub jointOrder : ℕ → ℕ → Choice
+jointOrder w q = jointFrom q (wished w)

@@ -1,0 +1,3 @@
+-- The square root: its definition, and what nearest means. Assumes nothing.
+pub mod Sqrt
+pub mod Near
