@@ -59,5 +59,6 @@ print("copy", *map(text, [1.5, -0.0, math.nan, 6.0]))
 print("wipe", *map(text, [0.0, 0.0, math.nan, 6.0]))
 print("finite 1 0 1")
 s, c = [0, 2, 2, 5], [1, 3, 0, 2, 3]
-print("rows", good(s, c, 3, 4), good(s, c, 3, 3), good(s, c, 2, 4), good([1, 2, 2, 5], c, 3, 4), good([0, 3, 2, 5], c, 3, 4), good([0, 2, 2, 4], c, 3, 4),
-      good(s, [3, 1, 0, 2, 3], 3, 4), good(s, [1, 3, 0, 2, 2], 3, 4), good([0], c, 0, 4), good([0, 5], [0, 2, 4, 6, 8], 1, 9))
+print("rows", good(s, c, 3, 4), good(s, c, 3, 3), good(s, c, 2, 4), good([0, 5], [0, 2, 4, 6, 8], 1, 9),
+      good([1, 2, 2, 5], c, 3, 4), good([0, 3, 2, 5], c, 3, 4), good([0, 2, 2, 4], c, 3, 4), good([0], c, 0, 4),
+      good(s, [3, 1, 0, 2, 3], 3, 4), good(s, [1, 3, 0, 2, 2], 3, 4))

@@ -88,24 +88,32 @@ fn sums() {
     text::end_line();
 }
 
-// What is written, and that the rest stays.
-fn fills() {
-    let a = [1.5, -0.0, 0.0 / 0.0, 4.0];
-    let mut out = [9.0, 8.0, 7.0, 6.0];
-    base::copy(&a, &mut out, 3);
-    text::put_word(b"copy");
-    text::put_double(out[0]);
-    text::put_double(out[1]);
-    text::put_double(out[2]);
-    text::put_double(out[3]);
+// Four numbers.
+fn put_row(a: &[f64; 4]) {
+    text::put_double(a[0]);
+    text::put_double(a[1]);
+    text::put_double(a[2]);
+    text::put_double(a[3]);
     text::end_line();
+}
+
+// What is written, and that the rest stays.
+fn copies() {
+    let mut out = [9.0, 8.0, 7.0, 6.0];
+    base::copy(&[1.5, -0.0, 0.0 / 0.0, 4.0], &mut out, 3);
+    text::put_word(b"copy");
+    put_row(&out);
+}
+
+fn wipes() {
+    let mut out = [9.0, 8.0, 0.0 / 0.0, 6.0];
     base::wipe(&mut out, 2);
     text::put_word(b"wipe");
-    text::put_double(out[0]);
-    text::put_double(out[1]);
-    text::put_double(out[2]);
-    text::put_double(out[3]);
-    text::end_line();
+    put_row(&out);
+}
+
+fn finites() {
+    let a = [1.5, -0.0, 0.0 / 0.0, 4.0];
     text::put_word(b"finite");
     text::put_test(base::all_finite(&a, 2));
     text::put_test(base::all_finite(&a, 3));
@@ -113,27 +121,41 @@ fn fills() {
     text::end_line();
 }
 
-// Number 6: a good matrix, then one fault at a time.
-fn rows() {
+// Number 6: three rows of columns 1 3, none, 0 2 3.
+fn good_rows() {
     let starts = [0, 2, 2, 5];
     let columns = [1, 3, 0, 2, 3];
     text::put_word(b"rows");
     text::put_test(base::rows_ok(&starts, &columns, 3, 4));
     text::put_test(base::rows_ok(&starts, &columns, 3, 3));
     text::put_test(base::rows_ok(&starts, &columns, 2, 4));
+    text::put_test(base::rows_ok(&[0, 5], &[0, 2, 4, 6, 8], 1, 9));
+}
+
+// A fault in the starts: another first, a fall, another last, too few.
+fn bad_starts() {
+    let columns = [1, 3, 0, 2, 3];
     text::put_test(base::rows_ok(&[1, 2, 2, 5], &columns, 3, 4));
     text::put_test(base::rows_ok(&[0, 3, 2, 5], &columns, 3, 4));
     text::put_test(base::rows_ok(&[0, 2, 2, 4], &columns, 3, 4));
+    text::put_test(base::rows_ok(&[0], &columns, 0, 4));
+}
+
+// A fault in the columns: one that falls, one that stays.
+fn bad_columns() {
+    let starts = [0, 2, 2, 5];
     text::put_test(base::rows_ok(&starts, &[3, 1, 0, 2, 3], 3, 4));
     text::put_test(base::rows_ok(&starts, &[1, 3, 0, 2, 2], 3, 4));
-    text::put_test(base::rows_ok(&[0], &columns, 0, 4));
-    text::put_test(base::rows_ok(&[0, 5], &[0, 2, 4, 6, 8], 1, 9));
     text::end_line();
 }
 
 fn main() {
     numbers();
     sums();
-    fills();
-    rows();
+    copies();
+    wipes();
+    finites();
+    good_rows();
+    bad_starts();
+    bad_columns();
 }

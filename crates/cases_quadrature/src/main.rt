@@ -95,34 +95,47 @@ fn log_sum(xs: &[f64]) {
     text::end_line();
 }
 
-// Ordinary lists, and those that document 01 names: empty, NaN and -infinity only, a +infinity, a NaN beside numbers.
-fn log_sums() {
-    let inf = base::infinity();
-    let nan = 0.0 / 0.0;
+// Ordinary lists, from none to six numbers.
+fn ordinary() {
     let some = [-1.5, 0.25, 3.0, 2.999, -700.0, 0.1];
-    log_sum(&some[0..0]);
-    log_sum(&some[0..1]);
-    log_sum(&some[0..2]);
-    log_sum(&some[0..3]);
-    log_sum(&some[0..4]);
-    log_sum(&some[0..5]);
-    log_sum(&some);
+    let mut n = 0;
+    while n < 7 {
+        log_sum(&some[0..n]);
+        n += 1;
+    }
+}
+
+// Far below zero, far above, and zeros.
+fn extreme() {
     log_sum(&[-1000.0, -1000.5, -1003.0]);
     log_sum(&[1e300, 1e300]);
     log_sum(&[-0.0]);
     log_sum(&[0.0, -0.0]);
+}
+
+// NaN and -infinity only, or a +infinity: -infinity.
+fn no_number(nan: f64, inf: f64) {
     log_sum(&[nan, -inf]);
     log_sum(&[nan]);
     log_sum(&[-inf, -inf]);
     log_sum(&[1.0, inf]);
     log_sum(&[inf, nan]);
+}
+
+// A NaN beside numbers: NaN; a -infinity beside them adds nothing.
+fn beside_numbers(nan: f64, inf: f64) {
     log_sum(&[1.0, nan, 2.0]);
     log_sum(&[nan, -3.0]);
     log_sum(&[-inf, -3.0, -inf]);
 }
 
 fn main() {
+    let nan = 0.0 / 0.0;
+    let inf = base::infinity();
     numbers();
     wishes();
-    log_sums();
+    ordinary();
+    extreme();
+    no_number(nan, inf);
+    beside_numbers(nan, inf);
 }

@@ -1,0 +1,28 @@
+/* Calls the proved elementary functions from C and prints each answer with its bits. */
+#include <inttypes.h>
+#include <stdio.h>
+#include <string.h>
+
+double glmm_sqrt(double x);
+double glmm_exp(double x);
+double glmm_ln(double x);
+double glmm_ln_1p(double x);
+double glmm_exp_m1(double x);
+
+static void put(const char *name, double x, double y)
+{
+    uint64_t bits;
+    memcpy(&bits, &y, sizeof bits);
+    printf("%-6s %-6g %.17g %016" PRIX64 "\n", name, x, y, bits);
+}
+
+int main(void)
+{
+    put("sqrt", 2.0, glmm_sqrt(2.0));
+    put("sqrt", -0.0, glmm_sqrt(-0.0));
+    put("exp", 1.0, glmm_exp(1.0));
+    put("ln", 10.0, glmm_ln(10.0));
+    put("ln_1p", 1e-9, glmm_ln_1p(1e-9));
+    put("exp_m1", 1e-9, glmm_exp_m1(1e-9));
+    return 0;
+}
