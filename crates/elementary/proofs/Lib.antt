@@ -1,3 +1,4 @@
+pub mod Arms
 pub mod Rounded
 pub mod ExpFacts
 pub mod LogFacts

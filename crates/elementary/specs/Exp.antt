@@ -5,8 +5,7 @@ use Prim.Native.Nat.{ℕ, _+_, _*_, _/_, _%_, _^_}
 use lib.Dec.{eqb}
 use lib.Ieee.{Float, inf, binary64, toBits, lt}
 use Rattle.base.specs.Number.{_⊕_, _⊖_, _⊗_, bits, zeroF, oneF, absF}
-use Rattle.base.specs.Sum.{_!!_}
-use Rattle.elementary.specs.ExpTable.{expTable}
+use Rattle.elementary.specs.ExpTable.{expRow}
 
 -- ---- constants
 -- N / ln 2
@@ -48,11 +47,11 @@ reduced x k = x ⊕ k ⊗ negLn2HiN ⊕ k ⊗ negLn2LoN
 
 -- the tail of 2^(k/N), at k mod N; ki is the pattern of 1.5 · 2^52 + k
 unfoldable pub tailOf : ℕ → Float
-tailOf ki = bits (expTable !! (2 * (ki % 128)))
+tailOf ki = bits (expRow (ki % 128) .tail)
 
 -- the pattern of the scale, the double nearest to 2^(k/N): k · 2^45 added to the entry, modulo 2^64
 unfoldable pub scaleBits : ℕ → ℕ
-scaleBits ki = (expTable !! (2 * (ki % 128) + 1) + ki % 0x8_0000 * 0x2000_0000_0000) % 2 ^ 64
+scaleBits ki = (expRow (ki % 128) .scale + ki % 0x8_0000 * 0x2000_0000_0000) % 2 ^ 64
 
 -- t = (1 + tail) exp r - 1
 unfoldable pub excess : Float → Float → Float

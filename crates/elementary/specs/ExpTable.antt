@@ -1,7 +1,9 @@
 -- The published table of exp (ARM's optimized routines, `exp_data.c` with N = 128): for each i below 128 two patterns, T[2i] of the tail t and
 -- T[2i + 1], which is the pattern of s less i·2^45, where 2^(i/128) is s(1 + t) and s the nearest double. Assumes nothing.
 use mathlib.Core.List.{List, [], _∷_}
-use Prim.Native.Nat.{ℕ}
+use Prim.Native.Nat.{ℕ, _+_, _*_}
+use Rattle.base.specs.Sum.{_!!_}
+use Rattle.elementary.specs.declared.exptable.ExpRow.{ExpRow}
 
 -- T, entry after entry
 unfoldable pub expTable : List ℕ
@@ -135,3 +137,7 @@ expTable =
     0x3c77_893b_4d91_cd9d ∷ 0x3fef_e7c1_819e_90d8 ∷
     0x3c53_05c1_4160_cc89 ∷ 0x3fef_f3c2_2b8f_71f1 ∷
     []
+
+-- row i: the pattern of the tail, and that of the scale less i·2^45
+unfoldable pub expRow : ℕ → ExpRow
+expRow i = record { tail = expTable !! (2 * i); scale = expTable !! (2 * i + 1) }

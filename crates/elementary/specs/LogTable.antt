@@ -1,8 +1,11 @@
 -- The published tables of ln (ARM's optimized routines, `log_data.c` with N = 128, the tables for machines without fma), row by row: for each i
 -- below 128 the doubles 1/c, ln c, and c in two parts, for a c near the centre of the i-th part of the range of z. Assumes nothing.
 use mathlib.Core.List.{List, [], _∷_}
+use Prim.Native.Nat.{ℕ, _+_, _*_}
 use lib.Ieee.{Float}
 use Rattle.base.specs.Number.{bits}
+use Rattle.base.specs.Sum.{_!_}
+use Rattle.elementary.specs.declared.logtable.LogRow.{LogRow}
 
 -- invc, logc, chi, clo of each row
 unfoldable pub logTable : List Float
@@ -136,3 +139,7 @@ logTable =
     bits 0x3fe7_7907_f217_0657 ∷ bits 0x3fd3_d54f_fbaf_3000 ∷ bits 0x3ff5_d000_1d49_19bc ∷ bits 0xbc98_812a_fb25_4729 ∷
     bits 0x3fe7_56ca_dbd6_130c ∷ bits 0x3fd4_32ee_e32f_e000 ∷ bits 0x3ff5_efff_e7b8_7a89 ∷ bits 0xbc94_7eb7_80ed_6904 ∷
     []
+
+-- row i: 1/c, ln c, and c in two parts
+unfoldable pub logRow : ℕ → LogRow
+logRow i = record { inverse = logTable ! (4 * i); log = logTable ! (4 * i + 1); centre = logTable ! (4 * i + 2); rest = logTable ! (4 * i + 3) }

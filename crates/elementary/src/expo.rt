@@ -1,5 +1,5 @@
 // exp by the table-driven algorithm of ARM's optimized routines: exp x = 2^(k/128) exp r.
-use crate::exptable::entry;
+use crate::exptable::exp_row;
 ghost use mathlib.Core.Path.{_≡_};
 ghost use Rattle.elementary.specs.Exp.{reduced, tailOf, scaleBits, excess, scaled, large, fitted, small, edge, expMain, aboveZero, expFar, expOf};
 
@@ -33,16 +33,16 @@ fn reduced(x: f64, k: f64) -> f64
 fn tail(ki: u64) -> f64
     ensures { λ r. ⌜ r ≡ tailOf ki ⌝ }
 {
-    let i = (2 * (ki % 128)) as usize;
-    base::double(entry(i))
+    let row = exp_row(ki % 128);
+    base::double(row.tail)
 }
 
 // The pattern of the double nearest to 2^(k/128), modulo 2^64: for a large |k| the exponent runs over into the sign.
 fn scale_bits(ki: u64) -> u64
     ensures { λ r. ⌜ r ≡ scaleBits ki ⌝ }
 {
-    let i = (2 * (ki % 128) + 1) as usize;
-    std::num::wrapping_add_u64(entry(i), ki % 0x8_0000 * 0x2000_0000_0000)
+    let row = exp_row(ki % 128);
+    std::num::wrapping_add_u64(row.scale, ki % 0x8_0000 * 0x2000_0000_0000)
 }
 
 // (1 + tail) exp r - 1.

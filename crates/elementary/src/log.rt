@@ -1,5 +1,5 @@
 // ln by the table-driven algorithm of ARM's optimized routines: x = 2^k z, ln x = k ln 2 + ln c + ln(z/c).
-use crate::logtable::entry;
+use crate::logtable::log_row;
 ghost use mathlib.Core.Path.{_≡_};
 ghost use Prim.Native.Nat.{_<_};
 ghost use Rattle.elementary.specs.LogPoly.{nearPoly, nearSum, nearOf, lnSum};
@@ -102,16 +102,17 @@ fn ln_sum(k: f64, r: f64, w: f64) -> f64
     lo + r2 * A0 + r * r2 * (A1 + r * A2 + r2 * (A3 + r * A4)) + hi
 }
 
-// k ln 2 + ln z, by the row of the table that starts at i.
-fn ln_row(i: usize, z: f64, k: f64) -> f64
-    requires { ⌜ i < 509 ⌝ }
+// k ln 2 + ln z, by row i of the table.
+fn ln_row(i: u64, z: f64, k: f64) -> f64
+    requires { ⌜ i < 128 ⌝ }
     ensures { λ y. ⌜ y ≡ lnRow i z k ⌝ }
 {
-    let inverse = entry(i);
-    let log = entry(i + 1);
-    let centre = entry(i + 2);
-    let rest = entry(i + 3);
-    ln_sum(k, (z - centre - rest) * inverse, k * LN2_HI + log)
+    let row = log_row(i);
+    ln_sum(
+        k,
+        (z - row.centre - row.rest) * row.inverse,
+        k * LN2_HI + row.log,
+    )
 }
 
 // ln x for a normal x above zero: t is its pattern less that of 0.6875, plus 1024 * 2^52. So k is t / 2^52 - 1024, and z,
@@ -120,7 +121,7 @@ fn ln_main(x: f64, bias: f64) -> f64
     ensures { λ r. ⌜ r ≡ lnMain x bias ⌝ }
 {
     let t = base::pattern(x) % 0x8000_0000_0000_0000 + 0x1a_0000_0000_0000;
-    let i = (4 * (t / 0x2000_0000_0000 % 128)) as usize;
+    let i = t / 0x2000_0000_0000 % 128;
     let z = f64::from_bits(0x3fe6_0000_0000_0000 + t % 0x10_0000_0000_0000);
     let k = std::num::nearest_u64_to_f64(t / 0x10_0000_0000_0000) - bias;
     ln_row(i, z, k)

@@ -3,10 +3,10 @@ use mathlib.Core.Path.{_≡_}
 use mathlib.Core.Bool.{false}
 use Prim.Native.Nat.{ℕ, _+_, _%_}
 use native.Mathlib.Omega.{arith}
-use borrow.Author.Needs.{needs}
 use lib.Ieee.{binary64, nanBits}
 use Rattle.base.proofs.Doubles.{no-nan-pattern}
 use Rattle.elementary.specs.Log.{lnMain}
+use borrow.Author.Needs.{needs}
 use Rattle.elementary.proofs.log.ln_main.Statement.{statement}
 use Rattle.elementary.proofs.log.ln_main.Tie as tie
 
@@ -18,9 +18,6 @@ pattern-requires c κs = search needs
 
 add-t : tie.Need-add-t
 add-t c = search needs
-
-mul-i : tie.Need-mul-i
-mul-i c = search needs
 
 add-z : tie.Need-add-z
 add-z c = search needs
@@ -44,7 +41,6 @@ ln-main-spec =
     (tie.spec
     pattern-requires
     add-t
-    mul-i
     add-z
     float-from-bits-z
     nearest-u64-to-f64-requires
