@@ -1,5 +1,5 @@
 """The proved archive of the elementary functions, linked with tools/elementary.c into one static x86-64 program."""
-import platform, shutil, subprocess, sys, tempfile
+import atexit, platform, shutil, subprocess, sys, tempfile
 from pathlib import Path
 
 NATIVE = platform.machine() == "x86_64"
@@ -17,6 +17,8 @@ def command():
     built = subprocess.run(["rt", "staticlib", "elementary_c"], capture_output=True, text=True)
     if built.returncode:
         sys.exit(built.stdout + built.stderr)
-    program = Path(tempfile.mkdtemp(prefix="elementary")) / "elementary"
+    folder = tempfile.mkdtemp(prefix="elementary")
+    atexit.register(shutil.rmtree, folder, ignore_errors=True)
+    program = Path(folder) / "elementary"
     subprocess.run([compiler, "-O2", "-fno-builtin", "-static", "tools/elementary.c", "-Ltarget/staticlib", "-Wl,--whole-archive", "-lelementary_c", "-Wl,--no-whole-archive", "-lm", "-o", str(program)], check=True)
     return [*emulator, str(program)]
