@@ -1,7 +1,7 @@
 // exp by the table-driven algorithm of ARM's optimized routines: exp x = 2^(k/128) exp r.
 use crate::exptable::exp_row;
 ghost use mathlib.Core.Path.{_≡_};
-ghost use Rattle.elementary.specs.Exp.{reduced, tailOf, scaleBits, excess, scaled, large, fitted, small, edge, expMain, aboveZero, expFar, expOf};
+ghost use Rattle.elementary.specs.Exp.{reduced, excess, scaled, large, fitted, small, edge, expMain, aboveZero, expFar, expOf};
 
 // 128 / ln 2.
 const INV_LN2_N: f64 = 184.6649652337873;
@@ -27,22 +27,6 @@ fn reduced(x: f64, k: f64) -> f64
     ensures { λ r. ⌜ r ≡ reduced x k ⌝ }
 {
     x + k * NEG_LN2_HI_N + k * NEG_LN2_LO_N
-}
-
-// The tail of 2^(k/128), ki being the pattern of 1.5 * 2^52 + k.
-fn tail(ki: u64) -> f64
-    ensures { λ r. ⌜ r ≡ tailOf ki ⌝ }
-{
-    let row = exp_row(ki % 128);
-    base::double(row.tail)
-}
-
-// The pattern of the double nearest to 2^(k/128), modulo 2^64: for a large |k| the exponent runs over into the sign.
-fn scale_bits(ki: u64) -> u64
-    ensures { λ r. ⌜ r ≡ scaleBits ki ⌝ }
-{
-    let row = exp_row(ki % 128);
-    std::num::wrapping_add_u64(row.scale, ki % 0x8_0000 * 0x2000_0000_0000)
 }
 
 // (1 + tail) exp r - 1.
@@ -99,14 +83,16 @@ fn edge(ki: u64, sbits: u64, t: f64) -> f64
     small(sbits, t)
 }
 
-// exp x for |x| from 2^-54 to 1024: the last digits of shifted are the whole number k nearest to 128 x / ln 2.
+// exp x for |x| from 2^-54 to 1024: the last digits of shifted are the whole number k nearest to 128 x / ln 2. The scale's
+// pattern is taken modulo 2^64: for a large |k| its exponent runs over into the sign, and `edge` puts it right.
 fn exp_main(x: f64) -> f64
     ensures { λ r. ⌜ r ≡ expMain x ⌝ }
 {
     let shifted = INV_LN2_N * x + SHIFT;
     let ki = base::pattern(shifted);
-    let sbits = scale_bits(ki);
-    let t = excess(tail(ki), reduced(x, shifted - SHIFT));
+    let row = exp_row(ki % 128);
+    let sbits = std::num::wrapping_add_u64(row.scale, ki % 0x8_0000 * 0x2000_0000_0000);
+    let t = excess(base::double(row.tail), reduced(x, shifted - SHIFT));
     if base::abs(x) < 512.0 {
         return scaled(base::double(sbits), t);
     }

@@ -1,17 +1,23 @@
--- `expo::exp_main` meets its contract: the definition's parts are what the calls answer, and the test is its test.
+-- `expo::exp_main` meets its contract: the row is the definition's, and each call is the operation of its name.
+use Rattle.elementary.specs.Exp.{tailOf, scaleBits, ended, expMain}
 use borrow.Author.Needs.{needs}
-use Rattle.elementary.specs.Exp.{expMain, ended}
 use Rattle.elementary.proofs.expo.exp_main.Statement.{statement}
 use Rattle.elementary.proofs.expo.exp_main.Tie as tie
 
 pattern-requires : tie.Need-pattern-requires
 pattern-requires c κs = search needs
 
-scale-bits-requires : tie.Need-scale-bits-requires
-scale-bits-requires c κs = search needs
+exp-row-requires : tie.Need-exp-row-requires
+exp-row-requires c κs = search needs
 
-tail-requires : tie.Need-tail-requires
-tail-requires c κs = search needs
+mul-wrapping-add-u64 : tie.Need-mul-wrapping-add-u64
+mul-wrapping-add-u64 c = search needs
+
+wrapping-add-u64-requires : tie.Need-wrapping-add-u64-requires
+wrapping-add-u64-requires c κs = search needs
+
+double-requires : tie.Need-double-requires
+double-requires c κs = search needs
 
 reduced-requires : tie.Need-reduced-requires
 reduced-requires c κs = search needs
@@ -22,34 +28,36 @@ excess-requires c κs = search needs
 abs-requires : tie.Need-abs-requires
 abs-requires c κs = search needs
 
-double-requires : tie.Need-double-requires
-double-requires c κs = search needs
+double-requires-2 : tie.Need-double-requires-2
+double-requires-2 c κs = search needs
 
 scaled-requires : tie.Need-scaled-requires
 scaled-requires c κs = search needs
 
 returns : tie.Need-returns
-unfolding expMain ended
-returns c = rw (c .scaled .ensures, c .before .double .ensures, c .before .before .before .before .excess .ensures, c .before .before .before .before .before .reduced .ensures, c .before .before .before .before .before .before .tail .ensures, c .before .before .before .before .before .before .before .scale-bits .ensures, c .before .before .before .before .before .before .before .before .pattern .ensures, ← (c .before .before .before .abs .ensures), c .before .before .if1 .taken)
+unfolding expMain ended tailOf scaleBits
+returns c = rw (c .scaled .ensures, c .before .double2 .ensures, c .before .before .before .before .excess .ensures, c .before .before .before .before .before .reduced .ensures, c .before .before .before .before .before .before .double .ensures, c .before .before .before .before .before .before .before .wrapping-add-u64 .ensures, c .before .before .before .before .before .before .before .before .exp-row .ensures, c .before .before .before .before .before .before .before .before .before .pattern .ensures, ← (c .before .before .before .abs .ensures), c .before .before .if1 .taken)
 
 edge-requires : tie.Need-edge-requires
 edge-requires c κs = search needs
 
 returns-2 : tie.Need-returns-2
-unfolding expMain ended
-returns-2 c = rw (c .edge .ensures, c .before .before .before .excess .ensures, c .before .before .before .before .reduced .ensures, c .before .before .before .before .before .tail .ensures, c .before .before .before .before .before .before .scale-bits .ensures, c .before .before .before .before .before .before .before .pattern .ensures, ← (c .before .before .abs .ensures), c .before .if1 .left)
+unfolding expMain ended tailOf scaleBits
+returns-2 c = rw (c .edge .ensures, c .before .before .before .excess .ensures, c .before .before .before .before .reduced .ensures, c .before .before .before .before .before .double .ensures, c .before .before .before .before .before .before .wrapping-add-u64 .ensures, c .before .before .before .before .before .before .before .exp-row .ensures, c .before .before .before .before .before .before .before .before .pattern .ensures, ← (c .before .before .abs .ensures), c .before .if1 .left)
 
 pub exp-main-spec : {M : Type 1} → statement M
 exp-main-spec =
     tie.close
     (tie.spec
     pattern-requires
-    scale-bits-requires
-    tail-requires
+    exp-row-requires
+    mul-wrapping-add-u64
+    wrapping-add-u64-requires
+    double-requires
     reduced-requires
     excess-requires
     abs-requires
-    double-requires
+    double-requires-2
     scaled-requires
     returns
     edge-requires
