@@ -1,4 +1,4 @@
--- Products of sizes in range are small. Assumes nothing.
+-- Products of sizes in range are small, which makes every place linear in numbers with bounds. Assumes nothing.
 use Prim.Native.Nat.{ℕ, _*_, _≤_}
 use native.Mathlib.Nat.{mul-le-mul}
 use Rattle.model.specs.Settings.{Sizes}

@@ -1,4 +1,4 @@
--- The layout holds at every size in range. Assumes nothing.
+-- The layout is sound at every size in range: what each function that lends a piece of a work slice asks. Assumes nothing.
 use Prim.Native.Nat.{ℕ}
 use native.Mathlib.Omega.{arith}
 use Rattle.model.specs.Settings.{Sizes}

@@ -1,4 +1,4 @@
--- The pieces of each work slice follow each other, and the last ends within the slice's named length. Assumes nothing.
+-- That the layout is sound: the pieces of each work slice follow each other, and the last ends within the length that document 01 names, "Numbers of an answer", number 7. Assumes nothing.
 use Prim.Native.Nat.{ℕ, _+_, _*_, _≤_}
 use Rattle.layout.specs.WorkRows.{firstEtaRow, secondEtaRow, muRow, rawRow, xbetaRow, devianceRow, pointRow, markRow, weightedRow, columnRow, workingRow, rowsLength}
 use Rattle.layout.specs.WorkMatrices.{systemAt, inverseAt, solvedAt, rootInverseAt, rightAt, wyAt, uAt, bAt, trialUAt, trialBAt, pointAt, columnAt, betaAt, logWeightsAt, matricesLength}

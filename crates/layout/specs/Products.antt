@@ -1,4 +1,4 @@
--- Bounds of the products of sizes, of which places and lengths are made. Assumes nothing.
+-- Bounds of the products of sizes, of which places and lengths are made; from the ranges of document 01, "What the port carries", its sizes. Assumes nothing.
 use mathlib.Core.Path.{_≡_}
 use Prim.Native.Nat.{ℕ, _*_, _≤_}
 

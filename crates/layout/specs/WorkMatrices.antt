@@ -1,4 +1,4 @@
--- Where the pieces of the work slice `matrices` begin, each where the one before it ends. Its length is the one that document 01 names, number 7. Assumes nothing.
+-- Where the pieces of the work slice `matrices` begin, each where the one before it ends. Its length: document 01, "Numbers of an answer", number 7. Assumes nothing.
 use Prim.Native.Nat.{ℕ, _+_, _*_}
 
 -- S, q²: Z'WZ, then A over it
@@ -57,6 +57,6 @@ betaAt p q = columnAt p q + q
 abbrev pub logWeightsAt : ℕ → ℕ → ℕ
 logWeightsAt p q = betaAt p q + p
 
--- "3q²+4p²+2qp+12(q+p)"
+-- the room that the caller must lend; the pieces take 2q² + qp + p² + 8q + p + 11 of it
 abbrev pub matricesLength : ℕ → ℕ → ℕ
 matricesLength p q = 3 * (q * q) + 4 * (p * p) + 2 * (q * p) + 12 * (q + p)

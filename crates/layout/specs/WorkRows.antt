@@ -1,4 +1,4 @@
--- Where the rows of the work slice `rows` begin: eleven rows of n numbers each, in the length that document 01 names, number 7. Assumes nothing.
+-- Where the rows of the work slice `rows` begin: eleven rows of n numbers each. Its length: document 01, "Numbers of an answer", number 7. Assumes nothing.
 use Prim.Native.Nat.{ℕ, _*_}
 
 -- the predictor stands in one of two rows, the candidate in the other
@@ -45,6 +45,6 @@ columnRow n = 9 * n
 abbrev pub workingRow : ℕ → ℕ
 workingRow n = 10 * n
 
--- "16n"
+-- the room that the caller must lend; five rows of it stay unused
 abbrev pub rowsLength : ℕ → ℕ
 rowsLength n = 16 * n

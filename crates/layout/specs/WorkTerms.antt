@@ -1,4 +1,4 @@
--- Where the pieces of the work slice `terms` begin until the first log term is formed, each where the one before it ends. Its length is the one that document 01 names, number 7. Assumes nothing.
+-- Where the pieces of the work slice `terms` begin until the first log term is formed, each where the one before it ends. Its length: document 01, "Numbers of an answer", number 7. Assumes nothing.
 use Prim.Native.Nat.{ℕ, _+_, _*_}
 
 -- K, q²: (Z'WZ)Λ, then L and d
@@ -25,6 +25,6 @@ normalAt n p q = unsolvedAt n q + q * p
 abbrev pub spareAt : ℕ → ℕ → ℕ → ℕ
 spareAt n p q = normalAt n p q + p * p
 
--- "7,000"; in the quadrature all of it are log terms
+-- the room that the caller must lend; in the quadrature all of it is for log terms
 abbrev pub termsLength : ℕ
 termsLength = 7000

@@ -1,8 +1,9 @@
 -- An answer's number is 0 exactly for a fit, and every other answer is blank but for its number and account. Assumes nothing.
 use mathlib.Core.Path.{_≡_, refl}
 use mathlib.Core.Bool.{true}
-use Prim.Native.Nat.{ℕ, _≤_}
+use Prim.Native.Nat.{_≤_}
 use native.Mathlib.Omega.{arith}
+use Rattle.base.proofs.Doubles.{ff}
 use Rattle.model.specs.Answer.{endNumber, refusalNumber, refusedAnswer, unfittedAnswer, fittedAnswer, Possible, refused, unfitted, fitted, isFitted, Blank}
 use Rattle.model.specs.declared.ends.Answer.{Answer}
 use Rattle.model.specs.declared.ends.End.{End}
@@ -27,18 +28,21 @@ end-range NormalPivot = (omega arith, omega arith)
 end-range NoStep = (omega arith, omega arith)
 end-range NoStop = (omega arith, omega arith)
 
+-- the number of a fit is 0
 pub fitted-zero : {a : Answer} (g : Possible a) → isFitted g ≡ true → a .number ≡ 0
 unfolding refusedAnswer unfittedAnswer fittedAnswer
-fitted-zero (refused r) e = let z : _≡_ {A = ℕ} 0 1 = cc in omega arith
-fitted-zero (unfitted e a) h = let z : _≡_ {A = ℕ} 0 1 = cc in omega arith
+fitted-zero (refused r) e = absurd (ff e)
+fitted-zero (unfitted e a) h = absurd (ff h)
 fitted-zero (fitted d phi order converged iterations a) e = refl
 
+-- and only a fit's
 pub zero-fitted : {a : Answer} (g : Possible a) → a .number ≡ 0 → isFitted g ≡ true
 unfolding refusedAnswer unfittedAnswer fittedAnswer
 zero-fitted (refused r) e = absurd (omega (arith, refusal-range r))
 zero-fitted (unfitted e a) h = absurd (omega (arith, end-range e))
 zero-fitted (fitted d phi order converged iterations a) e = refl
 
+-- an answer with another number tells nothing else but its account
 pub blank-unless-zero : {a : Answer} → Possible a → (a .number ≡ 0 → ⊥) → Blank a
 unfolding refusedAnswer unfittedAnswer fittedAnswer
 blank-unless-zero (refused r) h = record { deviance = refl; phi = refl; order = refl; converged = refl; iterations = refl }

@@ -1,6 +1,6 @@
--- The caps of an inner fit, whatever its limit, link and shape, are within those at the largest limit. Assumes nothing.
+-- The caps of an inner fit, whatever its limit, link and shape, are within those at the largest limit, which the sums of accounts go by. Assumes nothing.
 use mathlib.Core.Path.{_≡_}
-use mathlib.Core.Bool.{Bool, true, false, cond}
+use mathlib.Core.Bool.{cond}
 use mathlib.Core.Logic.{⊎-elim}
 use Prim.Native.Nat.{ℕ, _*_, _<_, _≤_}
 use native.Mathlib.Nat.{mul-le-mul, mul-le-mul-left, le-mul-of-pos-right, eq-or-lt-of-le}
@@ -14,15 +14,13 @@ use Rattle.model.specs.Account.{AtMost, innerCap}
 use Rattle.model.specs.Caps.{triesCap, pointsCap, innerCapOf}
 use Rattle.model.specs.declared.names.Link.{Link}
 use Rattle.model.specs.declared.sizes.Shape.{Shape}
+use Rattle.model.proofs.Tests.{picked-few}
 use Rattle.model.proofs.Shapes.{effects-small}
 
+-- the tries of one solve
 tries-few : (link : Link) → triesCap link ≤ 100
 unfolding triesCap
-tries-few link = at (isInverse link)
-  where
-    at : (b : Bool) → cond b 100 25 ≤ 100
-    at true = omega arith
-    at false = omega arith
+tries-few link = picked-few (isInverse link) (omega arith) (omega arith)
 
 -- with one effect a group there are at most 32 groups, with more at most 16
 groups-points : (m k : ℕ) → m * k ≤ 32 → 1 ≤ k → cond (eqb k 1) 11 400 * m ≤ 7000
@@ -34,11 +32,9 @@ groups-points m k h l =
 
 pub points-few : (s : Shape) → InRange s → pointsCap s ≤ 7000
 unfolding pointsCap
-points-few s r = at (eqb (s .count) 1) (groups-points (s .m !! 0) (s .k !! 0) (omega (arith, effects-small s r 0 (r .some))) (r .k-some 0 (r .some)))
-  where
-    at : (b : Bool) → cond (eqb (s .k !! 0) 1) 11 400 * (s .m !! 0) ≤ 7000 → cond b (cond (eqb (s .k !! 0) 1) 11 400 * (s .m !! 0)) 7000 ≤ 7000
-    at true h = h
-    at false h = omega arith
+points-few s r =
+    picked-few (eqb (s .count) 1) (groups-points (s .m !! 0) (s .k !! 0) (omega (arith, effects-small s r 0 (r .some))) (r .k-some 0 (r .some)))
+    (omega arith)
 
 pub inner-caps : (s : Shape) (link : Link) (L : ℕ) → InRange s → L ≤ 1000 → AtMost innerCap (innerCapOf s link L)
 unfolding innerCapOf

@@ -1,4 +1,4 @@
--- Codes: which numbers are none, and a code and its family or link determine each other. Assumes nothing.
+-- Codes: which numbers are none, and a code and its family or link determine each other, so that a job can be written and read back. Assumes nothing.
 use mathlib.Core.Path.{_≡_, refl, ap}
 use mathlib.Core.List.{[], _∷_}
 use Prim.Native.Nat.{ℕ, zero, suc, _≤_}

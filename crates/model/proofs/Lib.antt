@@ -1,4 +1,5 @@
-pub mod Every
+-- Laws of the crate's definitions. Every contract is one equation of the answer with a definition, so base's `one-value` leaves one answer. Assumes nothing.
+pub mod Tests
 pub mod Totals
 pub mod Codes
 pub mod Shapes
@@ -7,5 +8,4 @@ pub mod Accounts
 pub mod Caps
 pub mod Tallies
 pub mod Answers
-pub mod Unique
 pub mod Examples

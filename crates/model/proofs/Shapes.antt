@@ -1,5 +1,5 @@
 -- A good shape as facts, and the bounds of its sums. Assumes nothing.
-use mathlib.Core.Path.{_≡_, refl, sym, ap, subst, _∙_}
+use mathlib.Core.Path.{_≡_, refl, sym, _∙_}
 use mathlib.Core.Bool.{true, false, _&&_, true≢false}
 use Prim.Native.Nat.{ℕ, _+_, _*_, _/_, _<_, _≤_}
 use native.Mathlib.Nat.{mul-le-mul, one-le-mul, div-le-of-le-mul, le-mul-of-pos-right}
@@ -9,8 +9,9 @@ use borrow.Author.Tests.{leb-true, le-leb}
 use Rattle.base.specs.Sum.{_!!_, allTo}
 use Rattle.model.specs.Shape.{within, blockEffects, blockThetas, firstEffect, firstTheta, effectsOf, goodBlock, goodShape, InRange}
 use Rattle.model.specs.declared.sizes.Shape.{Shape}
-use Rattle.model.proofs.Every.{both, joined, false-unless, from-within, to-within, all-at}
-use Rattle.model.proofs.Totals.{total-step, total-part, total-most}
+use Rattle.base.proofs.Sums.{all-at, all-end}
+use Rattle.model.proofs.Tests.{both, joined, false-unless, from-within, to-within}
+use Rattle.model.proofs.Totals.{total-step, total-end, total-part, total-most}
 
 -- a good block's numbers
 block-facts : (s : Shape) (i : ℕ) → goodBlock s i ≡ true → ((1 ≤ s .k !! i) × (s .k !! i ≤ 8)) × (1 ≤ s .m !! i)
@@ -24,7 +25,7 @@ unfolding goodShape
 in-range s e =
     let p : (within 1 8 (s .count) && allTo (s .count) (goodBlock s) ≡ true) × (within 1 32 (effectsOf s) ≡ true) = both e in
     let c : (within 1 8 (s .count) ≡ true) × (allTo (s .count) (goodBlock s) ≡ true) = both (p .0) in
-    let b = all-at (goodBlock s) (s .count) (c .1) in
+    let b = all-at (goodBlock s) (s .count) (sym (c .1)) in
     record {
       some = from-within (c .0) .0;
       few = from-within (c .0) .1;
@@ -72,13 +73,13 @@ pub bad-block : (s : Shape) (i : ℕ) → i < s .count → within 1 8 (s .k !! i
 bad-block s i l e = not-good s (λ r. true≢false (sym (block-small s r i l) ∙ e))
 
 -- where all n blocks are good, with q effects together, what is left to test is that q is at most 32
-pub good-when : (s : Shape) (n q : ℕ) → n ≡ s .count → (1 ≤ n) × (n ≤ 8) → n ≤ q → (q ≡ firstEffect s n) × (allTo n (goodBlock s) ≡ true) → leb q 32 ≡ goodShape s
+pub good-when : (s : Shape) (n q : ℕ) → n ≡ s .count → (1 ≤ n) × (n ≤ 8) → n ≤ q → (q ≡ firstEffect s n) × (true ≡ allTo n (goodBlock s)) → leb q 32 ≡ goodShape s
 unfolding goodShape
 good-when s n q e b l p =
     let few : within 1 8 (s .count) ≡ true = to-within {lo = 1} {hi = 8} {a = s .count} (omega arith) (omega arith) in
-    let all : allTo (s .count) (goodBlock s) ≡ true = subst (λ (k : ℕ). allTo k (goodBlock s) ≡ true) e (p .1) in
-    let sum : effectsOf s ≡ q = sym (p .0 ∙ ap (firstEffect s) e) in
-    rw (few, all, sum, le-leb 1 q (omega arith)) refl
+    let all : true ≡ allTo (s .count) (goodBlock s) = all-end (goodBlock s) n (s .count) (p .1) (omega arith) (omega arith) in
+    let sum : q ≡ effectsOf s = total-end (blockEffects s) n (s .count) q (p .0) (omega arith) (omega arith) in
+    rw (few, ← all, ← sum, le-leb 1 q (omega arith)) refl
 
 -- with block i's own effects the sum is still at most 32
 pub effects-small : (s : Shape) → InRange s → (i : ℕ) → i < s .count → firstEffect s i + (s .m !! i) * (s .k !! i) ≤ 32
@@ -90,13 +91,14 @@ pub thetas-small : (s : Shape) → InRange s → (i : ℕ) → i < s .count → 
 unfolding blockThetas
 thetas-small s r i l = omega (arith, thetas-end s i l, theta-few s r)
 
+-- one block more
 pub effect-step : (s : Shape) (i q : ℕ) → q ≡ firstEffect s i → q + (s .m !! i) * (s .k !! i) ≡ firstEffect s (i + 1)
 unfolding blockEffects
-effect-step s i q e = rw e (sym (total-step (blockEffects s) i))
+effect-step s i q e = total-step (blockEffects s) i q e
 
 pub theta-step : (s : Shape) (i t : ℕ) → t ≡ firstTheta s i → t + (s .k !! i) * ((s .k !! i) + 1) / 2 ≡ firstTheta s (i + 1)
 unfolding blockThetas
-theta-step s i t e = rw e (sym (total-step (blockThetas s) i))
+theta-step s i t e = total-step (blockThetas s) i t e
 
 -- a block that `block_ok` passes: its product is small, and it is good
 pub block-passes : (s : Shape) (i : ℕ) → within 1 8 (s .k !! i) && within 1 32 (s .m !! i) ≡ true → ((1 ≤ (s .m !! i) * (s .k !! i)) × ((s .m !! i) * (s .k !! i) ≤ 256)) × (goodBlock s i ≡ true)

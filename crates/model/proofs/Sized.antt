@@ -1,6 +1,6 @@
--- Good sizes as facts. Assumes nothing.
+-- Good sizes as facts, for every function that runs after the test of sizes. Assumes nothing.
 use mathlib.Core.Path.{_≡_, refl}
-use mathlib.Core.Bool.{Bool, true, false, cond}
+use mathlib.Core.Bool.{true, false}
 use Prim.Native.Nat.{_≤_}
 use native.Mathlib.Omega.{arith}
 use lib.Dec.{leb, eqb}
@@ -13,7 +13,7 @@ use Rattle.model.specs.declared.names.Limit.the-variants.{Given, NotGive
 use Rattle.model.specs.declared.names.Link.{Link}
 use Rattle.model.specs.declared.sizes.Shape.{Shape}
 use Rattle.model.specs.declared.sizes.Settings.{Settings}
-use Rattle.model.proofs.Every.{both, false-unless, from-within, to-within}
+use Rattle.model.proofs.Tests.{both, false-unless, from-within, to-within, picked-few}
 use Rattle.model.proofs.Shapes.{in-range}
 
 pub sized : (t : Settings) (s : Shape) → goodSizes t s ≡ true → Sized t s
@@ -52,8 +52,4 @@ sized-when t s n p g e m =
 pub limit-few : (l : Limit) (k : Link) → goodLimit l ≡ true → limitOf l k ≤ 1000
 unfolding goodLimit limitOf
 limit-few (Given l) k e = leb-true l 1000 e
-limit-few NotGiven k e = usual (isInverse k)
-  where
-    usual : (b : Bool) → cond b 1000 100 ≤ 1000
-    usual true = omega arith
-    usual false = omega arith
+limit-few NotGiven k e = picked-few (isInverse k) (omega arith) (omega arith)

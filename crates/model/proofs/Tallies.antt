@@ -1,4 +1,4 @@
--- The tally of items: of two lists the sum, of single items, of n points. Assumes nothing.
+-- The tally of items, by which the counters of a run are proved true: of two lists the sum, of single items, of n points. Assumes nothing.
 use mathlib.Core.Path.{_≡_, refl}
 use mathlib.Core.Bool.{Bool}
 use mathlib.Core.List.{List, [], _∷_, _++_}
@@ -10,7 +10,7 @@ use Rattle.model.specs.Account.{noCounts, _⊞_, oneFit, oneSolve, oneTr
 use Rattle.model.specs.Items.{Fate, Item, aFit, aSolve, aTry, aPoint, isFit, isSolve, isTry, isPoint, tick, countOf, tally}
 use Rattle.model.proofs.Accounts.{same-counts}
 
--- whatever is counted: what P9 counts too
+-- whatever is counted
 pub count-append : (t : Item → Bool) (is js : List Item) → countOf t (is ++ js) ≡ countOf t is + countOf t js
 unfolding countOf
 count-append t [] js = omega arith
@@ -37,10 +37,6 @@ tally-solve = refl
 pub tally-try : (f : Fate) → tally (aTry f ∷ []) ≡ oneTry
 unfolding tally countOf
 tally-try f = refl
-
-pub tally-point : tally (aPoint ∷ []) ≡ pointsOf 1
-unfolding tally countOf
-tally-point = refl
 
 -- n times the same item
 pub count-same : (t : Item → Bool) (n : ℕ) (i : Item) → countOf t (replicate n i) ≡ n * tick (t i)

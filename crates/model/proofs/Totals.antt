@@ -1,4 +1,4 @@
--- Sums of whole numbers over ascending index. Assumes nothing.
+-- Laws of `totalTo`, sums of whole numbers over ascending index: none, one more, the end, and their bounds. Assumes nothing.
 use mathlib.Core.Path.{_≡_, refl}
 use mathlib.Core.Logic.{⊎-elim}
 use Prim.Native.Nat.{ℕ, zero, suc, _+_, _*_, _<_, _≤_}
@@ -7,13 +7,16 @@ use native.Mathlib.Numerals.{add-one}
 use native.Mathlib.Omega.{arith}
 use Rattle.model.specs.Shape.{totalTo}
 
-pub total-none : (f : ℕ → ℕ) → totalTo 0 f ≡ 0
+pub total-none : (f : ℕ → ℕ) → 0 ≡ totalTo 0 f
 unfolding totalTo
 total-none f = refl
 
-pub total-step : (f : ℕ → ℕ) (n : ℕ) → totalTo (n + 1) f ≡ totalTo n f + f n
+pub total-step : (f : ℕ → ℕ) (k s : ℕ) → s ≡ totalTo k f → s + f k ≡ totalTo (k + 1) f
 unfolding totalTo
-total-step f n = rw add-one refl
+total-step f k s e = rw (e, add-one) refl
+
+pub total-end : (f : ℕ → ℕ) (k n s : ℕ) → s ≡ totalTo k f → k ≤ n → n ≤ k → s ≡ totalTo n f
+total-end f k n s e l m = let q : k ≡ n = omega arith in rw (← q) e
 
 -- a shorter sum is no larger
 pub total-grows : (f : ℕ → ℕ) (i n : ℕ) → i ≤ n → totalTo i f ≤ totalTo n f
@@ -24,7 +27,7 @@ total-grows f i (suc n) l =
 
 -- each part is at most the sum, together with the parts before it
 pub total-part : (f : ℕ → ℕ) (i n : ℕ) → i < n → totalTo i f + f i ≤ totalTo n f
-total-part f i n l = omega (arith, total-step f i, total-grows f (i + 1) n (omega arith))
+total-part f i n l = omega (arith, total-step f i (totalTo i f) refl, total-grows f (i + 1) n (omega arith))
 
 -- the sum of parts that are each at most c
 pub total-most : (f : ℕ → ℕ) (c n : ℕ) → ((i : ℕ) → i < n → f i ≤ c) → totalTo n f ≤ c * n

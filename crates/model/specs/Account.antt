@@ -1,9 +1,9 @@
--- The account of work: its sums and its caps. Document 01, "Counts are summed over inner fits"; the request, item 3; document 02, P7. Assumes nothing.
+-- The account of work, its sums and its caps. Document 01, "The inner fit", its last paragraph, on counts; the request, demand 3; document 02, P7. Assumes nothing.
 use Prim.Native.Nat.{ℕ, _+_, _*_, _<_, _≤_, _^_}
 use Rattle.model.specs.declared.counts.Account.{Account}
 
 infixl 65 _⊞_
--- "all counts are 0"
+-- nothing was done yet: what a refusal reports and every sum begins with
 abbrev pub noCounts : Account
 noCounts = record { fits = 0; solves = 0; tries = 0; points = 0 }
 
@@ -38,11 +38,11 @@ pub record AtMost (cap a : Account) : Type 0 where
   pub tries : a .tries ≤ cap .tries
   pub points : a .points ≤ cap .points
 
--- an inner fit at the largest limit, 1000: one fit, L solves, 100·L tries (the inverse link's), 7,000 points (those of several blocks)
+-- the most that an inner fit can do, at the largest limit: 1000 solves, 100 tries a solve (the inverse link), 7,000 points (several blocks)
 abbrev pub innerCap : Account
 innerCap = record { fits = 1; solves = 1000; tries = 100000; points = 7000 }
 
--- a call: "inner fits 241, solves 241,000, tries 24,100,000, points 1,687,000"
+-- the most that a call can do: 241 inner fits, the last of them after the 240 rounds of the dispersion loop
 abbrev pub callCap : Account
 callCap = record { fits = 241; solves = 241000; tries = 24100000; points = 1687000 }
 

@@ -12,14 +12,14 @@ use Rattle.model.specs.declared.ends.End.the-variants.{SystemPivot, Norm
 use Rattle.model.specs.declared.ends.Refusal.{Refusal}
 use Rattle.model.specs.declared.ends.Refusal.the-variants.{OutOfRange, Lengths, Work, SparseRows, NotFinite, LinkForFamily, NotCarried}
 
--- the number of each end without a result
+-- the number under which each end without a result is told
 abbrev pub endNumber : End → ℕ
 endNumber SystemPivot = 10
 endNumber NormalPivot = 11
 endNumber NoStep = 12
 endNumber NoStop = 13
 
--- the number of each refusal, in the table's order
+-- the number under which each refusal is told; the lines stand in the order in which they are tested
 abbrev pub refusalNumber : Refusal → ℕ
 refusalNumber OutOfRange = 1
 refusalNumber Lengths = 2
@@ -29,19 +29,19 @@ refusalNumber NotFinite = 3
 refusalNumber LinkForFamily = 4
 refusalNumber NotCarried = 5
 
--- "But for number 0 the record's deviance, phi, order, flag and iterations are 0"
+-- an answer without a result tells its number and its account, and is zero everywhere else
 abbrev pub blankAnswer : ℕ → Account → Answer
 blankAnswer k a = record { number = k; deviance = zeroF; phi = zeroF; order = 0; converged = false; iterations = 0; account = a }
 
--- refusals: "all counts are 0"
+-- a refusal did no work
 unfoldable pub refusedAnswer : Refusal → Answer
 refusedAnswer r = blankAnswer (refusalNumber r) noCounts
 
--- an accepted call without a result has its account
+-- a call that was accepted and then failed tells what it did
 unfoldable pub unfittedAnswer : End → Account → Answer
 unfittedAnswer e a = blankAnswer (endNumber e) a
 
--- 0: fitted, with the deviance, phi, the order used, the dispersion flag and the last inner fit's iterations
+-- a fit is told under number 0, with everything: the order is the one used, the iterations are those of the last inner fit
 unfoldable pub fittedAnswer : Float → Float → ℕ → Bool → ℕ → Account → Answer
 fittedAnswer d phi order converged iterations a =
     record { number = 0; deviance = d; phi = phi; order = order; converged = converged; iterations = iterations; account = a }
@@ -58,7 +58,7 @@ isFitted (refused r) = false
 isFitted (unfitted e a) = false
 isFitted (fitted d phi order converged iterations a) = true
 
--- deviance, phi, order, flag and iterations are 0
+-- all but number and account is zero
 pub record Blank (a : Answer) : Type 0 where
   pub deviance : a .deviance ≡ zeroF
   pub phi : a .phi ≡ zeroF

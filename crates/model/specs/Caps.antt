@@ -1,5 +1,5 @@
--- The caps of one inner fit by its limit, link and shape. The request, item 3. Assumes nothing.
-use mathlib.Core.Bool.{Bool, cond}
+-- The caps of one inner fit by its limit, link and shape. The request, demand 3; the tries of a solve also in document 01, "The inner fit". Assumes nothing.
+use mathlib.Core.Bool.{cond}
 use Prim.Native.Nat.{ℕ, _*_}
 use lib.Dec.{eqb}
 use Rattle.base.specs.Sum.{_!!_}
@@ -8,14 +8,14 @@ use Rattle.model.specs.declared.counts.Account.{Account}
 use Rattle.model.specs.declared.names.Link.{Link}
 use Rattle.model.specs.declared.sizes.Shape.{Shape}
 
--- tries a solve: "25·L tries (100·L for the inverse link)"
+-- the most tries of one solve
 unfoldable pub triesCap : Link → ℕ
 triesCap link = cond (isInverse link) 100 25
 
--- "for one block of m groups, 11·m points at one effect a group, 400·m at more; over several blocks 7,000"
+-- the most points: for each group of a single block 11 where it has one effect and 400 where it has more, and 7,000 in all over several blocks
 unfoldable pub pointsCap : Shape → ℕ
 pointsCap s = cond (eqb (s .count) 1) (cond (eqb (s .k !! 0) 1) 11 400 * (s .m !! 0)) 7000
 
--- what an inner fit with iteration limit L does at most
+-- the most that an inner fit of at most L iterations can do
 unfoldable pub innerCapOf : Shape → Link → ℕ → Account
 innerCapOf s link L = record { fits = 1; solves = L; tries = triesCap link * L; points = pointsCap s }

@@ -1,4 +1,4 @@
--- What a run does, one item after another, and the account, which is their tally. Document 01: "solves (iterations whose u was found), tries (candidates formed), points (log terms formed)". Assumes nothing.
+-- What a run does, one item after another, and the account, which is their tally. Document 01, "The inner fit", its last paragraph, says what counts as a solve, a try and a point. Assumes nothing.
 use mathlib.Core.Bool.{Bool, true, false}
 use mathlib.Core.List.{List, [], _∷_}
 use Prim.Native.Nat.{ℕ, _+_}
@@ -8,34 +8,34 @@ use Rattle.model.specs.declared.counts.Account.{Account}
 pub data Fate : Type 0 where
   etaRefused meanRefused pwrssRefused accepted : Fate
 
--- an inner fit begun; a solve whose u was found; a candidate formed, and what became of it; a log term formed
+-- an inner fit begins; an iteration gets as far as u; a candidate predictor is tried, with its fate; a term of a log sum is computed
 pub data Item : Type 0 where
   aFit aSolve : Item
   aTry : Fate → Item
   aPoint : Item
 
--- an inner fit begun
+-- the item is the start of an inner fit
 abbrev pub isFit : Item → Bool
 isFit aFit = true
 isFit aSolve = false
 isFit (aTry f) = false
 isFit aPoint = false
 
--- an iteration whose u was found
+-- the item is a solve
 abbrev pub isSolve : Item → Bool
 isSolve aFit = false
 isSolve aSolve = true
 isSolve (aTry f) = false
 isSolve aPoint = false
 
--- a candidate formed, whatever became of it
+-- the item is a try, whatever became of it
 abbrev pub isTry : Item → Bool
 isTry aFit = false
 isTry aSolve = false
 isTry (aTry f) = true
 isTry aPoint = false
 
--- a log term formed
+-- the item is a point
 abbrev pub isPoint : Item → Bool
 isPoint aFit = false
 isPoint aSolve = false

@@ -1,4 +1,4 @@
--- What a call of the fit is made of. Assumes nothing.
+-- What a call of the fit is made of: names, sizes, account and answer. Document 01, "What the port carries" and "Numbers of an answer". Assumes nothing.
 pub mod Names
 pub mod Shape
 pub mod Settings

@@ -1,4 +1,4 @@
--- Codes of the families and links, and the limit of iterations. Document 01, "The job and the program" and "Sizes". Assumes nothing.
+-- Codes of the families and links, and the limit of iterations. Document 01, "The job and the program", and "What the port carries" for the limit. Assumes nothing.
 use mathlib.Core.Bool.{Bool, true, false, cond}
 use mathlib.Core.List.{[], _∷_}
 use Prim.Native.Nat.{ℕ}
@@ -14,7 +14,7 @@ use Rattle.model.specs.declared.names.LinkFound.the-variants as linkFoun
 use Rattle.model.specs.declared.names.Limit.{Limit}
 use Rattle.model.specs.declared.names.Limit.the-variants.{Given, NotGiven}
 
--- "family 2 (binomial, Poisson, Gaussian, Gamma)": the code is the place in this list
+-- a family's code in a job is its place in this list, from 0
 abbrev pub familyCode : Family → ℕ
 familyCode Binomial = 0
 familyCode Poisson = 1
@@ -26,7 +26,7 @@ unfoldable pub familyCoded : ℕ → FamilyFound
 familyCoded code =
     getD (familyFound.Found Binomial ∷ familyFound.Found Poisson ∷ familyFound.Found Gaussian ∷ familyFound.Found Gamma ∷ []) code familyFound.NoSuch
 
--- "link 3 (order of `Link`, 7 refused)": the code is the place in this list
+-- a link's code in a job is its place in the Rust's enum, from 0
 abbrev pub linkCode : Link → ℕ
 linkCode Logit = 0
 linkCode Probit = 1
@@ -54,7 +54,7 @@ isInverse Identity = false
 isInverse Inverse = true
 isInverse Sqrt = false
 
--- the limit L of a call; where it is not given "100, inverse link 1000"
+-- the limit L of a call; without one the link decides
 unfoldable pub limitOf : Limit → Link → ℕ
 limitOf (Given l) link = l
 limitOf NotGiven link = cond (isInverse link) 1000 100

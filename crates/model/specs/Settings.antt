@@ -1,4 +1,4 @@
--- The sizes of a call. Document 01, number 1 of its table: "a size is outside the list above, or q differs from the rows of Z'". Assumes nothing.
+-- The sizes of a call and their ranges: when number 1 is given. Document 01, "What the port carries", its sizes, and "Numbers of an answer". Assumes nothing.
 use mathlib.Core.Path.{_≡_}
 use mathlib.Core.Bool.{Bool, true, _&&_}
 use Prim.Native.Nat.{ℕ, _≤_}
@@ -9,12 +9,12 @@ use Rattle.model.specs.declared.names.Limit.the-variants.{Given, NotGive
 use Rattle.model.specs.declared.sizes.Shape.{Shape}
 use Rattle.model.specs.declared.sizes.Settings.{Settings}
 
--- "limit L 0 to 1000 or not given"
+-- a limit is at most 1000 where it is given
 unfoldable pub goodLimit : Limit → Bool
 goodLimit (Given l) = leb l 1000
 goodLimit NotGiven = true
 
--- "n observations 1 to 512; p columns 1 to 16", the shape, q equal to the rows of Z', "at most 8,192 entries", the limit
+-- number 1 is not given: n, p, the shape, the entries of Z' and the limit are in range, and Z' has a row for each of the q effects
 unfoldable pub goodSizes : Settings → Shape → Bool
 goodSizes t s =
     within 1 512 (t .n) && within 1 16 (t .p) && goodShape s && eqb (effectsOf s) (t .rows) && leb (t .entries) 8192

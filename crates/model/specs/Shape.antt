@@ -1,4 +1,4 @@
--- The random effects by number: up to 8 blocks, block i of m groups with k effects each. Document 01, "Sizes". Assumes nothing.
+-- The random effects by number: up to 8 blocks, block i of m groups with k effects each. Document 01, "What the port carries", its sizes. Assumes nothing.
 use mathlib.Core.Bool.{Bool, _&&_}
 use Prim.Native.Nat.{ℕ, zero, suc, _+_, _*_, _/_, _≤_, _<_}
 use lib.Dec.{leb}
@@ -18,7 +18,7 @@ within lo hi a = leb lo a && leb a hi
 unfoldable pub blockEffects : Shape → ℕ → ℕ
 blockEffects s i = (s .m !! i) * (s .k !! i)
 
--- the numbers of theta that block i has: "k(k+1)/2 numbers a block"
+-- the numbers of theta that block i has: its k by k lower triangle
 unfoldable pub blockThetas : Shape → ℕ → ℕ
 blockThetas s i = (s .k !! i) * ((s .k !! i) + 1) / 2
 
@@ -30,7 +30,7 @@ firstEffect s i = totalTo i (blockEffects s)
 abbrev pub firstTheta : Shape → ℕ → ℕ
 firstTheta s i = totalTo i (blockThetas s)
 
--- "q = sum of m·k"
+-- q: the effects of all blocks together
 abbrev pub effectsOf : Shape → ℕ
 effectsOf s = firstEffect s (s .count)
 
@@ -38,11 +38,11 @@ effectsOf s = firstEffect s (s .count)
 abbrev pub thetaLength : Shape → ℕ
 thetaLength s = firstTheta s (s .count)
 
--- "k effects 1 to 8; m groups at least 1"
+-- k and m of block i are in range
 unfoldable pub goodBlock : Shape → ℕ → Bool
 goodBlock s i = within 1 8 (s .k !! i) && leb 1 (s .m !! i)
 
--- "blocks 1 to 8", each of them good, and "q 1 to 32"
+-- the number of blocks, each block, and q are in range
 unfoldable pub goodShape : Shape → Bool
 goodShape s = within 1 8 (s .count) && allTo (s .count) (goodBlock s) && within 1 32 (effectsOf s)
 

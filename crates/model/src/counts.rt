@@ -23,7 +23,7 @@ impl Account {
         }
     }
 
-    // An inner fit begun.
+    // An inner fit begins.
     pub fn one_fit() -> Self
         ensures { λ r. ⌜ r ≡ oneFit ⌝ }
     {
@@ -35,7 +35,7 @@ impl Account {
         }
     }
 
-    // An iteration whose u was found.
+    // An iteration got as far as u.
     pub fn one_solve() -> Self
         ensures { λ r. ⌜ r ≡ oneSolve ⌝ }
     {
@@ -47,7 +47,7 @@ impl Account {
         }
     }
 
-    // A candidate formed, whatever becomes of it.
+    // A candidate predictor is tried, whatever becomes of it.
     pub fn one_try() -> Self
         ensures { λ r. ⌜ r ≡ oneTry ⌝ }
     {
@@ -59,7 +59,7 @@ impl Account {
         }
     }
 
-    // n log terms formed.
+    // n terms of log sums are computed.
     pub fn of_points(n: u64) -> Self
         ensures { λ r. ⌜ r ≡ pointsOf n ⌝ }
     {

@@ -1,35 +1,35 @@
 // How a call can end, the number of each end, and the record that a call answers.
 use crate::counts::Account;
 ghost use mathlib.Core.Path.{_≡_};
-ghost use Rattle.model.specs.Answer.{endNumber, refusalNumber, refusedAnswer, unfittedAnswer, fittedAnswer};
+ghost use Rattle.model.specs.Answer.{endNumber, refusalNumber, blankAnswer, refusedAnswer, unfittedAnswer, fittedAnswer};
 
 // Why an accepted call has no result.
 pub enum End {
-    // A pivot of A is zero or not finite.
+    // A has no LDL' factors: a pivot cannot be divided by.
     SystemPivot,
-    // A pivot of the normal matrix is not above zero, or not finite.
+    // The normal matrix has no Cholesky factor: the square root of a pivot cannot be divided by.
     NormalPivot,
-    // No tried step was accepted.
+    // Every try of an iteration was turned down.
     NoStep,
-    // The limit's iterations were done without passing the stop test.
+    // The iterations ran out before PWRSS came to rest.
     NoStop,
 }
 
 // Why a call is not accepted, in the order of the tests.
 pub enum Refusal {
-    // A size is out of range, or q differs from the rows of Z'.
+    // The sizes are not all in range, or Z' has not one row for each effect.
     OutOfRange,
-    // A lent input or result has another length than the sizes say.
+    // Some lent slice is not as long as the sizes ask.
     Lengths,
-    // A work slice is too short.
+    // Some work slice has too little room.
     Work,
-    // The rows of Z' are not well formed.
+    // The row starts or the columns of Z' are out of order or out of range.
     SparseRows,
-    // An input number is NaN or infinite.
+    // Some input number is not finite.
     NotFinite,
-    // The link is not valid for the family.
+    // The family does not go with the link.
     LinkForFamily,
-    // The pair is valid, but not carried.
+    // They go together, but the port does not carry one of them.
     NotCarried,
 }
 
@@ -72,12 +72,10 @@ pub fn refusal_number(refusal: Refusal) -> usize
 }
 
 impl Answer {
-    // Nothing was done, so nothing is counted.
-    pub fn refused(refusal: Refusal) -> Self
-        ensures { λ r. ⌜ r ≡ refusedAnswer refusal ⌝ }
+    // What every answer without a result looks like.
+    fn blank(number: usize, account: Account) -> Self
+        ensures { λ r. ⌜ r ≡ blankAnswer number account ⌝ }
     {
-        let number = refusal_number(refusal);
-        let account = Account::none();
         Self {
             number,
             deviance: 0.0,
@@ -89,20 +87,21 @@ impl Answer {
         }
     }
 
+    // Nothing was done, so nothing is counted.
+    pub fn refused(refusal: Refusal) -> Self
+        ensures { λ r. ⌜ r ≡ refusedAnswer refusal ⌝ }
+    {
+        let number = refusal_number(refusal);
+        let account = Account::none();
+        Answer::blank(number, account)
+    }
+
     // The work done is told, though it led to no result.
     pub fn unfitted(end: End, account: Account) -> Self
         ensures { λ r. ⌜ r ≡ unfittedAnswer end account ⌝ }
     {
         let number = end_number(end);
-        Self {
-            number,
-            deviance: 0.0,
-            phi: 0.0,
-            order: 0,
-            converged: false,
-            iterations: 0,
-            account,
-        }
+        Answer::blank(number, account)
     }
 
     // Everything is told.

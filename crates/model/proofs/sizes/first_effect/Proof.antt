@@ -1,9 +1,9 @@
 -- `model::first_effect` meets its contract: the sum so far is that of the blocks passed, and at every turn at most 32.
 use Prim.Native.Nat.{_≤_, _-_}
-use mathlib.Core.Path.{_≡_, sym, ap, _∙_}
+use mathlib.Core.Path.{_≡_}
 use native.Mathlib.Omega.{arith}
 use Rattle.model.specs.Shape.{firstEffect}
-use Rattle.model.proofs.Totals.{total-none}
+use Rattle.model.proofs.Totals.{total-none, total-end}
 use Rattle.model.proofs.Shapes.{in-range, effects-small, effect-step}
 use borrow.Author.Needs.{needs}
 use Rattle.model.proofs.sizes.first_effect.Statement.{statement}
@@ -16,7 +16,7 @@ abbrev μ-loop : tie.MeasureT-loop
 μ-loop block shape q₀ i₀ q i = block - i
 
 loop-holds : tie.Need-loop-holds Inv-loop μ-loop
-loop-holds c = (omega arith, omega (arith, in-range (c .args .t1) (c .pre .0) .few), sym (total-none _))
+loop-holds c = (omega arith, omega (arith, in-range (c .args .t1) (c .pre .0) .few), total-none _)
 
 mul-m : tie.Need-mul-m Inv-loop μ-loop
 mul-m c = search needs
@@ -50,7 +50,7 @@ loop-again : tie.Need-loop-again Inv-loop μ-loop
 loop-again c = (omega arith, omega arith, effect-step _ _ _ (c .before .before .before .loop .inv .2))
 
 returns : tie.Need-returns Inv-loop μ-loop
-returns c = c .before .loop .inv .2 ∙ ap (firstEffect _) (omega arith)
+returns c = total-end _ _ _ _ (c .before .loop .inv .2) (omega arith) (omega arith)
 
 pub first-effect-spec : {M : Type 1} → statement M
 first-effect-spec =

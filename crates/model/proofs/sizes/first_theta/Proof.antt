@@ -1,10 +1,10 @@
 -- `model::first_theta` meets its contract: the sum so far is that of the blocks passed, and at every turn at most 288.
-use mathlib.Core.Path.{_≡_, sym, ap, _∙_}
+use mathlib.Core.Path.{_≡_}
 use Prim.Native.Nat.{_≤_, _-_}
 use native.Mathlib.Omega.{arith}
 use borrow.Author.Needs.{needs}
 use Rattle.model.specs.Shape.{firstTheta}
-use Rattle.model.proofs.Totals.{total-none}
+use Rattle.model.proofs.Totals.{total-none, total-end}
 use Rattle.model.proofs.Shapes.{in-range, thetas-twice, thetas-small, theta-step}
 use Rattle.model.proofs.sizes.first_theta.Statement.{statement}
 use Rattle.model.proofs.sizes.first_theta.Tie as tie
@@ -16,7 +16,7 @@ abbrev μ-loop : tie.MeasureT-loop
 μ-loop block shape t₀ i₀ t i = block - i
 
 loop-holds : tie.Need-loop-holds Inv-loop μ-loop
-loop-holds c = (omega arith, omega (arith, in-range (c .args .t1) (c .pre .0) .few), sym (total-none _))
+loop-holds c = (omega arith, omega (arith, in-range (c .args .t1) (c .pre .0) .few), total-none _)
 
 mul-k : tie.Need-mul-k Inv-loop μ-loop
 mul-k c = search needs
@@ -49,7 +49,7 @@ loop-again : tie.Need-loop-again Inv-loop μ-loop
 loop-again c = (omega arith, omega arith, theta-step _ _ _ (c .before .before .loop .inv .2))
 
 returns : tie.Need-returns Inv-loop μ-loop
-returns c = c .before .loop .inv .2 ∙ ap (firstTheta _) (omega arith)
+returns c = total-end _ _ _ _ (c .before .loop .inv .2) (omega arith) (omega arith)
 
 pub first-theta-spec : {M : Type 1} → statement M
 first-theta-spec =

@@ -6,7 +6,7 @@ use native.Mathlib.Omega.{arith}
 use borrow.Author.Needs.{needs}
 use Rattle.base.specs.Sum.{allTo}
 use Rattle.model.specs.Shape.{firstEffect, goodBlock}
-use Rattle.model.proofs.Every.{all-none, all-step}
+use Rattle.base.proofs.Sums.{all-none, all-step}
 use Rattle.model.proofs.Totals.{total-none}
 use Rattle.model.proofs.Shapes.{not-good, bad-block, good-when, block-passes, effect-step}
 use Rattle.model.proofs.sizes.shape_ok.Statement.{statement}
@@ -14,7 +14,7 @@ use Rattle.model.proofs.sizes.shape_ok.Tie as tie
 
 abbrev Inv-loop : tie.InvT-loop
 Inv-loop shape count q₀ i₀ q i =
-    (i ≤ count) × ((1 ≤ count) × (count ≤ 8)) × ((i ≤ q) × (q ≤ 256 * i)) × ((q ≡ firstEffect shape i) × (allTo i (goodBlock shape) ≡ true))
+    (i ≤ count) × ((1 ≤ count) × (count ≤ 8)) × ((i ≤ q) × (q ≤ 256 * i)) × ((q ≡ firstEffect shape i) × (true ≡ allTo i (goodBlock shape)))
 
 abbrev μ-loop : tie.MeasureT-loop
 μ-loop shape count q₀ i₀ q i = count - i
@@ -26,7 +26,7 @@ returns-2 : tie.Need-returns-2 Inv-loop μ-loop
 returns-2 c = not-good _ (λ r. omega arith)
 
 loop-holds : tie.Need-loop-holds Inv-loop μ-loop
-loop-holds c = (omega arith, (omega arith, omega arith), (omega arith, omega arith), (sym (total-none _), all-none _))
+loop-holds c = (omega arith, (omega arith, omega arith), (omega arith, omega arith), (total-none _, all-none _))
 
 mul-m : tie.Need-mul-m Inv-loop μ-loop
 mul-m c = search needs

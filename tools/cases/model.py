@@ -1,0 +1,133 @@
+#!/usr/bin/env python3
+"""usage: model.py > crates/cases_model/stdout
+What `cases_model` must print, worked out apart from the Rattle code: codes, limits, ranges and numbers from document 01 ("What the port carries",
+"Numbers of an answer", "The job and the program"), the places of the work slices by laying the pieces of the design's table one after another."""
+import struct
+from itertools import accumulate
+
+MOST = 2 ** 64 - 1
+FAMILIES = ["binomial", "Poisson", "Gaussian", "Gamma"]
+LINKS = ["logit", "probit", "cloglog", "log", "identity", "inverse", "sqrt"]
+
+
+def line(*words):
+    print(*[int(w) if isinstance(w, bool) else w for w in words])
+
+
+def hexed(x):
+    return "7FF8000000000000" if x != x else struct.pack(">d", x).hex().upper()
+
+
+def coded(kind, names, codes):
+    for c in codes:
+        line(kind, c, *([names[c], names.index(names[c])] if c < len(names) else ["none"]))
+
+
+# ---- shapes: a list of (m, k), or the number of blocks where that alone decides
+def q_of(blocks):
+    return sum(m * k for m, k in blocks)
+
+
+def triangle(k):
+    return sum(range(1, k + 1))
+
+
+def good_shape(blocks):
+    return 1 <= len(blocks) <= 8 and all(1 <= k <= 8 and m >= 1 for m, k in blocks) and 1 <= q_of(blocks) <= 32
+
+
+def shape(name, blocks):
+    if not good_shape(blocks):
+        return line("shape", name, 0)
+    begins = [w for i in range(len(blocks)) for w in (q_of(blocks[:i]), sum(triangle(k) for _, k in blocks[:i]))]
+    line("shape", name, 1, q_of(blocks), sum(triangle(k) for _, k in blocks), *begins)
+
+
+def sizes(name, n, p, rows, entries, limit, blocks):
+    line("sizes", name, n in range(1, 513) and p in range(1, 17) and good_shape(blocks) and rows == q_of(blocks) and entries <= 8192
+         and (limit is None or limit <= 1000))
+
+
+# ---- answers
+def answer(number, deviance=0.0, phi=0.0, order=0, flag=False, iterations=0, account=(0, 0, 0, 0)):
+    return [number, hexed(deviance), hexed(phi), order, flag, iterations, *account]
+
+
+# ---- work slices: each piece begins where the one before it ends
+def begins(pieces):
+    return [0] + list(accumulate(pieces))[:-1]
+
+
+def places(n, p, q):
+    rows = [n] * 11
+    matrices = [q * q, q * q, q * p, p * p] + [q] * 8 + [p, 11]
+    terms = [q * q, n, n, q * p, p * p, 2 * q]
+    room = [16 * n, 3 * q ** 2 + 4 * p ** 2 + 2 * q * p + 12 * (q + p), 7000]
+    for name, pieces, length in zip(["rows", "matrices", "terms"], [rows, matrices, terms], room):
+        assert sum(pieces) <= length
+        line(name, *begins(pieces), length)
+
+
+coded("family", FAMILIES, [0, 1, 2, 3, 4, MOST])
+coded("link", LINKS, [0, 1, 2, 3, 4, 5, 6, 7, 8, MOST])
+for name in LINKS:
+    line("limit", name, name == "inverse", 1000 if name == "inverse" else 100, 0, 1, 1000)
+
+THREE = [(12, 1), (2, 3), (3, 2)]
+FOUR = THREE + [(1, 8)]
+ONES = [(1, 1)]
+shape("smallest", ONES)
+shape("m_32", [(32, 1)])
+shape("m_33", [(33, 1)])
+shape("m_0", [(0, 1)])
+shape("m_2^63", [(2 ** 63, 1)])
+shape("m_2^63_k_2", [(2 ** 63, 2)])
+shape("m_2^63_k_8", [(2 ** 63, 8)])
+shape("m_most_k_8", [(MOST, 8)])
+shape("k_8", [(4, 8)])
+shape("k_9", [(1, 9)])
+shape("k_0", [(1, 0)])
+shape("k_3", [(2, 3)])
+shape("no_block", [])
+shape("8_blocks", ONES * 8)
+shape("9_blocks", ONES * 9)
+line("shape", "most_blocks", 0)
+shape("four", FOUR)
+shape("four_33", THREE + [(3, 3)])
+shape("four_last_m_0", THREE + [(0, 1)])
+shape("four_last_k_9", THREE + [(1, 9)])
+shape("four_25", THREE + [(1, 1)])
+
+sizes("smallest", 1, 1, 1, 0, 0, ONES)
+sizes("largest", 512, 16, 32, 8192, 1000, FOUR)
+sizes("no_limit", 512, 16, 32, 8192, None, FOUR)
+sizes("n_0", 0, 1, 1, 0, 0, ONES)
+sizes("n_513", 513, 16, 32, 8192, 1000, FOUR)
+sizes("p_0", 1, 0, 1, 0, 0, ONES)
+sizes("p_17", 512, 17, 32, 8192, 1000, FOUR)
+sizes("rows_0", 1, 1, 0, 0, 0, ONES)
+sizes("rows_31", 512, 16, 31, 8192, 1000, FOUR)
+sizes("rows_33", 512, 16, 33, 8192, 1000, FOUR)
+sizes("q_33", 512, 16, 33, 8192, 1000, THREE + [(3, 3)])
+sizes("no_block", 1, 1, 0, 0, 0, [])
+sizes("entries_8193", 512, 16, 32, 8193, 1000, FOUR)
+sizes("limit_1001", 512, 16, 32, 8192, 1001, FOUR)
+
+# the refusals in the order of the table, then the ends
+for number in [1, 2, 7, 6, 3, 4, 5]:
+    line("refused", number, *answer(number))
+WORK = (241, 1205, 4820, 14461)
+for number in [10, 11, 12, 13]:
+    line("unfitted", number, *answer(number, account=WORK))
+line("fitted", *answer(0, 97.5, 1.0, 1, True, 5, WORK))
+line("fitted", *answer(0, float("inf"), 0.1, 11, False, 1000, WORK))
+line("fitted", *answer(0, -0.0, float("nan"), 3, True, 0, WORK))
+
+line("items", *[0, 0, 0, 0], *[1, 0, 0, 0], *[0, 1, 0, 0], *[0, 0, 1, 0], *[0, 0, 0, 6561])
+line("sum", *[a + b for a, b in zip(WORK, (3, 50, 700, 11000))])
+line("sum", MOST, MOST, MOST, MOST)
+
+places(1, 1, 1)
+places(512, 16, 32)
+places(7, 3, 5)
+places(100, 16, 2)
