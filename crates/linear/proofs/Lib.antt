@@ -1,1 +1,2 @@
--- Assumes nothing.
+-- Laws of the linear algebra. Assumes nothing.
+pub mod StoredRows

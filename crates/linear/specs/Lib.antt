@@ -1,2 +1,3 @@
 -- The linear algebra of the fit, by entries. Assumes nothing.
 pub mod Product
+pub mod Stored

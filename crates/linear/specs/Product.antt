@@ -1,6 +1,6 @@
 -- Products with X, a matrix of p columns. Document 01, "The inner fit": one rounding for each product and each addition. Assumes nothing.
 use mathlib.Core.List.{List}
-use Prim.Native.Nat.{ℕ, _+_, _*_}
+use Prim.Native.Nat.{ℕ, _*_}
 use lib.Ieee.{Float}
 use Rattle.base.specs.Number.{_⊗_}
 use Rattle.base.specs.Sum.{_!_, sumTo, productFrom}
