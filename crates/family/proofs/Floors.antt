@@ -1,0 +1,73 @@
+-- The floors: which derivatives and variances are kept off zero, and which are not. Document 01, module 3. Assumes nothing.
+use mathlib.Core.Path.{_≡_, refl, sym, ap, _∙_}
+use mathlib.Core.Bool.{true, false}
+use lib.Ieee.{Float, nan, inf, fin, neg, add, sub, mul, lt, eq, le, isNan, ofBits}
+use Rattle.base.specs.Number.{_⊖_, _⊗_, bits, zeroF, oneF, epsF, maxF, clampF}
+use Rattle.base.proofs.Doubles.{by-test, not-both}
+use Rattle.base.proofs.NumberFacts.{clamp-of-nan}
+use Rattle.elementary.specs.Exp.{expOf}
+use Rattle.elementary.proofs.ExpFacts.{exp-nan, exp-minus-inf, exp-never-below-zero}
+use Rattle.family.specs.Link.{clampE, linkFun, muEta}
+use Rattle.family.specs.Family.{varianceOf}
+use Rattle.family.specs.declared.carried.CarriedLink.the-variants.{Logit, Cloglog, Log, Identity, Inverse, Sqrt}
+use Rattle.family.specs.declared.carried.CarriedFamily.the-variants.{Binomial, Poisson, Gaussian}
+use Rattle.family.proofs.Order.{max-from, le-turned, clamp-again}
+
+floor : (x : Float) → le epsF (maxF x epsF) ≡ true
+unfolding isNan ofBits
+floor x = max-from x epsF refl
+
+-- ---- derivatives: at least E, also of a NaN
+pub logit-slope-from : (eta : Float) → le epsF (muEta Logit eta) ≡ true
+unfolding muEta
+logit-slope-from eta = floor _
+
+pub cloglog-slope-from : (eta : Float) → le epsF (muEta Cloglog eta) ≡ true
+unfolding muEta
+cloglog-slope-from eta = floor _
+
+pub sqrt-slope-from : (eta : Float) → le epsF (muEta Sqrt eta) ≡ true
+unfolding muEta
+sqrt-slope-from eta = floor _
+
+-- the inverse link's: at most -E, as the minus comes last
+pub inverse-slope-to : (eta : Float) → le (muEta Inverse eta) (neg epsF) ≡ true
+unfolding muEta
+inverse-slope-to eta = le-turned epsF _ (floor _)
+
+-- the log link has no floor: the derivative is the mean, which is not below zero, is 0 at -infinity and NaN of NaN
+pub log-slope-is-exp : (eta : Float) → muEta Log eta ≡ expOf eta
+unfolding muEta
+log-slope-is-exp eta = refl
+
+pub log-slope-not-below-zero : (eta : Float) → lt (muEta Log eta) zeroF ≡ false
+unfolding muEta
+log-slope-not-below-zero eta = exp-never-below-zero eta
+
+pub log-slope-can-be-zero : muEta Log (inf true) ≡ zeroF
+unfolding muEta
+log-slope-can-be-zero = exp-minus-inf
+
+pub log-slope-of-nan : muEta Log nan ≡ nan
+unfolding muEta
+log-slope-of-nan = exp-nan
+
+-- ---- variances
+-- Poisson: at least E, also of a NaN
+pub poisson-variance-from : (mu : Float) → le epsF (varianceOf Poisson mu) ≡ true
+unfolding varianceOf
+poisson-variance-from mu = floor mu
+
+-- binomial: only by the clamp of its mean, so that of a NaN it is NaN
+pub binomial-variance-by-clamp : (mu : Float) → varianceOf Binomial mu ≡ varianceOf Binomial (clampE mu)
+unfolding varianceOf clampE le lt eq sub add neg ofBits
+binomial-variance-by-clamp mu = ap (λ m. m ⊗ (oneF ⊖ m)) (sym (clamp-again epsF (oneF ⊖ epsF) mu refl refl refl))
+
+pub binomial-variance-of-nan : varianceOf Binomial nan ≡ nan
+unfolding varianceOf clampE clampF lt sub add mul neg ofBits
+binomial-variance-of-nan = refl
+
+-- at the clamp's two ends it is E (1 - E) and (1 - E) (1 - (1 - E)), both of the bits 3CAFFFFFFFFFFFFE
+pub binomial-variance-at-ends : (varianceOf Binomial zeroF ≡ bits 0x3caf_ffff_ffff_fffe) × (varianceOf Binomial oneF ≡ bits 0x3caf_ffff_ffff_fffe)
+unfolding varianceOf clampE clampF lt sub add mul neg ofBits
+binomial-variance-at-ends = (refl, refl)

@@ -1,0 +1,43 @@
+-- The means of logit and cloglog lie between E and 1 - E for every eta but NaN. Document 01, module 3. Assumes nothing.
+use mathlib.Core.Path.{_≡_, refl, ap}
+use mathlib.Core.Bool.{true, false}
+use lib.Ieee.{Float, nan, neg, add, sub, lt, eq, le, isNan, ofBits}
+use Rattle.base.specs.Number.{_⊖_, oneF, epsF}
+use Rattle.base.proofs.NumberFacts.{clamp-from, clamp-to}
+use Rattle.elementary.specs.Exp.{expOf}
+use Rattle.elementary.specs.Expm1.{expm1Of}
+use Rattle.elementary.proofs.ExpFacts.{exp-nan-only}
+use Rattle.elementary.proofs.Expm1Facts.{nan-only}
+use Rattle.family.specs.Link.{clampE, logistic, linkInv}
+use Rattle.family.specs.declared.carried.CarriedLink.the-variants.{Logit, Cloglog}
+use Rattle.family.proofs.Order.{neg-number, one-plus-number, one-over-number, number-of}
+
+-- from E to 1 - E
+pub record InsideE (p : Float) : Type 0 where
+  pub from : le epsF p ≡ true
+  pub to : le p (oneF ⊖ epsF) ≡ true
+
+-- what is clamped lies there, but for a NaN
+pub clamped-inside : (p : Float) → isNan p ≡ false → InsideE (clampE p)
+unfolding clampE isNan le lt eq sub add neg ofBits
+clamped-inside p h =
+    record { from = clamp-from epsF (oneF ⊖ epsF) p refl refl h refl; to = clamp-to epsF (oneF ⊖ epsF) p refl refl h refl }
+
+exp-number : (x : Float) → isNan x ≡ false → isNan (expOf x) ≡ false
+exp-number x h = number-of expOf exp-nan-only x h
+
+logistic-number : (e : Float) → isNan e ≡ false → isNan (logistic e) ≡ false
+unfolding logistic
+logistic-number e h = one-over-number _ (one-plus-number _ (exp-number (neg e) (neg-number e h)))
+
+expm1-number : (x : Float) → isNan x ≡ false → isNan (expm1Of x) ≡ false
+unfolding isNan
+expm1-number x h = number-of expm1Of (λ y e. nan-only y (ap isNan e)) x h
+
+pub logit-mean-inside : (eta : Float) → isNan eta ≡ false → InsideE (linkInv Logit eta)
+unfolding linkInv
+logit-mean-inside eta h = clamped-inside (logistic eta) (logistic-number eta h)
+
+pub cloglog-mean-inside : (eta : Float) → isNan eta ≡ false → InsideE (linkInv Cloglog eta)
+unfolding linkInv
+cloglog-mean-inside eta h = clamped-inside _ (neg-number _ (expm1-number _ (neg-number _ (exp-number eta h))))

@@ -1,0 +1,38 @@
+-- R's table of links and families, each pair; the default links are valid; what is valid and not carried. Assumes nothing.
+use mathlib.Core.Path.{_≡_, refl}
+use mathlib.Core.Bool.{Bool, true, false}
+use mathlib.Core.List.{List, [], _∷_, map}
+use Rattle.model.specs.declared.names.Family.{Family}
+use Rattle.model.specs.declared.names.Family.the-variants.{Binomial, Poisson, Gaussian, Gamma}
+use Rattle.model.specs.declared.names.Link.{Link}
+use Rattle.model.specs.declared.names.Link.the-variants.{Logit, Probit, Cloglog, Log, Identity, Inverse, Sqrt}
+use Rattle.family.specs.Carried.{linksFor, among, validFor, defaultFor}
+
+-- the answers for one family, over the links in their order
+abbrev pub answersFor : Family → List Bool
+answersFor f = map (λ l. validFor l f) (Logit ∷ Probit ∷ Cloglog ∷ Log ∷ Identity ∷ Inverse ∷ Sqrt ∷ [])
+
+-- ---- the table: logit, probit, cloglog, log, identity, inverse, sqrt
+pub binomial-row : answersFor Binomial ≡ true ∷ true ∷ true ∷ false ∷ false ∷ false ∷ false ∷ []
+unfolding validFor among linksFor
+binomial-row = refl
+
+pub poisson-row : answersFor Poisson ≡ false ∷ false ∷ false ∷ true ∷ true ∷ false ∷ true ∷ []
+unfolding validFor among linksFor
+poisson-row = refl
+
+pub gaussian-row : answersFor Gaussian ≡ false ∷ false ∷ false ∷ true ∷ true ∷ true ∷ false ∷ []
+unfolding validFor among linksFor
+gaussian-row = refl
+
+pub gamma-row : answersFor Gamma ≡ false ∷ false ∷ false ∷ true ∷ true ∷ true ∷ false ∷ []
+unfolding validFor among linksFor
+gamma-row = refl
+
+-- ---- the default link is valid
+pub default-is-valid : (f : Family) → validFor (defaultFor f) f ≡ true
+unfolding validFor among linksFor
+default-is-valid Binomial = refl
+default-is-valid Poisson = refl
+default-is-valid Gaussian = refl
+default-is-valid Gamma = refl

@@ -1,0 +1,56 @@
+-- What of the links and families is carried, each family's default link, and which pairs are valid. Document 01, "What the port carries"; `Link` of family.rs. Assumes nothing.
+use mathlib.Core.Bool.{Bool, true, false, _||_}
+use mathlib.Core.List.{List, [], _∷_}
+use Prim.Native.Nat.{ℕ}
+use lib.Dec.{eqb}
+use Rattle.model.specs.Names.{linkCode}
+use Rattle.model.specs.declared.names.Family.{Family}
+use Rattle.model.specs.declared.names.Family.the-variants.{Binomial, Poisson, Gaussian, Gamma}
+use Rattle.model.specs.declared.names.Link.{Link}
+use Rattle.model.specs.declared.names.Link.the-variants.{Logit, Probit, Cloglog, Log, Identity, Inverse, Sqrt}
+use Rattle.family.specs.declared.carried.LinkCarried.{LinkCarried}
+use Rattle.family.specs.declared.carried.LinkCarried.the-variants as linkCarried
+use Rattle.family.specs.declared.carried.FamilyCarried.{FamilyCarried}
+use Rattle.family.specs.declared.carried.FamilyCarried.the-variants as familyCarried
+use Rattle.family.specs.declared.carried.CarriedLink.the-variants as link
+use Rattle.family.specs.declared.carried.CarriedFamily.the-variants as family
+
+-- every link but probit
+abbrev pub carriedLink : Link → LinkCarried
+carriedLink Logit = linkCarried.Carried link.Logit
+carriedLink Probit = linkCarried.NotYet
+carriedLink Cloglog = linkCarried.Carried link.Cloglog
+carriedLink Log = linkCarried.Carried link.Log
+carriedLink Identity = linkCarried.Carried link.Identity
+carriedLink Inverse = linkCarried.Carried link.Inverse
+carriedLink Sqrt = linkCarried.Carried link.Sqrt
+
+-- every family but Gamma
+abbrev pub carriedFamily : Family → FamilyCarried
+carriedFamily Binomial = familyCarried.Carried family.Binomial
+carriedFamily Poisson = familyCarried.Carried family.Poisson
+carriedFamily Gaussian = familyCarried.Carried family.Gaussian
+carriedFamily Gamma = familyCarried.NotYet
+
+-- `default_for`: the family's canonical link
+abbrev pub defaultFor : Family → Link
+defaultFor Binomial = Logit
+defaultFor Poisson = Log
+defaultFor Gaussian = Identity
+defaultFor Gamma = Inverse
+
+-- the links that R takes for a family
+unfoldable pub linksFor : Family → List Link
+linksFor Binomial = Logit ∷ Probit ∷ Cloglog ∷ []
+linksFor Poisson = Log ∷ Identity ∷ Sqrt ∷ []
+linksFor Gaussian = Identity ∷ Log ∷ Inverse ∷ []
+linksFor Gamma = Inverse ∷ Identity ∷ Log ∷ []
+
+-- the link with a code stands in a list
+unfoldable pub among : ℕ → List Link → Bool
+among c [] = false
+among c (l ∷ ls) = eqb c (linkCode l) || among c ls
+
+-- `valid_for`
+unfoldable pub validFor : Link → Family → Bool
+validFor l f = among (linkCode l) (linksFor f)

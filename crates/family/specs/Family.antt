@@ -1,0 +1,54 @@
+-- The families that are carried: variance, deviance of one response, starting mean. Document 01, module 3; `GlmFamily` of family.rs. Assumes nothing.
+use mathlib.Core.Bool.{Bool, true, false, _&&_, cond}
+use lib.Ieee.{Float, nan, lt, le, neg}
+use Rattle.base.specs.Number.{_⊕_, _⊖_, _⊗_, _⊘_, bits, zeroF, oneF, epsF, maxF}
+use Rattle.base.specs.Sum.{addWhere}
+use Rattle.elementary.specs.Parts.{halfF, twoF}
+use Rattle.elementary.specs.Log.{lnOf}
+use Rattle.family.specs.Link.{clampE}
+use Rattle.family.specs.declared.carried.CarriedFamily.{CarriedFamily}
+use Rattle.family.specs.declared.carried.CarriedFamily.the-variants.{Binomial, Poisson, Gaussian}
+
+-- `variance`: that of a response with this mean, the dispersion aside
+unfoldable pub varianceOf : CarriedFamily → Float → Float
+varianceOf Binomial mu = let m = clampE mu in m ⊗ (oneF ⊖ m)
+varianceOf Poisson mu = maxF mu epsF
+varianceOf Gaussian mu = oneF
+
+-- from +0.0, y ln (y / m) added where y > 0
+unfoldable pub successTerm : Float → Float → Float
+successTerm y m = addWhere (lt zeroF y) zeroF (y ⊗ lnOf (y ⊘ m))
+
+-- and then (1 - y) ln ((1 - y) / (1 - m)) added where y < 1
+unfoldable pub binomialTerm : Float → Float → Float
+binomialTerm y m = addWhere (lt y oneF) (successTerm y m) ((oneF ⊖ y) ⊗ lnOf ((oneF ⊖ y) ⊘ (oneF ⊖ m)))
+
+-- -(y - m), and y ln (y / m) added where y > 0
+unfoldable pub poissonTerm : Float → Float → Float
+poissonTerm y m = addWhere (lt zeroF y) (neg (y ⊖ m)) (y ⊗ lnOf (y ⊘ m))
+
+-- `(0.0..=1.0).contains(&y)`
+unfoldable pub proportion : Float → Bool
+proportion y = le zeroF y && le y oneF
+
+-- `dev_resid`: what a response y with mean mu and weight w adds to the deviance; NaN outside the family's range
+unfoldable pub devResid : CarriedFamily → Float → Float → Float → Float
+devResid Binomial y mu w = cond (proportion y) (twoF ⊗ w ⊗ binomialTerm y (clampE mu)) nan
+devResid Poisson y mu w = cond (lt y zeroF) nan (twoF ⊗ w ⊗ poissonTerm y (maxF mu epsF))
+devResid Gaussian y mu w = let d = y ⊖ mu in w ⊗ (d ⊗ d)
+
+-- 0.1
+abbrev pub tenthF : Float
+tenthF = bits 0x3fb9_9999_9999_999a
+
+-- `initialize_mu`: the mean that a fit starts from
+unfoldable pub initializeMu : CarriedFamily → Float → Float
+initializeMu Binomial y = (y ⊕ halfF) ⊘ twoF
+initializeMu Poisson y = y ⊕ tenthF
+initializeMu Gaussian y = y
+
+-- `uses_dispersion`
+abbrev pub usesDispersion : CarriedFamily → Bool
+usesDispersion Binomial = false
+usesDispersion Poisson = false
+usesDispersion Gaussian = true

@@ -1,0 +1,97 @@
+// Which links and families the port carries, and which pairs of them are valid.
+use model::Family;
+use model::Link;
+ghost use mathlib.Core.Path.{_≡_};
+ghost use Rattle.family.specs.Carried.{carriedLink, carriedFamily, defaultFor, validFor};
+
+// The links that have their formulas here.
+pub enum CarriedLink {
+    Logit,
+    Cloglog,
+    Log,
+    Identity,
+    Inverse,
+    Sqrt,
+}
+
+// The families that have their formulas here.
+pub enum CarriedFamily {
+    Binomial,
+    Poisson,
+    Gaussian,
+}
+
+// A link's formulas, or that they are still to come.
+pub enum LinkCarried {
+    Carried(CarriedLink),
+    NotYet,
+}
+
+// A family's formulas, or that they are still to come.
+pub enum FamilyCarried {
+    Carried(CarriedFamily),
+    NotYet,
+}
+
+// The one way to a carried link.
+pub fn carried_link(link: Link) -> LinkCarried
+    ensures { λ r. ⌜ r ≡ carriedLink link ⌝ }
+{
+    match link {
+        Link::Logit => LinkCarried::Carried(CarriedLink::Logit),
+        Link::Probit => LinkCarried::NotYet,
+        Link::Cloglog => LinkCarried::Carried(CarriedLink::Cloglog),
+        Link::Log => LinkCarried::Carried(CarriedLink::Log),
+        Link::Identity => LinkCarried::Carried(CarriedLink::Identity),
+        Link::Inverse => LinkCarried::Carried(CarriedLink::Inverse),
+        Link::Sqrt => LinkCarried::Carried(CarriedLink::Sqrt),
+    }
+}
+
+// The one way to a carried family.
+pub fn carried_family(family: Family) -> FamilyCarried
+    ensures { λ r. ⌜ r ≡ carriedFamily family ⌝ }
+{
+    match family {
+        Family::Binomial => FamilyCarried::Carried(CarriedFamily::Binomial),
+        Family::Poisson => FamilyCarried::Carried(CarriedFamily::Poisson),
+        Family::Gaussian => FamilyCarried::Carried(CarriedFamily::Gaussian),
+        Family::Gamma => FamilyCarried::NotYet,
+    }
+}
+
+// The family's canonical link.
+pub fn default_for(family: Family) -> Link
+    ensures { λ r. ⌜ r ≡ defaultFor family ⌝ }
+{
+    match family {
+        Family::Binomial => Link::Logit,
+        Family::Poisson => Link::Log,
+        Family::Gaussian => Link::Identity,
+        Family::Gamma => Link::Inverse,
+    }
+}
+
+// Whether R takes the link for the family.
+pub fn valid_for(link: Link, family: Family) -> bool
+    ensures { λ r. ⌜ r ≡ validFor link family ⌝ }
+{
+    match family {
+        Family::Binomial => match link {
+            Link::Logit | Link::Probit | Link::Cloglog => true,
+            _ => false,
+        },
+        Family::Poisson => match link {
+            Link::Log | Link::Identity | Link::Sqrt => true,
+            _ => false,
+        },
+        Family::Gaussian => match link {
+            Link::Identity | Link::Log | Link::Inverse => true,
+            _ => false,
+        },
+        Family::Gamma => match link {
+            Link::Inverse | Link::Identity | Link::Log => true,
+            _ => false,
+        },
+    }
+}

@@ -1,0 +1,3 @@
+-- The names of the links. Assumes nothing.
+pub mod Names
+pub mod Trimmed
