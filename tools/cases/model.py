@@ -23,7 +23,7 @@ def coded(kind, names, codes):
         line(kind, c, *([names[c], names.index(names[c])] if c < len(names) else ["none"]))
 
 
-# ---- shapes: a list of (m, k), or the number of blocks where that alone decides
+# ---- shapes: a list of (m, k), one for each block
 def q_of(blocks):
     return sum(m * k for m, k in blocks)
 
@@ -38,14 +38,14 @@ def good_shape(blocks):
 
 def shape(name, blocks):
     if not good_shape(blocks):
-        return line("shape", name, 0)
+        return line(*name, 0)
     begins = [w for i in range(len(blocks)) for w in (q_of(blocks[:i]), sum(triangle(k) for _, k in blocks[:i]))]
-    line("shape", name, 1, q_of(blocks), sum(triangle(k) for _, k in blocks), *begins)
+    line(*name, 1, q_of(blocks), sum(triangle(k) for _, k in blocks), *begins)
 
 
-def sizes(name, n, p, rows, entries, limit, blocks):
-    line("sizes", name, n in range(1, 513) and p in range(1, 17) and good_shape(blocks) and rows == q_of(blocks) and entries <= 8192
-         and (limit is None or limit <= 1000))
+def sizes(n, p, rows, entries, limit, blocks):
+    good = n in range(1, 513) and p in range(1, 17) and good_shape(blocks) and rows == q_of(blocks) and entries <= 8192
+    line("sizes", n, p, rows, entries, "none" if limit is None else limit, good and (limit is None or limit <= 1000))
 
 
 # ---- answers
@@ -74,44 +74,29 @@ for name in LINKS:
     line("limit", name, name == "inverse", 1000 if name == "inverse" else 100, 0, 1, 1000)
 
 THREE = [(12, 1), (2, 3), (3, 2)]
-FOUR = THREE + [(1, 8)]
-ONES = [(1, 1)]
-shape("smallest", ONES)
-shape("m_32", [(32, 1)])
-shape("m_33", [(33, 1)])
-shape("m_0", [(0, 1)])
-shape("m_2^63", [(2 ** 63, 1)])
-shape("m_2^63_k_2", [(2 ** 63, 2)])
-shape("m_2^63_k_8", [(2 ** 63, 8)])
-shape("m_most_k_8", [(MOST, 8)])
-shape("k_8", [(4, 8)])
-shape("k_9", [(1, 9)])
-shape("k_0", [(1, 0)])
-shape("k_3", [(2, 3)])
-shape("no_block", [])
-shape("8_blocks", ONES * 8)
-shape("9_blocks", ONES * 9)
-line("shape", "most_blocks", 0)
-shape("four", FOUR)
-shape("four_33", THREE + [(3, 3)])
-shape("four_last_m_0", THREE + [(0, 1)])
-shape("four_last_k_9", THREE + [(1, 9)])
-shape("four_25", THREE + [(1, 1)])
+LARGE, SMALL = THREE + [(1, 8)], [(1, 1)]
+for m, k in [(1, 1), (32, 1), (4, 8), (2, 3), (33, 1), (0, 1), (1, 0), (1, 9), (2 ** 63, 1), (2 ** 63, 2), (2 ** 63, 8), (MOST, 8)]:
+    shape(["block", m, k], [(m, k)])
+for count in [0, 8, 9]:
+    shape(["singles", count], [(1, 1)] * count)
+line("singles", MOST, 0)
+for last in [(1, 1), (1, 8), (3, 3), (0, 1), (1, 9)]:
+    shape(["four", *last], THREE + [last])
 
-sizes("smallest", 1, 1, 1, 0, 0, ONES)
-sizes("largest", 512, 16, 32, 8192, 1000, FOUR)
-sizes("no_limit", 512, 16, 32, 8192, None, FOUR)
-sizes("n_0", 0, 1, 1, 0, 0, ONES)
-sizes("n_513", 513, 16, 32, 8192, 1000, FOUR)
-sizes("p_0", 1, 0, 1, 0, 0, ONES)
-sizes("p_17", 512, 17, 32, 8192, 1000, FOUR)
-sizes("rows_0", 1, 1, 0, 0, 0, ONES)
-sizes("rows_31", 512, 16, 31, 8192, 1000, FOUR)
-sizes("rows_33", 512, 16, 33, 8192, 1000, FOUR)
-sizes("q_33", 512, 16, 33, 8192, 1000, THREE + [(3, 3)])
-sizes("no_block", 1, 1, 0, 0, 0, [])
-sizes("entries_8193", 512, 16, 32, 8193, 1000, FOUR)
-sizes("limit_1001", 512, 16, 32, 8192, 1001, FOUR)
+sizes(1, 1, 1, 0, 0, SMALL)
+sizes(0, 1, 1, 0, 0, SMALL)
+sizes(1, 0, 1, 0, 0, SMALL)
+sizes(1, 1, 0, 0, 0, SMALL)
+sizes(1, 1, 0, 0, 0, [])
+sizes(512, 16, 32, 8192, 1000, LARGE)
+sizes(512, 16, 32, 8192, None, LARGE)
+sizes(513, 16, 32, 8192, 1000, LARGE)
+sizes(512, 17, 32, 8192, 1000, LARGE)
+sizes(512, 16, 31, 8192, 1000, LARGE)
+sizes(512, 16, 33, 8192, 1000, LARGE)
+sizes(512, 16, 33, 8192, 1000, THREE + [(3, 3)])
+sizes(512, 16, 32, 8193, 1000, LARGE)
+sizes(512, 16, 32, 8192, 1001, LARGE)
 
 # the refusals in the order of the table, then the ends
 for number in [1, 2, 7, 6, 3, 4, 5]:

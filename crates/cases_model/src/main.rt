@@ -78,13 +78,16 @@ fn link(code: usize) {
     text::end_line();
 }
 
-fn codes() {
+fn families() {
     family(0);
     family(1);
     family(2);
     family(3);
     family(4);
     family(18446744073709551615);
+}
+
+fn links() {
     link(0);
     link(1);
     link(2);
@@ -134,9 +137,7 @@ fn put_blocks(shape: Shape)
     }
 }
 
-fn shape(name: &[u8], shape: Shape) {
-    text::put_word(b"shape ");
-    text::put_word(name);
+fn put_shape(shape: Shape) {
     let good = model::shape_ok(shape);
     text::put_test(good);
     if good {
@@ -154,7 +155,7 @@ fn block(m: usize, k: usize) -> Shape {
     }
 }
 
-// Blocks of one group with one effect, as many as are asked for.
+// As many blocks of one group with one effect as are asked for.
 fn singles(count: usize) -> Shape {
     Shape {
         count,
@@ -163,13 +164,8 @@ fn singles(count: usize) -> Shape {
     }
 }
 
-// Four blocks of 12, 6, 6 and 8 effects, then four that are not counted.
-fn four() -> Shape {
-    four_ending(1, 8)
-}
-
-// The first three of them, and a last block that is given.
-fn four_ending(m: usize, k: usize) -> Shape {
+// Blocks of 12, 6 and 6 effects, a last one that is given, and four that are not counted.
+fn four(m: usize, k: usize) -> Shape {
     Shape {
         count: 4,
         m: [12, 2, 3, m, 5, 5, 5, 5],
@@ -177,39 +173,73 @@ fn four_ending(m: usize, k: usize) -> Shape {
     }
 }
 
-fn shapes() {
-    shape(b"smallest", block(1, 1));
-    shape(b"m_32", block(32, 1));
-    shape(b"m_33", block(33, 1));
-    shape(b"m_0", block(0, 1));
-    shape(b"m_2^63", block(9223372036854775808, 1));
-    shape(b"m_2^63_k_2", block(9223372036854775808, 2));
-    shape(b"m_2^63_k_8", block(9223372036854775808, 8));
-    shape(b"m_most_k_8", block(18446744073709551615, 8));
-    shape(b"k_8", block(4, 8));
-    shape(b"k_9", block(1, 9));
-    shape(b"k_0", block(1, 0));
-    shape(b"k_3", block(2, 3));
-    shape(b"no_block", singles(0));
-    shape(b"8_blocks", singles(8));
-    shape(b"9_blocks", singles(9));
-    shape(b"most_blocks", singles(18446744073709551615));
-    shape(b"four", four());
-    shape(b"four_33", four_ending(3, 3));
-    shape(b"four_last_m_0", four_ending(0, 1));
-    shape(b"four_last_k_9", four_ending(1, 9));
-    shape(b"four_25", four_ending(1, 1));
+fn one_block(m: usize, k: usize) {
+    text::put_word(b"block");
+    put_size(m);
+    put_size(k);
+    put_shape(block(m, k));
 }
 
-fn sizes(name: &[u8], settings: Settings, shape: Shape) {
-    text::put_word(b"sizes ");
-    text::put_word(name);
-    text::put_test(model::sizes_ok(settings, shape));
-    text::end_line();
+fn single_blocks(count: usize) {
+    text::put_word(b"singles");
+    put_size(count);
+    put_shape(singles(count));
 }
 
-fn settings(n: usize, p: usize, rows: usize, entries: usize, limit: Limit) -> Settings {
-    Settings {
+fn four_blocks(m: usize, k: usize) {
+    text::put_word(b"four");
+    put_size(m);
+    put_size(k);
+    put_shape(four(m, k));
+}
+
+// In range, then one number out of it.
+fn small_blocks() {
+    one_block(1, 1);
+    one_block(32, 1);
+    one_block(4, 8);
+    one_block(2, 3);
+    one_block(33, 1);
+    one_block(0, 1);
+    one_block(1, 0);
+    one_block(1, 9);
+}
+
+// The product of m and k would not fit in 64 bits.
+fn large_blocks() {
+    one_block(9223372036854775808, 1);
+    one_block(9223372036854775808, 2);
+    one_block(9223372036854775808, 8);
+    one_block(18446744073709551615, 8);
+}
+
+fn several_blocks() {
+    single_blocks(0);
+    single_blocks(8);
+    single_blocks(9);
+    single_blocks(18446744073709551615);
+    four_blocks(1, 1);
+    four_blocks(1, 8);
+    four_blocks(3, 3);
+    four_blocks(0, 1);
+    four_blocks(1, 9);
+}
+
+fn put_limit(limit: Limit) {
+    match limit {
+        Limit::Given(l) => put_size(l),
+        Limit::NotGiven => text::put_word(b" none"),
+    }
+}
+
+fn sizes(n: usize, p: usize, rows: usize, entries: usize, limit: Limit, shape: Shape) {
+    text::put_word(b"sizes");
+    put_size(n);
+    put_size(p);
+    put_size(rows);
+    put_size(entries);
+    put_limit(limit);
+    let settings = Settings {
         family: Family::Poisson,
         link: Link::Log,
         n_agq: 1,
@@ -218,67 +248,33 @@ fn settings(n: usize, p: usize, rows: usize, entries: usize, limit: Limit) -> Se
         p,
         rows,
         entries,
-    }
+    };
+    text::put_test(model::sizes_ok(settings, shape));
+    text::end_line();
 }
 
-// The smallest and the largest sizes, then one fault at a time on either side.
-fn ranges() {
+// The smallest sizes, then each too small.
+fn small_sizes() {
     let small = block(1, 1);
-    let large = four();
-    sizes(b"smallest", settings(1, 1, 1, 0, Limit::Given(0)), small);
-    sizes(
-        b"largest",
-        settings(512, 16, 32, 8192, Limit::Given(1000)),
-        large,
-    );
-    sizes(
-        b"no_limit",
-        settings(512, 16, 32, 8192, Limit::NotGiven),
-        large,
-    );
-    sizes(b"n_0", settings(0, 1, 1, 0, Limit::Given(0)), small);
-    sizes(
-        b"n_513",
-        settings(513, 16, 32, 8192, Limit::Given(1000)),
-        large,
-    );
-    sizes(b"p_0", settings(1, 0, 1, 0, Limit::Given(0)), small);
-    sizes(
-        b"p_17",
-        settings(512, 17, 32, 8192, Limit::Given(1000)),
-        large,
-    );
-    sizes(b"rows_0", settings(1, 1, 0, 0, Limit::Given(0)), small);
-    sizes(
-        b"rows_31",
-        settings(512, 16, 31, 8192, Limit::Given(1000)),
-        large,
-    );
-    sizes(
-        b"rows_33",
-        settings(512, 16, 33, 8192, Limit::Given(1000)),
-        large,
-    );
-    sizes(
-        b"q_33",
-        settings(512, 16, 33, 8192, Limit::Given(1000)),
-        four_ending(3, 3),
-    );
-    sizes(
-        b"no_block",
-        settings(1, 1, 0, 0, Limit::Given(0)),
-        singles(0),
-    );
-    sizes(
-        b"entries_8193",
-        settings(512, 16, 32, 8193, Limit::Given(1000)),
-        large,
-    );
-    sizes(
-        b"limit_1001",
-        settings(512, 16, 32, 8192, Limit::Given(1001)),
-        large,
-    );
+    sizes(1, 1, 1, 0, Limit::Given(0), small);
+    sizes(0, 1, 1, 0, Limit::Given(0), small);
+    sizes(1, 0, 1, 0, Limit::Given(0), small);
+    sizes(1, 1, 0, 0, Limit::Given(0), small);
+    sizes(1, 1, 0, 0, Limit::Given(0), singles(0));
+}
+
+// The largest sizes, then each too large, and Z' with a row too few and too many.
+fn large_sizes() {
+    let large = four(1, 8);
+    sizes(512, 16, 32, 8192, Limit::Given(1000), large);
+    sizes(512, 16, 32, 8192, Limit::NotGiven, large);
+    sizes(513, 16, 32, 8192, Limit::Given(1000), large);
+    sizes(512, 17, 32, 8192, Limit::Given(1000), large);
+    sizes(512, 16, 31, 8192, Limit::Given(1000), large);
+    sizes(512, 16, 33, 8192, Limit::Given(1000), large);
+    sizes(512, 16, 33, 8192, Limit::Given(1000), four(3, 3));
+    sizes(512, 16, 32, 8193, Limit::Given(1000), large);
+    sizes(512, 16, 32, 8192, Limit::Given(1001), large);
 }
 
 fn put_answer(answer: Answer) {
@@ -321,7 +317,7 @@ fn fitted(deviance: f64, phi: f64, order: usize, converged: bool, iterations: us
     text::end_line();
 }
 
-fn answers() {
+fn refusals() {
     refused(Refusal::OutOfRange);
     refused(Refusal::Lengths);
     refused(Refusal::Work);
@@ -329,6 +325,9 @@ fn answers() {
     refused(Refusal::NotFinite);
     refused(Refusal::LinkForFamily);
     refused(Refusal::NotCarried);
+}
+
+fn ends() {
     unfitted(End::SystemPivot);
     unfitted(End::NormalPivot);
     unfitted(End::NoStep);
@@ -387,6 +386,15 @@ fn sums() {
     sum(most, rest);
 }
 
+fn put_quadrature_rows(n: usize)
+    requires { ⌜ n ≤ 512 ⌝ }
+{
+    put_size(layout::xbeta_row(n));
+    put_size(layout::deviance_row(n));
+    put_size(layout::point_row(n));
+    put_size(layout::mark_row(n));
+}
+
 fn rows(n: usize)
     requires { ⌜ n ≤ 512 ⌝ }
 {
@@ -395,10 +403,7 @@ fn rows(n: usize)
     put_size(layout::second_eta_row(n));
     put_size(layout::mu_row(n));
     put_size(layout::raw_row(n));
-    put_size(layout::xbeta_row(n));
-    put_size(layout::deviance_row(n));
-    put_size(layout::point_row(n));
-    put_size(layout::mark_row(n));
+    put_quadrature_rows(n);
     put_size(layout::weighted_row(n));
     put_size(layout::column_row(n));
     put_size(layout::working_row(n));
@@ -413,6 +418,11 @@ fn put_vectors(p: usize, q: usize)
     put_size(layout::wy_at(p, q));
     put_size(layout::u_at(p, q));
     put_size(layout::b_at(p, q));
+}
+
+fn put_more_vectors(p: usize, q: usize)
+    requires { ⌜ (p ≤ 16) × (q ≤ 32) ⌝ }
+{
     put_size(layout::trial_u_at(p, q));
     put_size(layout::trial_b_at(p, q));
     put_size(layout::point_at(p, q));
@@ -430,6 +440,7 @@ fn matrices(p: usize, q: usize)
     put_size(layout::solved_at(q));
     put_size(layout::root_inverse_at(p, q));
     put_vectors(p, q);
+    put_more_vectors(p, q);
     put_size(layout::matrices_length(p, q));
     text::end_line();
 }
@@ -458,11 +469,16 @@ fn places(n: usize, p: usize, q: usize)
 }
 
 fn main() {
-    codes();
+    families();
+    links();
     limits();
-    shapes();
-    ranges();
-    answers();
+    small_blocks();
+    large_blocks();
+    several_blocks();
+    small_sizes();
+    large_sizes();
+    refusals();
+    ends();
     items();
     sums();
     places(1, 1, 1);

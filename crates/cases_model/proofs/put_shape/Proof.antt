@@ -1,17 +1,8 @@
--- `cases_model::shape` is safe: the blocks are printed only where `shape_ok` said that the shape is good.
+-- `cases_model::put_shape` is safe: the blocks are printed only where `shape_ok` said that the shape is good.
 use mathlib.Core.Path.{sym, _∙_}
 use borrow.Author.Needs.{needs}
-use Rattle.cases_model.proofs.shape.Statement.{statement}
-use Rattle.cases_model.proofs.shape.Tie as tie
-
-slice-aggregate-put-word : tie.Need-slice-aggregate-put-word
-slice-aggregate-put-word c = search needs
-
-put-word-requires : tie.Need-put-word-requires
-put-word-requires c κs = search needs
-
-put-word-requires-2 : tie.Need-put-word-requires-2
-put-word-requires-2 c κs = search needs
+use Rattle.cases_model.proofs.put_shape.Statement.{statement}
+use Rattle.cases_model.proofs.put_shape.Tie as tie
 
 shape-ok-requires : tie.Need-shape-ok-requires
 shape-ok-requires c κs = search needs
@@ -28,13 +19,10 @@ end-line-requires c κs = search needs
 returns : tie.Need-returns
 returns c = search needs
 
-pub shape-spec : {M : Type 1} → statement M
-shape-spec =
+pub put-shape-spec : {M : Type 1} → statement M
+put-shape-spec =
     tie.close
     (tie.spec
-    slice-aggregate-put-word
-    put-word-requires
-    put-word-requires-2
     shape-ok-requires
     put-test-requires
     put-blocks-requires

@@ -1,0 +1,7 @@
+-- Factors of the lower triangle of a matrix, substitution with them, and inverses. Assumes nothing.
+pub mod Triangle
+pub mod Factor
+pub mod Substitution
+pub mod Inverse
+pub mod Transpose
+pub mod Textbook
