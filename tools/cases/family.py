@@ -129,7 +129,7 @@ for y in RESPONSES:
         print("dev", text(y), text(mu), *[text(dev_resid(f, y, mu, w)) for w in WEIGHTS for f in FAMILIES])
 LISTS = [[], [1.0] * 3, [0.5, 3.0, 0.0], [-2.0, NAN, 7.0], [1e-300, 1e300, INF]]
 for dev in [NAN, INF, -INF, 0.0, -0.0, -1.0, 5e-324, 0.1, 0.7, 10.0, 1e308]:
-    print("aic", text(dev), 0, text(dev), 0, text(dev), *[f"0 {text(aic(3, w, dev))}" for w in LISTS], "0", text(aic(0, [], dev)), 2, 2)
+    print("aic", text(dev), *[f"0 {text(aic(3, w, dev))}" for w in LISTS], 2, 0, text(dev), 0, text(dev), 0, text(aic(0, [], dev)), 2)
 print("list", 0, *[text(link_fun("logit", x)) for x in (0.25, 0.5, NAN)])
 print("list", 0, *[text(link_inv("cloglog", x)) for x in (0.25, 0.5, NAN)])
 print("list", 0, *[text(mu_eta("inverse", x)) for x in (0.25, 0.5, NAN)])
@@ -137,10 +137,13 @@ print("list", 0, *[text(variance("binomial", x)) for x in (0.25, 0.5, NAN)])
 print("list", 0, *[text(start("poisson", x)) for x in (0.25, 0.5, NAN)])
 print("list", 0, *[text(dev_resid("binomial", x, 0.4, w)) for x, w in ((0.25, 2.0), (0.5, 3.0), (NAN, 4.0))])
 print("list", 0, *[text(dev_resid("binomial", x, 0.4, 1.0)) for x in (0.25, 0.5, NAN)])
-print("refused", *[2] * 9, *map(text, (9.0, 8.0, 7.0)))
-print("empty", *[0] * 6)
-print("parse", *map(parse, [b"logit", b"probit", b"cloglog", b"log", b"identity", b"inverse", b"sqrt", b" \t\n\v\f\rLoGiT \r\n", b"CLOGLOG", b"Identity\0",
-                            b"", b"   ", b"logi", b"logits", b"log it", b"l\xf6g", b"\xa0log", b"log\x85", b"\x08log", b"log\x0e", b"\xc3\x89log", b"SQRT"]))
+for count in (3, 3, 2, 1, 1, 1, 1):
+    print("refused", *[2] * count, *map(text, (9.0, 8.0, 7.0)))
+print("empty 0 0 0")
+print("empty 0 0 0")
+for words in [[name.encode() for name in LINKS], [b" \t\n\v\f\rLoGiT \r\n", b"CLOGLOG", b"SQRT", b"Identity\0", b"\x08log", b"log\x0e"],
+              [b"", b"   ", b"logi", b"logits", b"log it"], [b"l\xf6g", b"\xa0log", b"log\x85", b"\xc3\x89log"]]:
+    print("parse", *map(parse, words))
 for name in LINKS:
     print("name", len(name), *(name.encode() + bytes(8 - len(name))))
 for i, valid in enumerate(VALID):

@@ -1,7 +1,8 @@
-// Runs links, families, list functions and link names on special and ordinary values and prints every bit, one line a call.
+// Runs the links, families, list functions and link names on special and ordinary values and prints every bit, one line a call.
 use family::CarriedFamily;
 use family::CarriedLink;
-use family::ListAnswer;
+use family_lists::AicAnswer;
+use family_lists::ListAnswer;
 use model::Family;
 use model::Link;
 ghost use Prim.Native.Nat.{_<_};
@@ -225,43 +226,45 @@ fn responses() {
 
 // The number of an answer, and its value where it has one.
 fn put_aic(family: CarriedFamily, y: &[f64], mu: &[f64], wt: &[f64], dev: f64) {
-    match family::aic(family, y, mu, wt, dev) {
-        family::AicAnswer::Value(x) => {
+    match family_lists::aic(family, y, mu, wt, dev) {
+        AicAnswer::Value(x) => {
             text::put_count(0);
             text::put_double(x);
         }
-        family::AicAnswer::LengthsDiffer => text::put_count(2),
+        AicAnswer::LengthsDiffer => text::put_count(2),
     }
 }
 
-// Three responses with absent weights, ones, and weights of which some add no logarithm; no responses; lists that differ in length.
+// The Gaussian AIC of three responses with these weights.
+fn put_gaussian(wt: &[f64], dev: f64) {
+    put_aic(
+        CarriedFamily::Gaussian,
+        &[1.0, 2.0, 3.0],
+        &[1.5, 1.5, 2.5],
+        wt,
+        dev,
+    );
+}
+
+// Absent weights, ones, and weights of which some add no logarithm; last too few.
+fn gaussian_aics(dev: f64) {
+    put_gaussian(&[], dev);
+    put_gaussian(&[1.0, 1.0, 1.0], dev);
+    put_gaussian(&[0.5, 3.0, 0.0], dev);
+    put_gaussian(&[-2.0, 0.0 / 0.0, 7.0], dev);
+    put_gaussian(&[1e-300, 1e300, 1.0 / 0.0], dev);
+    put_gaussian(&[1.0, 1.0], dev);
+}
+
+// The other families, no responses, and too few means.
 fn aic_line(dev: f64) {
-    let y = [1.0, 2.0, 3.0];
-    let mu = [1.5, 1.5, 2.5];
     text::put_word(b"aic");
     text::put_double(dev);
-    put_aic(CarriedFamily::Binomial, &y, &mu, &y, dev);
-    put_aic(CarriedFamily::Poisson, &y, &mu, &[], dev);
-    put_aic(CarriedFamily::Gaussian, &y, &mu, &[], dev);
-    put_aic(CarriedFamily::Gaussian, &y, &mu, &[1.0, 1.0, 1.0], dev);
-    put_aic(CarriedFamily::Gaussian, &y, &mu, &[0.5, 3.0, 0.0], dev);
-    put_aic(
-        CarriedFamily::Gaussian,
-        &y,
-        &mu,
-        &[-2.0, 0.0 / 0.0, 7.0],
-        dev,
-    );
-    put_aic(
-        CarriedFamily::Gaussian,
-        &y,
-        &mu,
-        &[1e-300, 1e300, 1.0 / 0.0],
-        dev,
-    );
+    gaussian_aics(dev);
+    put_aic(CarriedFamily::Binomial, &[1.0], &[1.5], &[2.0], dev);
+    put_aic(CarriedFamily::Poisson, &[1.0], &[1.5], &[], dev);
     put_aic(CarriedFamily::Gaussian, &[], &[], &[], dev);
-    put_aic(CarriedFamily::Gaussian, &y, &mu, &[1.0, 1.0], dev);
-    put_aic(CarriedFamily::Poisson, &y, &[1.0, 1.0], &[], dev);
+    put_aic(CarriedFamily::Poisson, &[1.0, 2.0], &[1.0], &[], dev);
     text::end_line();
 }
 
@@ -280,7 +283,7 @@ fn aics() {
 }
 
 fn put_answer(answer: ListAnswer) {
-    text::put_count(family::list_number(answer) as u64);
+    text::put_count(family_lists::list_number(answer) as u64);
 }
 
 fn list_line(answer: ListAnswer, a: f64, b: f64, c: f64) {
@@ -292,63 +295,97 @@ fn list_line(answer: ListAnswer, a: f64, b: f64, c: f64) {
     text::end_line();
 }
 
-// What each list function writes.
-fn lists() {
+// What the list functions of a link write.
+fn link_lists() {
+    let x = [0.25, 0.5, 0.0 / 0.0];
+    let mut out = [9.0, 8.0, 7.0];
+    let fun = family_lists::link_fun_list(CarriedLink::Logit, &x, &mut out);
+    list_line(fun, out[0], out[1], out[2]);
+    let inv = family_lists::link_inv_list(CarriedLink::Cloglog, &x, &mut out);
+    list_line(inv, out[0], out[1], out[2]);
+    let slope = family_lists::mu_eta_list(CarriedLink::Inverse, &x, &mut out);
+    list_line(slope, out[0], out[1], out[2]);
+}
+
+// What those of a family write.
+fn family_lines() {
+    let x = [0.25, 0.5, 0.0 / 0.0];
+    let mut out = [9.0, 8.0, 7.0];
+    let spread = family_lists::variance_list(CarriedFamily::Binomial, &x, &mut out);
+    list_line(spread, out[0], out[1], out[2]);
+    let start = family_lists::initialize_mu_list(CarriedFamily::Poisson, &x, &mut out);
+    list_line(start, out[0], out[1], out[2]);
+}
+
+// Deviances with these weights, or without any.
+fn deviance_line(wt: &[f64]) {
     let x = [0.25, 0.5, 0.0 / 0.0];
     let mu = [0.4, 0.4, 0.4];
     let mut out = [9.0, 8.0, 7.0];
-    let fun = family::link_fun_list(CarriedLink::Logit, &x, &mut out);
-    list_line(fun, out[0], out[1], out[2]);
-    let inv = family::link_inv_list(CarriedLink::Cloglog, &x, &mut out);
-    list_line(inv, out[0], out[1], out[2]);
-    let slope = family::mu_eta_list(CarriedLink::Inverse, &x, &mut out);
-    list_line(slope, out[0], out[1], out[2]);
-    let spread = family::variance_list(CarriedFamily::Binomial, &x, &mut out);
-    list_line(spread, out[0], out[1], out[2]);
-    let start = family::initialize_mu_list(CarriedFamily::Poisson, &x, &mut out);
-    list_line(start, out[0], out[1], out[2]);
-    let weighted = family::dev_resid_list(
-        CarriedFamily::Binomial,
-        &x,
-        &mu,
-        &[2.0, 3.0, 4.0],
-        &mut out,
-    );
-    list_line(weighted, out[0], out[1], out[2]);
-    let plain = family::dev_resid_list(CarriedFamily::Binomial, &x, &mu, &[], &mut out);
-    list_line(plain, out[0], out[1], out[2]);
+    let answer = family_lists::dev_resid_list(CarriedFamily::Binomial, &x, &mu, wt, &mut out);
+    list_line(answer, out[0], out[1], out[2]);
 }
 
 // Lists that differ in length: number 2, and the output as it was.
-fn refusals() {
-    let x = [0.25, 0.5];
-    let y = [0.25, 0.5, 0.75];
+fn refused_links(x: &[f64]) {
     let mut out = [9.0, 8.0, 7.0];
     text::put_word(b"refused");
-    put_answer(family::link_fun_list(CarriedLink::Logit, &x, &mut out));
-    put_answer(family::link_inv_list(CarriedLink::Log, &x, &mut out));
-    put_answer(family::mu_eta_list(CarriedLink::Sqrt, &[], &mut out));
-    put_answer(family::variance_list(CarriedFamily::Poisson, &x, &mut out));
-    put_answer(family::initialize_mu_list(CarriedFamily::Gaussian, &x, &mut out));
-    put_answer(family::dev_resid_list(CarriedFamily::Gaussian, &x, &x, &x, &mut out));
-    put_answer(family::dev_resid_list(CarriedFamily::Gaussian, &y, &x, &y, &mut out));
-    put_answer(family::dev_resid_list(CarriedFamily::Gaussian, &y, &y, &x, &mut out));
-    put_answer(family::dev_resid_list(CarriedFamily::Gaussian, &[], &[], &x, &mut out));
+    put_answer(family_lists::link_fun_list(CarriedLink::Logit, x, &mut out));
+    put_answer(family_lists::link_inv_list(CarriedLink::Log, x, &mut out));
+    put_answer(family_lists::mu_eta_list(CarriedLink::Sqrt, x, &mut out));
     text::put_double(out[0]);
     text::put_double(out[1]);
     text::put_double(out[2]);
     text::end_line();
 }
 
+fn refused_families(x: &[f64]) {
+    let mut out = [9.0, 8.0, 7.0];
+    text::put_word(b"refused");
+    put_answer(family_lists::variance_list(CarriedFamily::Poisson, x, &mut out));
+    put_answer(family_lists::initialize_mu_list(CarriedFamily::Gaussian, x, &mut out));
+    text::put_double(out[0]);
+    text::put_double(out[1]);
+    text::put_double(out[2]);
+    text::end_line();
+}
+
+fn refused_deviances(y: &[f64], mu: &[f64], wt: &[f64]) {
+    let mut out = [9.0, 8.0, 7.0];
+    text::put_word(b"refused");
+    put_answer(family_lists::dev_resid_list(CarriedFamily::Gaussian, y, mu, wt, &mut out));
+    text::put_double(out[0]);
+    text::put_double(out[1]);
+    text::put_double(out[2]);
+    text::end_line();
+}
+
+fn refusals() {
+    let x = [0.25, 0.5];
+    let y = [0.25, 0.5, 0.75];
+    refused_links(&x);
+    refused_links(&[]);
+    refused_families(&x);
+    refused_deviances(&x, &x, &x);
+    refused_deviances(&y, &x, &y);
+    refused_deviances(&y, &y, &x);
+    refused_deviances(&[], &[], &x);
+}
+
 // Empty lists are accepted.
-fn empties() {
+fn empty_links() {
     text::put_word(b"empty");
-    put_answer(family::link_fun_list(CarriedLink::Logit, &[], &mut []));
-    put_answer(family::link_inv_list(CarriedLink::Logit, &[], &mut []));
-    put_answer(family::mu_eta_list(CarriedLink::Logit, &[], &mut []));
-    put_answer(family::variance_list(CarriedFamily::Poisson, &[], &mut []));
-    put_answer(family::initialize_mu_list(CarriedFamily::Poisson, &[], &mut []));
-    put_answer(family::dev_resid_list(CarriedFamily::Poisson, &[], &[], &[], &mut []));
+    put_answer(family_lists::link_fun_list(CarriedLink::Logit, &[], &mut []));
+    put_answer(family_lists::link_inv_list(CarriedLink::Logit, &[], &mut []));
+    put_answer(family_lists::mu_eta_list(CarriedLink::Logit, &[], &mut []));
+    text::end_line();
+}
+
+fn empty_families() {
+    text::put_word(b"empty");
+    put_answer(family_lists::variance_list(CarriedFamily::Poisson, &[], &mut []));
+    put_answer(family_lists::initialize_mu_list(CarriedFamily::Poisson, &[], &mut []));
+    put_answer(family_lists::dev_resid_list(CarriedFamily::Poisson, &[], &[], &[], &mut []));
     text::end_line();
 }
 
@@ -360,7 +397,8 @@ fn put_parsed(s: &[u8]) {
     }
 }
 
-fn parses() {
+// The names as they are.
+fn plain_names() {
     text::put_word(b"parse");
     put_parsed(b"logit");
     put_parsed(b"probit");
@@ -369,21 +407,39 @@ fn parses() {
     put_parsed(b"identity");
     put_parsed(b"inverse");
     put_parsed(b"sqrt");
+    text::end_line();
+}
+
+// Capital letters and blanks; a zero byte is no blank.
+fn trimmed_names() {
+    text::put_word(b"parse");
     put_parsed(b" \t\n\x0b\x0c\rLoGiT \r\n");
     put_parsed(b"CLOGLOG");
+    put_parsed(b"SQRT");
     put_parsed(b"Identity\0");
+    put_parsed(b"\x08log");
+    put_parsed(b"log\x0e");
+    text::end_line();
+}
+
+// Names of no link: too short, too long, with a blank inside, none at all.
+fn no_names() {
+    text::put_word(b"parse");
     put_parsed(b"");
     put_parsed(b"   ");
     put_parsed(b"logi");
     put_parsed(b"logits");
     put_parsed(b"log it");
+    text::end_line();
+}
+
+// Bytes outside ASCII.
+fn other_bytes() {
+    text::put_word(b"parse");
     put_parsed(b"l\xf6g");
     put_parsed(b"\xa0log");
     put_parsed(b"log\x85");
-    put_parsed(b"\x08log");
-    put_parsed(b"log\x0e");
     put_parsed(b"\xc3\x89log");
-    put_parsed(b"SQRT");
     text::end_line();
 }
 
@@ -465,10 +521,17 @@ fn main() {
     elements();
     responses();
     aics();
-    lists();
+    link_lists();
+    family_lines();
+    deviance_line(&[2.0, 3.0, 4.0]);
+    deviance_line(&[]);
     refusals();
-    empties();
-    parses();
+    empty_links();
+    empty_families();
+    plain_names();
+    trimmed_names();
+    no_names();
+    other_bytes();
     link_names();
     valid_line(Family::Binomial);
     valid_line(Family::Poisson);

@@ -1,11 +1,9 @@
--- Cases of a test: of a double that is not finite, of a link by its place, of an entry by its index. Assumes nothing.
+-- Cases of a test: of a double that is not finite, and of a link by its place. Assumes nothing.
 use mathlib.Core.Path.{_≡_, refl, sym, ap, _∙_}
 use mathlib.Core.Bool.{Bool, true, false, not}
 use mathlib.Core.List.{List, [], _∷_}
 use mathlib.Core.Logic.{⊎-elim}
-use Prim.Native.Nat.{ℕ, zero, suc, _<_}
-use native.Mathlib.Nat.{not-suc-le-zero, le-of-suc-le-suc}
-use lib.ListN.{length, getD}
+use Prim.Native.Nat.{ℕ}
 use lib.Ieee.{Float, nan, inf, fin, isNan}
 use types.Run.{OneOf}
 use denote.Enum.Declared.{tagOf}
@@ -31,12 +29,6 @@ unfolding finite infinite isNan
 infinite-or-nan nan h = refl
 infinite-or-nan (inf s) h = refl
 infinite-or-nan (fin s m e) h = absurd (ff (sym h))
-
--- ---- within a list the default is not looked at
-pub entry-within : (xs : List Float) (i : ℕ) (d e : Float) → i < length xs → getD xs i d ≡ getD xs i e
-entry-within [] i d e h = absurd (not-suc-le-zero h)
-entry-within (x ∷ xs) zero d e h = refl
-entry-within (x ∷ xs) (suc i) d e h = entry-within xs i d e (le-of-suc-le-suc h)
 
 -- ---- a link that stands at one of some places is valid, or not, as the links at all these places are
 tag-is-code : (l : Link) → tagOf link.the-type l ≡ linkCode l

@@ -1,16 +1,14 @@
 -- The floors: which derivatives and variances are kept off zero, and which are not. Document 01, module 3. Assumes nothing.
-use mathlib.Core.Path.{_≡_, refl, sym, ap, _∙_}
+use mathlib.Core.Path.{_≡_, refl, sym, ap}
 use mathlib.Core.Bool.{true, false}
-use lib.Ieee.{Float, nan, inf, fin, neg, add, sub, mul, lt, eq, le, isNan, ofBits}
+use lib.Ieee.{Float, nan, inf, neg, add, sub, mul, lt, eq, le, isNan, ofBits}
 use Rattle.base.specs.Number.{_⊖_, _⊗_, bits, zeroF, oneF, epsF, maxF, clampF}
-use Rattle.base.proofs.Doubles.{by-test, not-both}
-use Rattle.base.proofs.NumberFacts.{clamp-of-nan}
 use Rattle.elementary.specs.Exp.{expOf}
 use Rattle.elementary.proofs.ExpFacts.{exp-nan, exp-minus-inf, exp-never-below-zero}
-use Rattle.family.specs.Link.{clampE, linkFun, muEta}
+use Rattle.family.specs.Link.{clampE, muEta}
 use Rattle.family.specs.Family.{varianceOf}
-use Rattle.family.specs.declared.carried.CarriedLink.the-variants.{Logit, Cloglog, Log, Identity, Inverse, Sqrt}
-use Rattle.family.specs.declared.carried.CarriedFamily.the-variants.{Binomial, Poisson, Gaussian}
+use Rattle.family.specs.declared.carried.CarriedLink.the-variants.{Logit, Cloglog, Log, Inverse, Sqrt}
+use Rattle.family.specs.declared.carried.CarriedFamily.the-variants.{Binomial, Poisson}
 use Rattle.family.proofs.Order.{max-from, le-turned, clamp-again}
 
 floor : (x : Float) → le epsF (maxF x epsF) ≡ true

@@ -1,7 +1,7 @@
 -- The means of logit and cloglog lie between E and 1 - E for every eta but NaN. Document 01, module 3. Assumes nothing.
 use mathlib.Core.Path.{_≡_, refl, ap}
 use mathlib.Core.Bool.{true, false}
-use lib.Ieee.{Float, nan, neg, add, sub, lt, eq, le, isNan, ofBits}
+use lib.Ieee.{Float, neg, add, sub, lt, eq, le, isNan, ofBits}
 use Rattle.base.specs.Number.{_⊖_, oneF, epsF}
 use Rattle.base.proofs.NumberFacts.{clamp-from, clamp-to}
 use Rattle.elementary.specs.Exp.{expOf}

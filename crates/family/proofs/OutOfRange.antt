@@ -1,8 +1,8 @@
 -- A response outside its family's range has the deviance NaN: binomial outside 0 to 1 or NaN, Poisson below 0. Document 01, module 3. Assumes nothing.
-use mathlib.Core.Path.{_≡_, refl, sym, ap, _∙_}
+use mathlib.Core.Path.{_≡_, refl}
 use mathlib.Core.Bool.{Bool, true, false, _&&_}
-use lib.Ieee.{Float, nan, neg, add, sub, lt, eq, le, isNan, ofBits}
-use Rattle.base.specs.Number.{_⊗_, zeroF, oneF, epsF, maxF}
+use lib.Ieee.{Float, nan, neg, add, sub, lt, eq, le, ofBits}
+use Rattle.base.specs.Number.{_⊗_, zeroF, oneF}
 use Rattle.base.specs.Sum.{addWhere}
 use Rattle.elementary.specs.Parts.{twoF}
 use Rattle.family.specs.Family.{proportion, poissonTerm, devResid}

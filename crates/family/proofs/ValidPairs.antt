@@ -4,7 +4,6 @@ use mathlib.Core.Bool.{Bool, true, false}
 use mathlib.Core.List.{List, [], _∷_, map}
 use Rattle.model.specs.declared.names.Family.{Family}
 use Rattle.model.specs.declared.names.Family.the-variants.{Binomial, Poisson, Gaussian, Gamma}
-use Rattle.model.specs.declared.names.Link.{Link}
 use Rattle.model.specs.declared.names.Link.the-variants.{Logit, Probit, Cloglog, Log, Identity, Inverse, Sqrt}
 use Rattle.family.specs.Carried.{linksFor, among, validFor, defaultFor}
 

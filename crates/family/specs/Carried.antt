@@ -1,5 +1,5 @@
 -- What of the links and families is carried, each family's default link, and which pairs are valid. Document 01, "What the port carries"; `Link` of family.rs. Assumes nothing.
-use mathlib.Core.Bool.{Bool, true, false, _||_}
+use mathlib.Core.Bool.{Bool, false, _||_}
 use mathlib.Core.List.{List, [], _∷_}
 use Prim.Native.Nat.{ℕ}
 use lib.Dec.{eqb}

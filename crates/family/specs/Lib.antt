@@ -1,6 +1,4 @@
--- Links and families: what is carried, their formulas, the AIC and the list functions. Assumes nothing.
+-- Links and families: what is carried, and their formulas. Assumes nothing.
 pub mod Carried
 pub mod Link
 pub mod Family
-pub mod Aic
-pub mod Lists

@@ -1,9 +1,7 @@
-// Links and families, one number at a time and over lent lists, and what of them is carried.
+// The links and families for one number, and what of them is carried.
 mod carried;
 mod families;
-mod fitted;
 mod links;
-mod lists;
 
 pub use carried::CarriedFamily;
 pub use carried::CarriedLink;
@@ -17,18 +15,6 @@ pub use families::dev_resid;
 pub use families::initialize_mu;
 pub use families::uses_dispersion;
 pub use families::variance;
-pub use fitted::AicAnswer;
-pub use fitted::aic;
-pub use fitted::aic_of;
 pub use links::link_fun;
 pub use links::link_inv;
 pub use links::mu_eta;
-pub use lists::ListAnswer;
-pub use lists::dev_resid_list;
-pub use lists::initialize_mu_list;
-pub use lists::link_fun_list;
-pub use lists::link_inv_list;
-pub use lists::list_number;
-pub use lists::mu_eta_list;
-pub use lists::variance_list;
-pub use lists::weight_at;

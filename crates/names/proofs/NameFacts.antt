@@ -1,7 +1,7 @@
 -- What document 01 fixes of the names: which bytes are a link's name, and that nothing else is. Assumes nothing.
 use mathlib.Core.Path.{_≡_, refl, sym, ap, _∙_}
 use mathlib.Core.Bool.{Bool, true, false, _&&_, _||_, cond, true≢false}
-use mathlib.Core.List.{List, [], _∷_, _++_, map, reverse, reverseAux, reverse-reverse}
+use mathlib.Core.List.{List, [], _∷_, map, reverse, reverseAux, reverse-reverse}
 use mathlib.Core.Logic.{⊎-elim}
 use Prim.Native.Nat.{ℕ, _+_, _≤_, _<_}
 use native.Mathlib.Omega.{arith}
@@ -13,8 +13,7 @@ use Rattle.base.proofs.Doubles.{ff}
 use Rattle.base.proofs.Sums.{and-true, lt-or-ge}
 use Rattle.model.specs.declared.names.Link.{Link}
 use Rattle.model.specs.declared.names.Link.the-variants.{Logit, Probit, Cloglog, Log, Identity, Inverse, Sqrt}
-use Rattle.model.specs.declared.names.LinkFound.{LinkFound}
-use Rattle.model.specs.declared.names.LinkFound.the-variants.{Found, NoSuch}
+use Rattle.model.specs.declared.names.LinkFound.the-variants.{Found}
 use Rattle.names.specs.Names.{isBlank, trimFront, trimEnd, lowerOf, nameOf, sameBytes, namedAmong, allLinks, parseOf, nameBytes}
 
 -- ---- `parse` of `name` gives the link back

@@ -1,0 +1,60 @@
+-- The families' AIC over lists. Document 01, module 3; `aic` of family.rs. Assumes nothing.
+use mathlib.Core.List.{List}
+use mathlib.Core.Bool.{Bool, false, not, _&&_, _||_, cond}
+use Prim.Native.Nat.{ℕ}
+use lib.Dec.{eqb}
+use lib.ListN.{length}
+use lib.Ieee.{Float, inf, lt, le}
+use Rattle.base.specs.Number.{_⊕_, _⊖_, _⊗_, _⊘_, bits, zeroF, oneF, finite}
+use Rattle.base.specs.Sum.{_!_, sumWhere}
+use Rattle.elementary.specs.Parts.{twoF, numberOf}
+use Rattle.elementary.specs.Log.{lnOf}
+use Rattle.family.specs.declared.carried.CarriedFamily.{CarriedFamily}
+use Rattle.family.specs.declared.carried.CarriedFamily.the-variants.{Binomial, Poisson, Gaussian}
+use Rattle.family_lists.specs.declared.aics.AicAnswer.{AicAnswer}
+use Rattle.family_lists.specs.declared.aics.AicAnswer.the-variants.{Value, LengthsDiffer}
+
+-- π
+abbrev pub piF : Float
+piF = bits 0x4009_21fb_5444_2d18
+
+-- weight i is above zero
+abbrev pub aboveZeroAt : List Float → ℕ → Bool
+aboveZeroAt w i = lt zeroF (w ! i)
+
+-- the logarithm of weight i
+abbrev pub lnAt : List Float → ℕ → Float
+lnAt w i = lnOf (w ! i)
+
+-- the sum of the logarithms of the weights that are above zero
+unfoldable pub logWeights : List Float → Float
+logWeights w = sumWhere (length w) (aboveZeroAt w) (lnAt w)
+
+-- n (ln (2π dev / n) + 1) + 2 less the logarithms of the weights
+unfoldable pub gaussianTerm : ℕ → List Float → Float → Float
+gaussianTerm n w dev =
+    let c = numberOf n in
+    c ⊗ (lnOf (twoF ⊗ piF ⊗ dev ⊘ c) ⊕ oneF) ⊕ twoF ⊖ logWeights w
+
+-- +infinity without responses, and where the deviance sum is not above zero or not finite
+unfoldable pub gaussianAic : ℕ → List Float → Float → Float
+gaussianAic n w dev = cond (eqb n 0 || not (finite dev) || le dev zeroF) (inf false) (gaussianTerm n w dev)
+
+-- `aic` of responses y with means mu, weights w and the deviance sum dev; that of binomial and Poisson is the deviance itself
+unfoldable pub aicOf : CarriedFamily → List Float → List Float → List Float → Float → Float
+aicOf Binomial y mu w dev = dev
+aicOf Poisson y mu w dev = dev
+aicOf Gaussian y mu w dev = gaussianAic (length y) w dev
+
+-- there are as many means as responses, and as many weights or none, where they are absent
+unfoldable pub lengthsAgree : ℕ → ℕ → ℕ → Bool
+lengthsAgree n mu w = eqb mu n && (eqb w 0 || eqb w n)
+
+-- the list function `aic`
+unfoldable pub aicAnswer : CarriedFamily → List Float → List Float → List Float → Float → AicAnswer
+aicAnswer f y mu w dev = cond (lengthsAgree (length y) (length mu) (length w)) (Value (aicOf f y mu w dev)) LengthsDiffer
+
+-- document 01's number of each answer
+abbrev pub aicNumber : AicAnswer → ℕ
+aicNumber (Value x) = 0
+aicNumber LengthsDiffer = 2

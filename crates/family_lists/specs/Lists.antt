@@ -1,0 +1,36 @@
+-- The list functions: each entry of the output by the rule of one number. Document 01, module 3, and number 2 of "Numbers of an answer". Assumes nothing.
+use mathlib.Core.Path.{_≡_}
+use mathlib.Core.List.{List}
+use mathlib.Core.Bool.{Bool, cond}
+use Prim.Native.Nat.{ℕ}
+use lib.ListN.{getD}
+use lib.Ieee.{Float}
+use Rattle.base.specs.Number.{oneF}
+use Rattle.base.specs.Sum.{_!_}
+use Rattle.base.specs.List.{fillTo}
+use Rattle.family.specs.Family.{devResid}
+use Rattle.family.specs.declared.carried.CarriedFamily.{CarriedFamily}
+use Rattle.family_lists.specs.declared.lists.ListAnswer.{ListAnswer}
+use Rattle.family_lists.specs.declared.lists.ListAnswer.the-variants.{Written, LengthsDiffer}
+
+-- document 01's number of each answer: 2 where the lists differ in length
+abbrev pub listNumber : ListAnswer → ℕ
+listNumber Written = 0
+listNumber LengthsDiffer = 2
+
+-- what a list function of n entries answers and leaves in its output: f 0 .. f (n - 1), and number 2 with nothing touched where the lengths do not agree
+pub record Listed (agree : Bool) (n : ℕ) (f : ℕ → Float) (before after : List Float) (r : ListAnswer) : Type 0 where
+  pub number : listNumber r ≡ cond agree 0 2
+  pub output : after ≡ cond agree (fillTo n f before) before
+
+-- f of entry i
+unfoldable pub each : (Float → Float) → List Float → ℕ → Float
+each f xs i = f (xs ! i)
+
+-- weight i; where the weights are absent it is 1
+abbrev pub weightAt : List Float → ℕ → Float
+weightAt w i = getD w i oneF
+
+-- the deviance of response i
+unfoldable pub devAt : CarriedFamily → List Float → List Float → List Float → ℕ → Float
+devAt f y mu w i = devResid f (y ! i) (mu ! i) (weightAt w i)
