@@ -26,7 +26,7 @@ for f in files:
     out = s
     for m in lines:
         names = [n.strip() for n in m.group(1).split(",") if n.strip()]
-        bad = [n for n in names if n != "[]" and not all(p in body for p in parts(n.split(" as ")[-1]))]
+        bad = [n for n in names if n != "[]" and n not in body and not all(p in body for p in parts(n.split(" as ")[-1]))]
         if bad:
             print(f"{f}: {', '.join(bad)}")
             kept = [n for n in names if n not in bad]
