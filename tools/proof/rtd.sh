@@ -6,6 +6,6 @@ RT_CUT=0 rt dev "$1" --allow-holes 2>&1 |
   awk '/^help: write/{skip=1;next} skip&&/^    |^ *$/{next} {skip=0;print}' |
   awk '/\(computed from/{skip=1;next} skip&&/^      /{next} {skip=0;print}' |
   sed "s#$(pwd)/crates/##g; s/reads\.Pre reads\.Post //g; s/borrow\.Table\.Row\.get/RG/g; s/lib\.Ieee\.//g; s/ Inv-loop μ-loop//g; s/[a-z0-9-]*-reads\.Asked, [a-z0-9-]*-reads\.Learnt//g" |
-  grep -v '^  was found\|^note:\|has-holes\|^logic \|^library\|^  = \|It read \|: no holes' |
+  grep -v '^  was found\|^note:\|has-holes\|^logic \|^library\|^  = \|: no holes' |
   grep -v 'borrow\.Table\.Rows\.sc-here\|mathlib\.Core\.List\.List ((borrow\|⊢ Type 0\|⊢ ℕ$' |
   cut -c1-"${2:-300}"
