@@ -11,7 +11,7 @@ use lib.Seq.{getD-set-same, getD-set-other, ext-getD}
 use lib.Ieee.{Float, nan}
 use Rattle.base.specs.Sum.{_!_}
 use Rattle.base.specs.List.{build, matrix, at, fillTo, fillAt, gridTo}
-use Rattle.base.proofs.Sums.{last-or-before}
+use Rattle.base.proofs.Sums.{lt-or-ge, last-or-before}
 
 -- ---- built lists
 pub build-length : (f : ℕ → Float) (n : ℕ) → length (build f n) ≡ n
@@ -74,6 +74,12 @@ fillat-in off (suc n) f b h i l =
     (λ m. getD-set-other (fillAt off n f b) (off + n) (off + i) (f n) nan (λ e. omega arith) ∙ fillat-in off n f b (omega arith) i m)
     (last-or-before l)
 
+-- rules that agree on the n entries fill alike
+pub fillat-cong : (off n : ℕ) (f g : ℕ → Float) (b : List Float) → ((i : ℕ) → i < n → f i ≡ g i) → fillAt off n f b ≡ fillAt off n g b
+unfolding fillAt
+fillat-cong off zero f g b h = refl
+fillat-cong off (suc n) f g b h = rw (fillat-cong off n f g b (λ i l. h i (omega arith)), h n (omega arith)) refl
+
 -- ---- filled from the front: the same from 0 on
 fill-at : (n : ℕ) (f : ℕ → Float) (b : List Float) → fillTo n f b ≡ fillAt 0 n f b
 unfolding fillTo fillAt
@@ -101,6 +107,19 @@ pub fill-in : (n : ℕ) (f : ℕ → Float) (b : List Float) → n ≤ length b 
 fill-in n f b h i l =
     let e : fillAt 0 n f b ! (0 + i) ≡ f i = fillat-in 0 n f b (omega arith) i l in
     rw (fill-at n f b) (rw (zero-add i) at e)
+
+-- a list with the rule's entries below n and b's behind is b filled
+pub fill-is : (n : ℕ) (f : ℕ → Float) (b w : List Float) → n ≤ length b → length w ≡ length b → ((i : ℕ) → i < n → w ! i ≡ f i) → ((i : ℕ) → n ≤ i → w ! i ≡ b ! i) → w ≡ fillTo n f b
+fill-is n f b w h e inside past =
+    ext-getD nan w (fillTo n f b) (e ∙ sym (length-fill n f b))
+    (λ i l. ⊎-elim (λ (m : i < n). inside i m ∙ sym (fill-in n f b h i m)) (λ (m : n ≤ i). past i m ∙ sym (fill-past n f b i m)) (lt-or-ge i n))
+
+-- what was filled before does not matter
+pub fill-over : (n : ℕ) (f g : ℕ → Float) (b : List Float) → n ≤ length b → fillTo n f (fillTo n g b) ≡ fillTo n f b
+fill-over n f g b h =
+    fill-is n f b (fillTo n f (fillTo n g b)) h (length-fill n f (fillTo n g b) ∙ length-fill n g b)
+    (λ i l. fill-in n f (fillTo n g b) (omega (arith, length-fill n g b)) i l)
+    (λ i l. fill-past n f (fillTo n g b) i l ∙ fill-past n g b i l)
 
 -- a slice that is filled whole
 pub fill-build : (n : ℕ) (f : ℕ → Float) (b : List Float) → length b ≡ n → fillTo n f b ≡ build f n

@@ -2,7 +2,7 @@
 use mathlib.Core.Path.{_≡_, refl, sym, ap, _∙_}
 use mathlib.Core.List.{List}
 use mathlib.Core.Logic.{⊎-elim}
-use mathlib.Core.Bool.{Bool, true, false, _&&_, _||_}
+use mathlib.Core.Bool.{Bool, true, false, _&&_, _||_, cond}
 use Prim.Native.Nat.{ℕ, zero, suc, _+_, _-_, _<_, _≤_}
 use native.Mathlib.Nat.{add-zero, le-refl, not-suc-le-zero, eq-or-lt-of-le}
 use native.Mathlib.Omega.{arith}
@@ -15,7 +15,7 @@ use Rattle.base.specs.Sparse.{notFalling, goodStarts, columnFits, goodCo
 use Rattle.base.proofs.Sums.{lt-or-ge, last-or-before, from-none, from-step, where-none, where-take, where-gap, all-at, any-at, any-none, and-true}
 
 -- the last number that passes the test is found
-find-last : (t : ℕ → Bool) (n k : ℕ) → k < n → t k ≡ true → ((j : ℕ) → k < j → j < n → t j ≡ false) → findTo n t ≡ k
+pub find-last : (t : ℕ → Bool) (n k : ℕ) → k < n → t k ≡ true → ((j : ℕ) → k < j → j < n → t j ≡ false) → findTo n t ≡ k
 unfolding findTo
 find-last t zero k l h f = absurd (not-suc-le-zero l)
 find-last t (suc n) k l h f =
@@ -23,6 +23,36 @@ find-last t (suc n) k l h f =
     (λ (q : k ≡ n). let h' : t n ≡ true = rw q at h in rw h' (sym q))
     (λ (m : k < n). rw (f n m (omega arith)) (find-last t n k m h (λ j a c. f j a (omega arith))))
     (last-or-before l)
+
+-- what holds of each of two numbers where it is picked holds of the one picked
+picked : (P : ℕ → Type 0) (b : Bool) (x y : ℕ) → (b ≡ true → P x) → (b ≡ false → P y) → P (cond b x y)
+picked P true x y f g = f refl
+picked P false x y f g = g refl
+
+-- what is found passes the test, where the first number does
+pub find-holds : (t : ℕ → Bool) (n : ℕ) → t 0 ≡ true → t (findTo n t) ≡ true
+unfolding findTo
+find-holds t zero h = h
+find-holds t (suc n) h = picked (λ k. t k ≡ true) (t n) n (findTo n t) (λ e. e) (λ e. find-holds t n h)
+
+-- and no larger number does
+pub find-past : (t : ℕ → Bool) (n k : ℕ) → findTo n t < k → k < n → t k ≡ false
+unfolding findTo
+find-past t zero k l m = absurd (not-suc-le-zero m)
+find-past t (suc n) k l m =
+    picked (λ j. j < k → t k ≡ false) (t n) n (findTo n t) (λ e g. absurd (omega arith))
+    (λ e g. ⊎-elim (λ (q : k ≡ n). rw q e) (λ (h : k < n). find-past t n k g h) (last-or-before m)) l
+
+find-most : (t : ℕ → Bool) (n : ℕ) → findTo n t ≤ n
+unfolding findTo
+find-most t zero = omega arith
+find-most t (suc n) = picked (λ k. k ≤ suc n) (t n) n (findTo n t) (λ e. omega arith) (λ e. omega (arith, find-most t n))
+
+-- it is one of the n numbers
+pub find-below : (t : ℕ → Bool) (n : ℕ) → 0 < n → findTo n t < n
+unfolding findTo
+find-below t zero l = absurd (not-suc-le-zero l)
+find-below t (suc n) l = picked (λ k. k < suc n) (t n) n (findTo n t) (λ e. omega arith) (λ e. omega (arith, find-most t n))
 
 -- ---- a rising row
 module _ {columns : List ℕ} {n b e : ℕ} (r : Rising columns n b e) where

@@ -89,6 +89,20 @@ where-gap t f a b l h = ⊎-elim (λ (e : a ≡ b). rw e refl) (λ (m : a < b). 
         rw (h b (omega arith) (omega arith))
         (⊎-elim (λ (e : a ≡ b). rw e refl) (λ (m' : a < b). go b m' (λ k p q. h k p (omega arith))) (last-or-before m))
 
+-- a test that picks the c indices from a on, and no other
+pub where-stretch : (t : ℕ → Bool) (f : ℕ → Float) (n a c : ℕ) → a + c ≤ n → ((k : ℕ) → k < a → t k ≡ false) → ((k : ℕ) → k < c → t (a + k) ≡ true) → ((k : ℕ) → a + c ≤ k → k < n → t k ≡ false) → sumWhere n t f ≡ sumTo c (λ k. f (a + k))
+where-stretch t f n a c l low mid high = sym (where-gap t f (a + c) n l high) ∙ go c mid
+  where
+    go : (c : ℕ) → ((k : ℕ) → k < c → t (a + k) ≡ true) → sumWhere (a + c) t f ≡ sumTo c (λ k. f (a + k))
+    go zero h =
+        let q : a + 0 ≡ a = omega arith in
+        rw q (sym (where-gap t f 0 a (omega arith) (λ k _ m. low k m)) ∙ sym (where-none t f) ∙ sum-none (λ k. f (a + k)))
+    go (suc c) h =
+        let q : a + c + 1 ≡ a + suc c = omega arith in
+        let q' : c + 1 ≡ suc c = omega arith in
+        let here : sumWhere (a + c) t f ≡ sumTo c (λ k. f (a + k)) = go c (λ k m. h k (omega arith)) in
+        rw (← q, ← q') (sym (where-take t f (a + c) (sumWhere (a + c) t f) (h c (omega arith)) refl) ∙ sum-step (λ k. f (a + k)) c (sumWhere (a + c) t f) here)
+
 -- tests and rules that agree below n have one sum
 pub where-cong : (n : ℕ) (t u : ℕ → Bool) (f g : ℕ → Float) → ((k : ℕ) → k < n → t k ≡ u k) → ((k : ℕ) → k < n → t k ≡ true → f k ≡ g k) → sumWhere n t f ≡ sumWhere n u g
 unfolding sumWhere addWhere

@@ -1,0 +1,191 @@
+-- Sums over Λ's entries as the loops have them: those of a column stand behind each other in theta. Assumes nothing.
+use mathlib.Core.Path.{_≡_, refl, sym, ap, _∙_}
+use mathlib.Core.List.{List}
+use mathlib.Core.Logic.{⊎-elim}
+use mathlib.Core.Bool.{true, false}
+use Prim.Native.Nat.{ℕ, _+_, _-_, _*_, _<_, _≤_}
+use native.Mathlib.Omega.{arith}
+use borrow.Author.Tests.{le-leb, lt-leb, lt-ltb, le-ltb}
+use lib.Dec.{eqb}
+use lib.ListN.{length, set, take, drop, length-take, length-drop}
+use lib.Seq.{getD-take, getD-drop}
+use lib.Ieee.{Float, nan}
+use Rattle.base.specs.Number.{_⊕_, _⊗_, oneF}
+use Rattle.base.specs.Sum.{_!_, sumTo, addWhere, sumWhere, productFrom}
+use Rattle.base.specs.List.{zeroAt, at, fillTo, fillAt}
+use Rattle.base.proofs.Sums.{lt-or-ge, sum-cong, where-take, where-skip, where-stretch}
+use Rattle.base.proofs.Fills.{fillat-cong, fillat-step, length-fillat, fillat-below, fillat-above, fillat-in, length-fill, fill-past, fill-in, fill-is, fill-over}
+use Rattle.model.specs.Shape.{effectsOf, InRange}
+use Rattle.model.specs.declared.sizes.Shape.{Shape}
+use Rattle.lambda.specs.Column.{columnOf, isEntry, lambdaAt}
+use Rattle.lambda.specs.Product.{addedAt, acrossRow, downColumn, timesTerm, lambdaTimesAt, transposedTerm, lambdaTransposedAt, rightTerm, rightAt, rightColumnAt, leftTerm, systemAt}
+use Rattle.lambda.specs.declared.columns.Column.{Column}
+use Rattle.lambda.proofs.ColumnPlaces.{column-rows}
+
+-- above the diagonal there is no place
+pub entry-above : (s : Shape) (i j : ℕ) → i < j → isEntry s i j ≡ false
+unfolding isEntry
+entry-above s i j l = rw (lt-leb j i l) refl
+
+-- below it there are as many as the column has
+pub entry-in : (s : Shape) (j t : ℕ) → t < columnOf s j .count → isEntry s (j + t) j ≡ true
+unfolding isEntry
+entry-in s j t l = rw (le-leb j (j + t) (omega arith), lt-ltb (j + t) (j + columnOf s j .count) (omega arith)) refl
+
+pub entry-past : (s : Shape) (i j : ℕ) → j + columnOf s j .count ≤ i → isEntry s i j ≡ false
+unfolding isEntry
+entry-past s i j l = rw (le-leb j i (omega arith), le-ltb i (j + columnOf s j .count) l) refl
+
+-- what stands t rows below the diagonal
+pub entry-at : (s : Shape) (theta : List Float) (j t : ℕ) → lambdaAt s theta (j + t) j ≡ theta ! (columnOf s j .first + t)
+unfolding lambdaAt
+entry-at s theta j t = let q : j + t - j ≡ t = omega arith in rw q refl
+
+-- a sum down a column
+pub column-sum : (s : Shape) (j : ℕ) (f : ℕ → Float) → InRange s → j < effectsOf s → downColumn s j f ≡ sumTo (columnOf s j .count) (λ t. f (j + t))
+unfolding downColumn
+column-sum s j f r l =
+    where-stretch (λ i. isEntry s i j) f (effectsOf s) j (columnOf s j .count) (column-rows s j r l) (λ k m. entry-above s k j m) (λ k m. entry-in s j k m) (λ k m n. entry-past s k j m)
+
+-- ---- what the loops sum
+-- entry t of the part from o on
+part-at : (o m t : ℕ) (xs : List Float) → t < m → take m (drop o xs) ! t ≡ xs ! (o + t)
+part-at o m t xs l = getD-take m (drop o xs) t nan l ∙ getD-drop o xs t nan
+
+-- the part from o on holds what stands behind o
+pub part-long : (o n : ℕ) (xs : List Float) → o + n ≤ length xs → n ≤ length (take (length xs - o) (drop o xs))
+part-long o n xs h = simp (length-take, length-drop) (omega arith)
+
+-- the sum for entry j of Λ'v, whose entries from j on still stand
+pub transposed-dot : (s : Shape) (theta v X : List Float) (j m : ℕ) (z : Float) → InRange s → j < effectsOf s
+    → z ≡ sumTo (columnOf s j .count) (productFrom theta (columnOf s j .first) (take m (drop j X))) → X ≡ fillTo j (lambdaTransposedAt s theta v) v → columnOf s j .count ≤ m
+    → z ≡ lambdaTransposedAt s theta v j
+unfolding lambdaTransposedAt transposedTerm
+transposed-dot s theta v X j m z r l e x h =
+    e
+    ∙ sum-cong (columnOf s j .count) _ _ (λ t g. same t g)
+    ∙ sym (column-sum s j (transposedTerm s theta v j) r l)
+  where
+    same : (t : ℕ) → t < columnOf s j .count → (theta ! (columnOf s j .first + t)) ⊗ (take m (drop j X) ! t) ≡ lambdaAt s theta (j + t) j ⊗ (v ! (j + t))
+    same t g =
+        rw (part-at j m t X (omega arith), x, fill-past j (lambdaTransposedAt s theta v) v (j + t) (omega arith), entry-at s theta j t) refl
+
+-- one row of a column more is added
+pub added-step : (theta : List Float) (first : ℕ) (x : Float) (b : List Float) (j t : ℕ) (X : List Float) → X ≡ fillAt j t (addedAt theta first x b j) b
+    → set X (j + t) ((X ! (j + t)) ⊕ ((theta ! (first + t)) ⊗ x)) ≡ fillAt j (t + 1) (addedAt theta first x b j) b
+unfolding addedAt
+added-step theta first x b j t X e =
+    let old : X ! (j + t) ≡ b ! (j + t) = rw e (fillat-above j t (addedAt theta first x b j) b (j + t) (omega arith)) in
+    rw old (fillat-step j (addedAt theta first x b j) b t X e)
+
+-- ---- row by row: what a column of Λ gives, the shape being out of sight
+-- entry a of column c of SΛ, by the column k of Λ
+unfoldable pub rightBy : Column → List Float → ℕ → List Float → ℕ → ℕ → Float
+rightBy k theta q S c a = sumTo (k .count) (λ t. at q S a (c + t) ⊗ (theta ! (k .first + t)))
+
+pub right-by : (s : Shape) (theta S : List Float) (c a : ℕ) → InRange s → c < effectsOf s → rightBy (columnOf s c) theta (effectsOf s) S c a ≡ rightColumnAt s theta S c a
+unfolding rightBy rightAt rightTerm
+right-by s theta S c a r l =
+    sum-cong (columnOf s c .count) _ _ (λ t g. ap (λ (x : Float). at (effectsOf s) S a (c + t) ⊗ x) (sym (entry-at s theta c t)))
+    ∙ sym (column-sum s c (rightTerm s theta S a c) r l)
+
+pub right-dot : (k : Column) (theta S : List Float) (q c a i m : ℕ) (z : Float) → z ≡ sumTo (k .count) (productFrom S (i + c) (take m (drop (k .first) theta))) → i ≡ a * q → k .count ≤ m → z ≡ rightBy k theta q S c a
+unfolding rightBy
+right-dot k theta S q c a i m z e o h =
+    e ∙ sum-cong (k .count) _ _ (λ t g. let q' : i + c + t ≡ a * q + (c + t) = omega arith in rw (part-at (k .first) m t theta (omega arith), q') refl)
+
+-- entry c of row a of A, by the column k of Λ
+unfoldable pub systemBy : Column → List Float → ℕ → List Float → ℕ → ℕ → Float
+systemBy k theta q K a c = addWhere (eqb a c) (sumTo (k .count) (λ t. (theta ! (k .first + t)) ⊗ at q K c (a + t))) oneF
+
+pub system-by : (s : Shape) (theta K : List Float) (a c : ℕ) → InRange s → a < effectsOf s → systemBy (columnOf s a) theta (effectsOf s) K a c ≡ systemAt s theta K a c
+unfolding systemBy systemAt leftTerm
+system-by s theta K a c r l =
+    ap (λ (x : Float). addWhere (eqb a c) x oneF)
+    (sum-cong (columnOf s a .count) _ _ (λ t g. ap (λ (x : Float). x ⊗ at (effectsOf s) K c (a + t)) (sym (entry-at s theta a t)))
+    ∙ sym (column-sum s a (leftTerm s theta K a c) r l))
+
+pub system-dot : (k : Column) (theta K : List Float) (q a c i m : ℕ) (z : Float) → z ≡ sumTo (k .count) (productFrom theta (k .first) (take m (drop (i + a) K))) → i ≡ c * q → k .count ≤ m → addWhere (eqb a c) z oneF ≡ systemBy k theta q K a c
+unfolding systemBy
+system-dot k theta K q a c i m z e o h =
+    ap (λ (x : Float). addWhere (eqb a c) x oneF)
+    (e ∙ sum-cong (k .count) _ _ (λ t g. let q' : i + a + t ≡ c * q + (a + t) = omega arith in rw (part-at (i + a) m t K (omega arith), q') refl))
+
+-- ---- Λu column by column
+-- entry i of Λu, as far as the first j columns make it
+unfoldable pub timesTo : Shape → List Float → List Float → ℕ → ℕ → Float
+timesTo s theta u j i = sumWhere j (λ k. isEntry s i k) (timesTerm s theta u i)
+
+-- of no column, the wiped places
+pub times-none : (s : Shape) (theta u : List Float) (q : ℕ) (b X : List Float) → q ≤ length b → X ≡ fillTo q zeroAt b → X ≡ fillTo q (timesTo s theta u 0) X
+unfolding timesTo sumWhere
+times-none s theta u q b X h e = rw e (sym (fill-over q zeroAt zeroAt b h))
+
+-- of all, Λu
+pub times-all : (s : Shape) (theta u : List Float) (q j : ℕ) (b W X : List Float) → q ≡ effectsOf s → j ≡ q → q ≤ length b → W ≡ fillTo q zeroAt b → X ≡ fillTo q (timesTo s theta u j) W → X ≡ fillTo q (lambdaTimesAt s theta u) b
+unfolding timesTo lambdaTimesAt acrossRow
+times-all s theta u q j b W X e d h w x =
+    let all : timesTo s theta u j ≡ lambdaTimesAt s theta u = ap (λ (k : ℕ). timesTo s theta u k) (d ∙ e) in
+    x ∙ ap (λ (f : ℕ → Float). fillTo q f W) all ∙ ap (λ (v : List Float). fillTo q (lambdaTimesAt s theta u) v) w ∙ fill-over q (lambdaTimesAt s theta u) zeroAt b h
+
+module _ (s : Shape) (theta u : List Float) (q j : ℕ) (b X : List Float) (r : InRange s) (l : j < effectsOf s) (e : q ≡ effectsOf s) (h : q ≤ length b) (x : X ≡ fillTo q (timesTo s theta u j) b) where
+  abbrev first : ℕ
+  first = columnOf s j .first
+
+  abbrev count : ℕ
+  count = columnOf s j .count
+
+  abbrev W : List Float
+  W = fillAt j count (addedAt theta first (u ! j) X j) X
+
+  within : j + count ≤ q
+  within = omega (arith, e, column-rows s j r l)
+
+  long : length X ≡ length b
+  long = rw x (length-fill q (timesTo s theta u j) b)
+
+  before : (i : ℕ) → i < q → X ! i ≡ timesTo s theta u j i
+  before i m = rw x (fill-in q (timesTo s theta u j) b h i m)
+
+  -- a row that the column does not reach
+  skipped : (i : ℕ) → i < q → isEntry s i j ≡ false → X ! i ≡ timesTo s theta u (j + 1) i
+  unfolding timesTo
+  skipped i m n = where-skip (λ k. isEntry s i k) (timesTerm s theta u i) j (X ! i) n (before i m)
+
+  -- the row t below the diagonal
+  taken : (t : ℕ) → t < count → (X ! (j + t)) ⊕ ((theta ! (first + t)) ⊗ (u ! j)) ≡ timesTo s theta u (j + 1) (j + t)
+  unfolding timesTo timesTerm
+  taken t m =
+      rw (← entry-at s theta j t)
+      (where-take (λ k. isEntry s (j + t) k) (timesTerm s theta u (j + t)) j (X ! (j + t)) (entry-in s j t m) (before (j + t) (omega (arith, within))))
+
+  inside : (i : ℕ) → i < q → W ! i ≡ timesTo s theta u (j + 1) i
+  unfolding addedAt
+  inside i m =
+      ⊎-elim (λ (a : i < j). fillat-below j count _ X i a ∙ skipped i m (entry-above s i j a))
+      (λ (a : j ≤ i).
+      ⊎-elim
+      (λ (d : i < j + count).
+      let z : j + (i - j) ≡ i = omega arith in
+      let here : W ! (j + (i - j)) ≡ timesTo s theta u (j + 1) (j + (i - j)) =
+      fillat-in j count (addedAt theta first (u ! j) X j) X (omega (arith, within, long)) (i - j) (omega arith) ∙ taken (i - j) (omega arith) in
+      rw z at here)
+      (λ (d : j + count ≤ i). fillat-above j count _ X i d ∙ skipped i m (entry-past s i j d))
+      (lt-or-ge i (j + count)))
+      (lt-or-ge i j)
+
+  pub times-step : W ≡ fillTo q (timesTo s theta u (j + 1)) b
+  times-step =
+      fill-is q (timesTo s theta u (j + 1)) b W h (length-fillat j count _ X ∙ long) inside
+      (λ i m. fillat-above j count _ X i (omega (arith, within)) ∙ rw x (fill-past q (timesTo s theta u j) b i m))
+
+-- ---- the ends of the loops
+pub right-end : (s : Shape) (theta S : List Float) (k : Column) (q c o a : ℕ) (b X : List Float) → InRange s → k ≡ columnOf s c → q ≡ effectsOf s → c < q → o ≡ c * q → a ≡ q → X ≡ fillAt o a (rightBy k theta q S c) b → X ≡ fillAt (c * q) q (rightColumnAt s theta S c) b
+right-end s theta S k q c o a b X r ek eq l eo ea x =
+    x
+    ∙ rw (eo, ea) (fillat-cong (c * q) q _ _ b (λ i m. rw (ek, eq) (right-by s theta S c i r (omega (arith, eq)))))
+
+pub system-end : (s : Shape) (theta K : List Float) (k : Column) (q a o c : ℕ) (b X : List Float) → InRange s → k ≡ columnOf s a → q ≡ effectsOf s → a < q → o ≡ a * q → c ≡ q → X ≡ fillAt o c (systemBy k theta q K a) b → X ≡ fillAt (a * q) q (systemAt s theta K a) b
+system-end s theta K k q a o c b X r ek eq l eo ea x =
+    x
+    ∙ rw (eo, ea) (fillat-cong (a * q) q _ _ b (λ i m. rw (ek, eq) (system-by s theta K a i r (omega (arith, eq)))))

@@ -1,0 +1,3 @@
+-- Λ and its products. Assumes nothing.
+pub mod Column
+pub mod Product
