@@ -2,20 +2,10 @@
 """usage: base.py > crates/cases_base/stdout
 What `cases_base` must print, worked out apart from the Rattle code: the tests and choices from IEEE 754 and document 01's words
 ('max with one NaN gives the other number, clamp of NaN is NaN', of two zeros the second), the sums with Python's own doubles."""
-import math, struct
+import math, sys
 
-NAN = 0x7FF8000000000000
-SPECIAL = [NAN, 0x7FF << 52, 0xFFF << 52, 0, 1 << 63, 1, 1 << 63 | 1, (1 << 52) - 1, 1 << 63 | (1 << 52) - 1, 1 << 52, 1 << 63 | 1 << 52,
-           0x3CB << 52, 0xBCB << 52, 0x3FEFFFFFFFFFFFFE, 0x3FF << 52, 0xBFF << 52, 1 << 62, 3 << 62, 0x400921FB54442D18, 0xC00921FB54442D18,
-           (0x7FF << 52) - 1, (0xFFF << 52) - 1, (0x7FF << 52) + 1, (1 << 64) - 1]
-
-
-def double(n):
-    return struct.unpack(">d", struct.pack(">Q", n))[0]
-
-
-def text(x):
-    return "%016X" % (NAN if math.isnan(x) else struct.unpack(">Q", struct.pack(">d", x))[0])
+sys.dont_write_bytecode = True
+from elementary import NAN, SPECIAL, double, text
 
 
 def larger(a, b):

@@ -2,7 +2,7 @@
 """usage: elementary.py > crates/cases_elementary/stdout
 What `cases_elementary` must print, worked out apart from the Rattle code. The square root is the nearest double, by Python's whole
 numbers. The other four are the published algorithms (musl's exp.c, log.c, log1p.c and expm1.c, with their tests on the bits of the
-argument) in Python's own doubles; the two tables are read from the definitions."""
+argument) in Python's own doubles; the two tables are read from the definitions, the arguments from the programs."""
 import math, re, struct
 
 NAN = 0x7FF8000000000000
@@ -190,10 +190,12 @@ def line(x):
 
 
 EXP_TABLE, LN_TABLE = numbers("crates/elementary/specs/ExpTable.antt"), numbers("crates/elementary/specs/LogTable.antt")
-for entry in numbers("crates/cases_elementary/src/main.rt"):
-    line(double(entry))
-for low, count in [(0, 2047), (963, 121), (1013, 20)]:
-    for i in range(1, 201):
-        w = i * 0x9E3779B97F4A7C15 & MASK
-        field = low + (w >> 52) % 2048 % count
-        line(double(w >> 63 << 63 | field << 52 | w & (1 << 52) - 1))
+SPECIAL = numbers("crates/text/src/specials.rt")
+if __name__ == "__main__":
+    for entry in SPECIAL + numbers("crates/cases_elementary/src/main.rt"):
+        line(double(entry))
+    for low, count in [(0, 2047), (963, 121), (1013, 20)]:
+        for i in range(1, 201):
+            w = i * 0x9E3779B97F4A7C15 & MASK
+            field = low + (w >> 52) % 2048 % count
+            line(double(w >> 63 << 63 | field << 52 | w & (1 << 52) - 1))

@@ -1,25 +1,24 @@
 #!/usr/bin/env python3
-"""usage: family.py > crates/cases_family/stdout
-What `cases_family` must print, worked out apart from the Rattle code: the closures of family.rs in Python's own doubles, with Rust's
+"""usage: family.py elements > crates/cases_family/stdout
+       family.py lists > crates/cases_family_lists/stdout
+       family.py names > crates/cases_names/stdout
+What the three programs must print, worked out apart from the Rattle code: the closures of family.rs in Python's own doubles, with Rust's
 `max` and `clamp` in document 01's words. sqrt, exp, ln, ln_1p and exp_m1 are those of elementary.py beside this file: the published
-algorithms in Python's doubles, which print the cases of their own as they are read."""
-import contextlib, math, sys
+algorithms in Python's doubles."""
+import math, sys
 
 sys.dont_write_bytecode = True
-with contextlib.redirect_stdout(None):
-    from elementary import double, exp, exp_m1, ln, ln_1p, sqrt, text
+from elementary import SPECIAL, double, exp, exp_m1, ln, ln_1p, sqrt, text
 
 E = 2.0**-52
 NAN, INF = math.nan, math.inf
 
-# cases_base's special numbers, then ordinary means and predictors and where the formulas turn
-SPECIAL = [0x7FF << 52 | 1 << 51, 0x7FF << 52, 0xFFF << 52, 0, 1 << 63, 1, 1 << 63 | 1, (1 << 52) - 1, 1 << 63 | (1 << 52) - 1, 1 << 52,
-           1 << 63 | 1 << 52, 0x3CB << 52, 0xBCB << 52, 0x3FEFFFFFFFFFFFFE, 0x3FEFFFFFFFFFFFFF, 0x3FF << 52, 0x3FF0000000000001, 0xBFF << 52, 1 << 62,
-           3 << 62, (0x7FF << 52) - 1, (0xFFF << 52) - 1, 0x3CAFFFFFFFFFFFFF, 0x3CB0000000000001]
+# the numbers that every program tries; the neighbours of 1 and E; then ordinary means and predictors and where the formulas turn
+NEIGHBOURS = [0x3FEFFFFFFFFFFFFF, 0x3FF0000000000001, 0x3CAFFFFFFFFFFFFF, 0x3CB0000000000001]
 ORDINARY = [0.5, 0.25, 0.75, 0.1, 0.9, 0.001, 0.999, 1e-10, 1e-16, 0.3, 1.5, 2.5, 3.0, 5.0, 7.25, 10.0, 20.0, 36.0, 36.5, 37.0, 100.0, 700.0, 709.75, 710.0,
             1e10, 1e100, 1e155, 1e200, -0.5, -0.1, -1e-10, -1.5, -2.5, -5.0, -10.0, -36.0, -36.5, -37.0, -100.0, -700.0, -745.0, -746.0, -1e10, -1e200,
             3.6, 3.7, -1e-16, 6.7e7, 6.8e7, 1.5e-8]
-VALUES = [double(n) for n in SPECIAL] + ORDINARY
+VALUES = [double(n) for n in SPECIAL + NEIGHBOURS] + ORDINARY
 RESPONSES = [NAN, INF, -INF, -0.0, 0.0, 5e-324, E, 0.25, 0.5, 1.0 - E, 1.0, 1.0 + E, 1.5, 2.0, 7.0, -1.0, -5e-324, 1e-300]
 MEANS = [NAN, INF, 0.0, E, 0.3, 1.0 - E, 1.0, 2.5, -3.0, 1e300]
 WEIGHTS = [1.0, 2.5, 0.0, -1.0, NAN]
@@ -110,6 +109,7 @@ def aic(n, w, dev):
 CARRIED = ["logit", "cloglog", "log", "identity", "inverse", "sqrt"]
 LINKS = ["logit", "probit", "cloglog", "log", "identity", "inverse", "sqrt"]
 FAMILIES = ["binomial", "poisson", "gaussian"]
+# of each family the links that R takes, its default first
 VALID = [LINKS[:3], ["log", "identity", "sqrt"], ["identity", "log", "inverse"], ["inverse", "identity", "log"]]
 
 
@@ -118,35 +118,47 @@ def parse(s):
     return LINKS.index(word.lower().decode("latin-1")) if all(b < 128 for b in s) and word.lower().decode("latin-1") in LINKS else 7
 
 
-for x in VALUES:
-    print("fun", text(x), *[text(link_fun(link, x)) for link in CARRIED])
-    print("inv", text(x), *[text(link_inv(link, x)) for link in CARRIED])
-    print("eta", text(x), *[text(mu_eta(link, x)) for link in CARRIED])
-    print("var", text(x), *[text(variance(f, x)) for f in FAMILIES])
-    print("start", text(x), *[text(start(f, x)) for f in FAMILIES])
-for y in RESPONSES:
-    for mu in MEANS:
-        print("dev", text(y), text(mu), *[text(dev_resid(f, y, mu, w)) for w in WEIGHTS for f in FAMILIES])
-LISTS = [[], [1.0] * 3, [0.5, 3.0, 0.0], [-2.0, NAN, 7.0], [1e-300, 1e300, INF]]
-for dev in [NAN, INF, -INF, 0.0, -0.0, -1.0, 5e-324, 0.1, 0.7, 10.0, 1e308]:
-    print("aic", text(dev), *[f"0 {text(aic(3, w, dev))}" for w in LISTS], 2, 0, text(dev), 0, text(dev), 0, text(aic(0, [], dev)), 2)
-print("list", 0, *[text(link_fun("logit", x)) for x in (0.25, 0.5, NAN)])
-print("list", 0, *[text(link_inv("cloglog", x)) for x in (0.25, 0.5, NAN)])
-print("list", 0, *[text(mu_eta("inverse", x)) for x in (0.25, 0.5, NAN)])
-print("list", 0, *[text(variance("binomial", x)) for x in (0.25, 0.5, NAN)])
-print("list", 0, *[text(start("poisson", x)) for x in (0.25, 0.5, NAN)])
-print("list", 0, *[text(dev_resid("binomial", x, 0.4, w)) for x, w in ((0.25, 2.0), (0.5, 3.0), (NAN, 4.0))])
-print("list", 0, *[text(dev_resid("binomial", x, 0.4, 1.0)) for x in (0.25, 0.5, NAN)])
-for count in (3, 3, 2, 1, 1, 1, 1):
-    print("refused", *[2] * count, *map(text, (9.0, 8.0, 7.0)))
-print("empty 0 0 0")
-print("empty 0 0 0")
-for words in [[name.encode() for name in LINKS], [b" \t\n\v\f\rLoGiT \r\n", b"CLOGLOG", b"SQRT", b"Identity\0", b"\x08log", b"log\x0e"],
-              [b"", b"   ", b"logi", b"logits", b"log it"], [b"l\xf6g", b"\xa0log", b"log\x85", b"\xc3\x89log"]]:
-    print("parse", *map(parse, words))
-for name in LINKS:
-    print("name", len(name), *(name.encode() + bytes(8 - len(name))))
-for i, valid in enumerate(VALID):
-    print("valid", *[int(link in valid) for link in LINKS], LINKS.index(valid[0]) if i != 2 else 4)
-print("carried", 1, 0, 1, 1, 1, 1, 1, 1, 1, 1, 0)
-print("dispersion", 0, 0, 1)
+def elements():
+    for x in VALUES:
+        print("fun", text(x), *[text(link_fun(link, x)) for link in CARRIED])
+        print("inv", text(x), *[text(link_inv(link, x)) for link in CARRIED])
+        print("eta", text(x), *[text(mu_eta(link, x)) for link in CARRIED])
+        print("var", text(x), *[text(variance(f, x)) for f in FAMILIES])
+        print("start", text(x), *[text(start(f, x)) for f in FAMILIES])
+    for y in RESPONSES:
+        for mu in MEANS:
+            print("dev", text(y), text(mu), *[text(dev_resid(f, y, mu, w)) for w in WEIGHTS for f in FAMILIES])
+    for valid in VALID:
+        print("valid", *[int(link in valid) for link in LINKS], LINKS.index(valid[0]))
+    print("carried", 1, 0, 1, 1, 1, 1, 1, 1, 1, 1, 0)
+    print("dispersion", 0, 0, 1)
+
+
+def lists():
+    weights = [[], [1.0] * 3, [0.5, 3.0, 0.0], [-2.0, NAN, 7.0], [1e-300, 1e300, INF]]
+    for dev in [NAN, INF, -INF, 0.0, -0.0, -1.0, 5e-324, 0.1, 0.7, 10.0, 1e308]:
+        print("aic", text(dev), *[f"0 {text(aic(3, w, dev))}" for w in weights], 2, 0, text(dev), 0, text(dev), 0, text(aic(0, [], dev)), 2)
+    print("list", 0, *[text(link_fun("logit", x)) for x in (0.25, 0.5, NAN)])
+    print("list", 0, *[text(link_inv("cloglog", x)) for x in (0.25, 0.5, NAN)])
+    print("list", 0, *[text(mu_eta("inverse", x)) for x in (0.25, 0.5, NAN)])
+    print("list", 0, *[text(variance("binomial", x)) for x in (0.25, 0.5, NAN)])
+    print("list", 0, *[text(start("poisson", x)) for x in (0.25, 0.5, NAN)])
+    print("list", 0, *[text(dev_resid("binomial", x, 0.4, w)) for x, w in ((0.25, 2.0), (0.5, 3.0), (NAN, 4.0))])
+    print("list", 0, *[text(dev_resid("binomial", x, 0.4, 1.0)) for x in (0.25, 0.5, NAN)])
+    for count in (3, 3, 2, 1, 1, 1, 1):
+        print("refused", *[2] * count, *map(text, (9.0, 8.0, 7.0)))
+    print("empty 0 0 0")
+    print("empty 0 0 0")
+
+
+def names():
+    for words in [[name.encode() for name in LINKS], [b" \t\n\v\f\rLoGiT \r\n", b"CLOGLOG", b"SQRT", b"Identity\0", b"\x08log", b"log\x0e"],
+                  [b"", b"   ", b"logi", b"logits", b"log it"], [b"l\xf6g", b"\xa0log", b"log\x85", b"\xc3\x89log"]]:
+        print("parse", *map(parse, words))
+    for name in LINKS:
+        print("name", len(name), *(name.encode() + bytes(8 - len(name))))
+
+
+if len(sys.argv) != 2 or sys.argv[1] not in ("elements", "lists", "names"):
+    sys.exit(__doc__)
+{"elements": elements, "lists": lists, "names": names}[sys.argv[1]]()

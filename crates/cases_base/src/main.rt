@@ -1,39 +1,4 @@
 // Runs the functions of `base` on special values and prints every bit, one line a call.
-ghost use Prim.Native.Nat.{_<_};
-
-// NaN, the infinities, zeros, subnormals, the smallest normal, E, 1 - E, 1, 2, pi and MAX, of both signs.
-const SPECIAL: [u64; 24] = [
-    0x7ff8_0000_0000_0000,
-    0x7ff0_0000_0000_0000,
-    0xfff0_0000_0000_0000,
-    0x0000_0000_0000_0000,
-    0x8000_0000_0000_0000,
-    0x0000_0000_0000_0001,
-    0x8000_0000_0000_0001,
-    0x000f_ffff_ffff_ffff,
-    0x800f_ffff_ffff_ffff,
-    0x0010_0000_0000_0000,
-    0x8010_0000_0000_0000,
-    0x3cb0_0000_0000_0000,
-    0xbcb0_0000_0000_0000,
-    0x3fef_ffff_ffff_fffe,
-    0x3ff0_0000_0000_0000,
-    0xbff0_0000_0000_0000,
-    0x4000_0000_0000_0000,
-    0xc000_0000_0000_0000,
-    0x4009_21fb_5444_2d18,
-    0xc009_21fb_5444_2d18,
-    0x7fef_ffff_ffff_ffff,
-    0xffef_ffff_ffff_ffff,
-    0x7ff0_0000_0000_0001,
-    0xffff_ffff_ffff_ffff,
-];
-
-fn special(i: usize) -> f64
-    requires { ⌜ i < 24 ⌝ }
-{
-    base::double(SPECIAL[i])
-}
 
 // The tests and the sign of one number, and what the clamps leave of it.
 fn one(x: f64) {
@@ -58,16 +23,16 @@ fn two(a: f64, b: f64) {
 
 fn with_each(a: f64) {
     let mut i = 0;
-    while i < 24 {
-        two(a, special(i));
+    while i < text::SPECIALS {
+        two(a, text::special(i));
         i += 1;
     }
 }
 
 fn numbers() {
     let mut i = 0;
-    while i < 24 {
-        let x = special(i);
+    while i < text::SPECIALS {
+        let x = text::special(i);
         one(x);
         with_each(x);
         i += 1;

@@ -1,32 +1,16 @@
 // Runs the elementary functions on special arguments and on drawn ones, and prints every bit: the argument, sqrt, exp, ln, ln_1p, exp_m1.
 ghost use Prim.Native.Nat.{_+_, _<_, _≤_};
 
-// NaN, the infinities, zeros, subnormals, the smallest normal and MAX; then -1, and where the algorithms' branches begin, with their neighbours.
-const SPECIAL: [u64; 76] = [
-    0x7ff8_0000_0000_0000,
-    0x7ff0_0000_0000_0000,
-    0xfff0_0000_0000_0000,
-    0x0000_0000_0000_0000,
-    0x8000_0000_0000_0000,
-    0x0000_0000_0000_0001,
-    0x8000_0000_0000_0001,
+// Subnormals; the neighbours of -1, 1 and 2; then where the algorithms' branches begin, with their neighbours.
+const BRANCHES: [u64; 60] = [
     0x0000_0000_0000_0003,
     0x0008_0000_0000_0001,
-    0x000f_ffff_ffff_ffff,
-    0x800f_ffff_ffff_ffff,
-    0x0010_0000_0000_0000,
-    0x8010_0000_0000_0000,
-    0x7fef_ffff_ffff_ffff,
-    0xffef_ffff_ffff_ffff,
     0xbff0_0000_0000_0001,
-    0xbff0_0000_0000_0000,
     0xbfef_ffff_ffff_ffff,
     0xbfe0_0000_0000_0000,
     0x3fef_ffff_ffff_ffff,
-    0x3ff0_0000_0000_0000,
     0x3ff0_0000_0000_0001,
     0x3fff_ffff_ffff_ffff,
-    0x4000_0000_0000_0000,
     0x400f_ffff_ffff_ffff,
     0x4010_0000_0000_0000,
     0x4022_0000_0000_0000,
@@ -94,8 +78,16 @@ fn line(x: f64) {
 
 fn specials() {
     let mut i = 0;
-    while i < 76 {
-        line(base::double(SPECIAL[i]));
+    while i < text::SPECIALS {
+        line(text::special(i));
+        i += 1;
+    }
+}
+
+fn branches() {
+    let mut i = 0;
+    while i < 60 {
+        line(base::double(BRANCHES[i]));
         i += 1;
     }
 }
@@ -125,6 +117,7 @@ fn draw(low: u64, count: u64)
 // All sizes; 2^-60 to 2^60; 2^-10 to 2^10.
 fn main() {
     specials();
+    branches();
     draw(0, 2047);
     draw(963, 121);
     draw(1013, 20);

@@ -1,4 +1,8 @@
 // How the programs write numbers: a double is its bit pattern in sixteen upper-case hexadecimal digits, a count is decimal.
+mod specials;
+
+pub use specials::SPECIALS;
+pub use specials::special;
 ghost use mathlib.Core.Path.{_≡_};
 ghost use Prim.Native.Nat.{_<_};
 ghost use Rattle.text.specs.Hex.{hexDigit, hexDigits};

@@ -1,26 +1,20 @@
--- `cases_elementary::specials` is safe and ends: each turn counts one on towards 76.
+-- `cases_elementary::specials` is safe and ends: each turn counts one on towards 24.
 use Prim.Native.Nat.{_≤_, _-_}
 use borrow.Author.Needs.{needs}
 use Rattle.cases_elementary.proofs.specials.Statement.{statement}
 use Rattle.cases_elementary.proofs.specials.Tie as tie
 
 abbrev Inv-loop : tie.InvT-loop
-Inv-loop i₀ i = i ≤ 76
+Inv-loop i₀ i = i ≤ 24
 
 abbrev μ-loop : tie.MeasureT-loop
-μ-loop i₀ i = 76 - i
+μ-loop i₀ i = 24 - i
 
 loop-holds : tie.Need-loop-holds Inv-loop μ-loop
 loop-holds c = search needs
 
-mul-double : tie.Need-mul-double Inv-loop μ-loop
-mul-double c = search needs
-
-array-read-double : tie.Need-array-read-double Inv-loop μ-loop
-array-read-double c = search needs
-
-double-requires : tie.Need-double-requires Inv-loop μ-loop
-double-requires c κs = search needs
+special-requires : tie.Need-special-requires Inv-loop μ-loop
+special-requires c κs = search needs
 
 line-requires : tie.Need-line-requires Inv-loop μ-loop
 line-requires c κs = search needs
@@ -40,4 +34,4 @@ returns c = search needs
 pub specials-spec : {M : Type 1} → statement M
 specials-spec =
     tie.close
-    (tie.spec Inv-loop μ-loop loop-holds mul-double array-read-double double-requires line-requires add-i loop-less loop-again returns)
+    (tie.spec Inv-loop μ-loop loop-holds special-requires line-requires add-i loop-less loop-again returns)

@@ -1,8 +1,8 @@
--- `cases_family::name_line` is safe and ends: each turn counts one on towards 8.
+-- `cases_names::name_line` is safe and ends: each turn counts one on towards 8.
 use Prim.Native.Nat.{_≤_, _-_}
 use borrow.Author.Needs.{needs}
-use Rattle.cases_family.proofs.name_line.Statement.{statement}
-use Rattle.cases_family.proofs.name_line.Tie as tie
+use Rattle.cases_names.proofs.name_line.Statement.{statement}
+use Rattle.cases_names.proofs.name_line.Tie as tie
 
 abbrev Inv-loop : tie.InvT-loop
 Inv-loop count bytes i₀ i = i ≤ 8
