@@ -66,7 +66,7 @@ fn main() {
         ["many", ..] => many(arguments[1..].iter().cloned()),
         ["vectors", name] if vectors::put(name) => {}
         _ => {
-            eprintln!("usage: oracle < job | oracle many [FILE..] | oracle vectors {}", vectors::NAMES.join("|"));
+            eprintln!("usage: oracle < job | oracle many [FILE..] | oracle vectors {}", vectors::names());
             std::process::exit(2);
         }
     }
