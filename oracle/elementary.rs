@@ -1,5 +1,5 @@
-// The elementary functions of `elementary_c`, by C linkage: total functions, safe to call with any number.
-#![allow(dead_code)]
+//! The elementary functions of `elementary_c`, by C linkage: total functions, safe to call with any number.
+//! The carried text calls them as methods; a `f64` has methods of its own called `exp` and `ln`, so these have other names.
 
 extern "C" {
     fn glmm_exp(x: f64) -> f64;
@@ -9,22 +9,32 @@ extern "C" {
     fn glmm_sqrt(x: f64) -> f64;
 }
 
-pub(crate) fn exp(x: f64) -> f64 {
-    unsafe { glmm_exp(x) }
+pub(crate) trait Elementary {
+    fn glmm_exp(self) -> f64;
+    fn glmm_exp_m1(self) -> f64;
+    fn glmm_ln(self) -> f64;
+    fn glmm_ln_1p(self) -> f64;
+    fn glmm_sqrt(self) -> f64;
 }
 
-pub(crate) fn exp_m1(x: f64) -> f64 {
-    unsafe { glmm_exp_m1(x) }
-}
+impl Elementary for f64 {
+    fn glmm_exp(self) -> f64 {
+        unsafe { glmm_exp(self) }
+    }
 
-pub(crate) fn ln(x: f64) -> f64 {
-    unsafe { glmm_ln(x) }
-}
+    fn glmm_exp_m1(self) -> f64 {
+        unsafe { glmm_exp_m1(self) }
+    }
 
-pub(crate) fn ln_1p(x: f64) -> f64 {
-    unsafe { glmm_ln_1p(x) }
-}
+    fn glmm_ln(self) -> f64 {
+        unsafe { glmm_ln(self) }
+    }
 
-pub(crate) fn sqrt(x: f64) -> f64 {
-    unsafe { glmm_sqrt(x) }
+    fn glmm_ln_1p(self) -> f64 {
+        unsafe { glmm_ln_1p(self) }
+    }
+
+    fn glmm_sqrt(self) -> f64 {
+        unsafe { glmm_sqrt(self) }
+    }
 }

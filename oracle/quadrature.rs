@@ -1,4 +1,5 @@
 //! Gauss–Hermite quadrature helpers (shared by GLMM and NLMM).
+use crate::elementary::Elementary; // ALTERED: added, exp and ln of elementary_c
 
 /// Maximum spherical RE dimension for joint multivariate AGQ.
 pub(crate) const AGQ_JOINT_MAX_Q: usize = 8;
@@ -170,11 +171,10 @@ pub(crate) fn log_sum_exp(xs: &[f64]) -> f64 {
     if !m.is_finite() {
         return f64::NEG_INFINITY;
     }
-    // CHANGED: the sum runs over ascending index from +0.0, and exp and ln are those of `elementary_c`:
-    // m + xs.iter().map(|&x| (x - m).exp()).sum::<f64>().ln()
-    let mut sum = 0.0;
-    for &x in xs {
-        sum = sum + crate::elementary::exp(x - m);
-    }
-    m + crate::elementary::ln(sum)
+    let mut sum = 0.0; // ALTERED: m + xs.iter().map(|&x| (x - m).exp()).sum::<f64>().ln()
+    for &x in xs { // ALTERED: a loop from +0.0, with exp and ln of elementary_c
+        sum = sum + (x - m).glmm_exp(); // ALTERED: added
+    } // ALTERED: added
+    m + sum.glmm_ln() // ALTERED: added
 }
+

@@ -1,15 +1,6 @@
-// What `cases_quadrature` must print, by the Rust's own quadrature.rs (oracle/) with the elementary functions of `elementary_c`.
-// k of 19 and 20, where the Rust's power can overflow, are from document 01: none. Run by tools/cases/quadrature.
-#[path = "../../oracle/elementary.rs"]
-mod elementary;
-#[path = "../../oracle/quadrature.rs"]
-mod quadrature;
-
-use quadrature::{gh_rule, log_sum_exp, resolve_gh_order, resolve_gh_order_joint, resolve_gh_order_product};
-
-fn hex(x: f64) -> String {
-    format!(" {:016X}", if x.is_nan() { 0x7FF8_0000_0000_0000 } else { x.to_bits() })
-}
+//! `cases_quadrature`, by the Rust's own quadrature.rs. k of 19 and 20, where the Rust's power can overflow, are from document 01: none.
+use crate::answer::hex;
+use crate::quadrature::{gh_rule, log_sum_exp, resolve_gh_order, resolve_gh_order_joint, resolve_gh_order_product};
 
 fn wish(w: usize) {
     print!("wish {} {}", w, resolve_gh_order(w).unwrap_or(0));
@@ -22,14 +13,14 @@ fn wish(w: usize) {
     println!();
 }
 
-fn main() {
+pub fn put() {
     for n in 0..14 {
         match gh_rule(n) {
             None => println!("none {}", n),
             Some((z, w)) => {
                 print!("rule {}", n);
                 for i in 0..11 {
-                    print!("{}{}", hex(*z.get(i).unwrap_or(&0.0)), hex(*w.get(i).unwrap_or(&0.0)));
+                    print!(" {} {}", hex(*z.get(i).unwrap_or(&0.0)), hex(*w.get(i).unwrap_or(&0.0)));
                 }
                 println!();
             }
@@ -62,6 +53,6 @@ fn main() {
         &[-inf, -3.0, -inf],
     ];
     for xs in lists {
-        println!("log_sum{}", hex(log_sum_exp(xs)));
+        println!("log_sum {}", hex(log_sum_exp(xs)));
     }
 }

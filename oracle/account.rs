@@ -1,0 +1,59 @@
+//! What the port counts and the Rust does not: inner fits, solves, tries, points, and which end a `None` is.
+use std::sync::atomic::{AtomicUsize, Ordering::Relaxed};
+
+static FITS: AtomicUsize = AtomicUsize::new(0);
+static SOLVES: AtomicUsize = AtomicUsize::new(0);
+static TRIES: AtomicUsize = AtomicUsize::new(0);
+static POINTS: AtomicUsize = AtomicUsize::new(0);
+static END: AtomicUsize = AtomicUsize::new(0);
+
+/// The counts of one call, and the number that its `None` would have.
+#[derive(Debug, Clone, Copy, PartialEq)]
+pub struct Account {
+    pub fits: usize,
+    pub solves: usize,
+    pub tries: usize,
+    pub points: usize,
+    pub end: usize,
+}
+
+pub fn clear() {
+    for count in [&FITS, &SOLVES, &TRIES, &POINTS, &END] {
+        count.store(0, Relaxed);
+    }
+}
+
+pub fn read() -> Account {
+    Account {
+        fits: FITS.load(Relaxed),
+        solves: SOLVES.load(Relaxed),
+        tries: TRIES.load(Relaxed),
+        points: POINTS.load(Relaxed),
+        end: END.load(Relaxed),
+    }
+}
+
+/// An inner fit begins.
+pub fn fit() {
+    FITS.fetch_add(1, Relaxed);
+}
+
+/// An iteration found its u.
+pub fn solve() {
+    SOLVES.fetch_add(1, Relaxed);
+}
+
+/// A candidate was formed.
+pub fn attempt() {
+    TRIES.fetch_add(1, Relaxed);
+}
+
+/// A log term was formed.
+pub fn point() {
+    POINTS.fetch_add(1, Relaxed);
+}
+
+/// From here on a `None` of the inner fit is this end.
+pub fn ends_as(number: usize) {
+    END.store(number, Relaxed);
+}

@@ -1,0 +1,77 @@
+//! What the program prints for one job.
+use crate::account::{self, Account};
+use crate::glmm_math::{GlmmCoefficients, GlmmData};
+use crate::job::{self, Job};
+use crate::model_matrix::ReBlock;
+use crate::ndarray::{Array1, Array2};
+use crate::sprs::CsMat;
+use crate::FitControl;
+use std::fmt::Write;
+
+/// Sixteen hex digits; every NaN prints as one.
+pub fn hex(x: f64) -> String {
+    format!("{:016X}", if x.is_nan() { 0x7FF8_0000_0000_0000 } else { x.to_bits() })
+}
+
+pub fn answer(bytes: &[u8]) -> String {
+    match job::read(bytes) {
+        Err(refusal) => format!("refused {} at {}\n", refusal.number, refusal.byte),
+        Ok(job) => {
+            let (fitted, account) = fit(job);
+            lines(fitted.as_ref(), account)
+        }
+    }
+}
+
+fn fit(job: Job) -> (Option<GlmmCoefficients>, Account) {
+    let q = job.z_starts.len() - 1;
+    let blocks = job.blocks.iter().map(|&(m, k)| ReBlock { m, k, theta_len: k * (k + 1) / 2 }).collect();
+    let mut data = GlmmData::new_weighted(
+        Array2::from_rows((job.n, job.p), job.x),
+        CsMat::new((q, job.n), job.z_starts, job.z_columns, job.z_values),
+        Array1::from_vec(job.y),
+        blocks,
+        job.family.build_with_link(job.link).unwrap(),
+        job.n_agq,
+        job.weights.map(Array1::from_vec),
+    );
+    data.set_control(FitControl { max_inner_iterations: job.limit });
+    let offset = job.offset.map(Array1::from_vec);
+    account::clear();
+    let fitted = data.evaluate(&job.theta, offset.as_ref(), job.n_agq);
+    (fitted, account::read())
+}
+
+fn lines(fitted: Option<&GlmmCoefficients>, account: Account) -> String {
+    let (end, order, flag, iterations) = match fitted {
+        Some(fitted) => (0, fitted.effective_n_agq, fitted.dispersion_converged as usize, fitted.iterations),
+        None => (account.end, 0, 0, 0),
+    };
+    let mut text = format!(
+        "end {} order {} disp {} iters {} fits {} solves {} tries {} points {}\n",
+        end, order, flag, iterations, account.fits, account.solves, account.tries, account.points
+    );
+    if let Some(fitted) = fitted {
+        let rows = &fitted.v_beta_unscaled;
+        let v = (0..rows.nrows()).flat_map(|i| (0..rows.ncols()).map(move |j| rows[[i, j]])).collect();
+        let lists: [(&str, Vec<f64>); 11] = [
+            ("deviance", vec![fitted.deviance]),
+            ("phi", vec![fitted.phi]),
+            ("beta", fitted.beta.to_vec()),
+            ("se", fitted.beta_se.to_vec()),
+            ("z", fitted.beta_z.to_vec()),
+            ("u", fitted.u.to_vec()),
+            ("b", fitted.b.to_vec()),
+            ("mu", fitted.fitted.to_vec()),
+            ("eta", fitted.eta.to_vec()),
+            ("residual", fitted.residuals.to_vec()),
+            ("v", v),
+        ];
+        for (name, list) in &lists {
+            for (index, &x) in list.iter().enumerate() {
+                writeln!(text, "{} {} {}", name, index, hex(x)).unwrap();
+            }
+        }
+    }
+    text
+}
