@@ -1,2 +1,3 @@
 -- Laws of the linear algebra. Assumes nothing.
 pub mod StoredRows
+pub mod Merge

@@ -4,7 +4,7 @@ ghost use Prim.Native.Nat.{_≤_, _<_};
 ghost use lib.ListN.{length};
 ghost use Rattle.base.specs.List.{fillTo};
 ghost use Rattle.base.specs.Sparse.{Rows};
-ghost use Rattle.linear.specs.Stored.{sparse, ztTimesAt};
+ghost use Rattle.linear.specs.Stored.{sparse, ztTimesAt, ztwzAt};
 
 // Entry a of Z'v: only the entries that the row stores are visited.
 fn row_times(
@@ -50,4 +50,40 @@ pub fn zt_times(
         out[a] = row_times(starts, columns, values, rows, n, v, a);
         a += 1;
     }
+}
+
+// Entry (a, b) of Z'WZ: the two rows are merged, so that only what they store is visited.
+fn both_rows(
+    starts: &[usize],
+    columns: &[usize],
+    values: &[f64],
+    rows: usize,
+    n: usize,
+    w: &[f64],
+    a: usize,
+    b: usize,
+) -> f64
+    requires { ⌜ Rows (now starts) (now columns) (now values) rows n ⌝ }
+    requires { ⌜ (a < rows) × (b < rows) × (n ≤ length (now w)) ⌝ }
+    ensures { λ r. ⌜ r ≡ ztwzAt (sparse (now (starts .entry)) (now (columns .entry)) (now (values .entry))) n (now (w .entry)) a b ⌝ }
+{
+    let i_end = starts[a + 1];
+    let j_end = starts[b + 1];
+    let mut sum = 0.0;
+    let mut i = starts[a];
+    let mut j = starts[b];
+    while i < i_end && j < j_end {
+        let ci = columns[i];
+        let cj = columns[j];
+        if ci < cj {
+            i += 1;
+        } else if cj < ci {
+            j += 1;
+        } else {
+            sum = sum + (values[i] * values[j]) * w[ci];
+            i += 1;
+            j += 1;
+        }
+    }
+    sum
 }
