@@ -11,7 +11,7 @@ use lib.Seq.{getD-set-same, getD-set-other, ext-getD}
 use lib.Ieee.{Float, nan}
 use Rattle.base.specs.Sum.{_!_}
 use Rattle.base.specs.List.{build, matrix, at, fillTo, fillAt, gridTo}
-use Rattle.base.proofs.Sums.{last-or-before}
+use Rattle.base.proofs.Sums.{lt-or-ge, last-or-before}
 
 -- ---- built lists
 pub build-length : (f : ℕ → Float) (n : ℕ) → length (build f n) ≡ n
@@ -102,6 +102,12 @@ fill-in n f b h i l =
     let e : fillAt 0 n f b ! (0 + i) ≡ f i = fillat-in 0 n f b (omega arith) i l in
     rw (fill-at n f b) (rw (zero-add i) at e)
 
+-- a list with the rule's entries in front, and b's behind them, is the filled one
+pub fill-is : (n : ℕ) (f : ℕ → Float) (b w : List Float) → n ≤ length b → length w ≡ length b → ((i : ℕ) → i < n → w ! i ≡ f i) → ((i : ℕ) → n ≤ i → w ! i ≡ b ! i) → w ≡ fillTo n f b
+fill-is n f b w h e inside past =
+    ext-getD nan w (fillTo n f b) (e ∙ sym (length-fill n f b))
+    (λ i l. ⊎-elim (λ (m : i < n). inside i m ∙ sym (fill-in n f b h i m)) (λ (m : n ≤ i). past i m ∙ sym (fill-past n f b i m)) (lt-or-ge i n))
+
 -- a slice that is filled whole
 pub fill-build : (n : ℕ) (f : ℕ → Float) (b : List Float) → length b ≡ n → fillTo n f b ≡ build f n
 fill-build n f b h = build-is f n (fillTo n f b) (length-fill n f b ∙ h) (λ i l. fill-in n f b (omega arith) i l)
@@ -117,6 +123,13 @@ place-row c i j l = rw (mul-add-div-right {m = c} (omega arith) i j, div-eq-of-l
 
 pub place-column : (c i j : ℕ) → j < c → (i * c + j) % c ≡ j
 place-column c i j l = rw (mul-add-mod-self-right i c j) (mod-eq-of-lt l)
+
+-- and to no other
+pub same-row : (c a b i j : ℕ) → b < c → j < c → a * c + b ≡ i * c + j → a ≡ i
+same-row c a b i j l m e = sym (place-row c a b l) ∙ ap (λ (t : ℕ). t / c) e ∙ place-row c i j m
+
+pub same-column : (c a b i j : ℕ) → b < c → j < c → a * c + b ≡ i * c + j → b ≡ j
+same-column c a b i j l m e = sym (place-column c a b l) ∙ ap (λ (t : ℕ). t % c) e ∙ place-column c i j m
 
 pub matrix-length : (r c : ℕ) (f : ℕ → ℕ → Float) → length (matrix r c f) ≡ r * c
 unfolding matrix
@@ -164,6 +177,22 @@ grid-in (suc n) c f b h i j l m =
 pub columns : (r c t : ℕ) → t < r * c → 0 < c
 columns r zero t l = absurd (not-suc-le-zero (rw mul-zero at l))
 columns r (suc c) t l = omega arith
+
+-- a list with the grid's entries in the grid, and b's behind it, is the grid
+pub grid-is : (r c : ℕ) (f : ℕ → ℕ → Float) (b w : List Float) → r * c ≤ length b → length w ≡ length b → ((i j : ℕ) → i < r → j < c → at c w i j ≡ f i j) → ((t : ℕ) → r * c ≤ t → w ! t ≡ b ! t) → w ≡ gridTo r c f b
+grid-is r c f b w h e inside past =
+    ext-getD nan w (gridTo r c f b) (e ∙ sym (length-grid r c f b))
+    (λ t l. ⊎-elim (λ (m : t < r * c). entry t m) (λ (m : r * c ≤ t). past t m ∙ sym (grid-past r c f b t m)) (lt-or-ge t (r * c)))
+  where
+    entry : (t : ℕ) → t < r * c → w ! t ≡ gridTo r c f b ! t
+    entry t l =
+        let some : 0 < c = columns r c t l in
+        let whole : t / c * c + t % c ≡ t = div-add-mod' t c in
+        let row : t / c < r = div-lt-iff-lt-mul some .1 l in
+        let d : t % c < c = mod-lt t some in
+        let q : w ! (t / c * c + t % c) ≡ gridTo r c f b ! (t / c * c + t % c) =
+        inside (t / c) (t % c) row d ∙ sym (grid-in r c f b h (t / c) (t % c) row d) in
+        rw whole at q
 
 -- a slice that is filled whole by rows
 pub grid-matrix : (r c : ℕ) (f : ℕ → ℕ → Float) (b : List Float) → length b ≡ r * c → gridTo r c f b ≡ matrix r c f

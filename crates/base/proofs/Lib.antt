@@ -1,5 +1,6 @@
 -- The laws that the proofs of every crate cite. Assumes nothing.
 pub mod Doubles
+pub mod Commutes
 pub mod Sums
 pub mod Fills
 pub mod Rows

@@ -1,3 +1,5 @@
 -- Laws of the linear algebra. Assumes nothing.
 pub mod StoredRows
+pub mod Parted
 pub mod Merge
+pub mod Added

@@ -3,7 +3,7 @@ use mathlib.Core.List.{List}
 use Prim.Native.Nat.{ℕ}
 use lib.Ieee.{Float}
 use Rattle.base.specs.Number.{_⊗_}
-use Rattle.base.specs.Sum.{_!_, sumWhere}
+use Rattle.base.specs.Sum.{_!_, addWhere, sumWhere}
 use Rattle.base.specs.Sparse.{Sparse, stored, valueAt, rowSum, bothSum}
 
 -- what observation i adds to entry a of Z'v
@@ -29,6 +29,10 @@ effectTerm Z b i a = valueAt Z a i ⊗ (b ! a)
 -- entry i of Zb: the sum over the rows that store observation i
 unfoldable pub zTimesAt : Sparse → ℕ → List Float → ℕ → Float
 zTimesAt Z rows b i = sumWhere rows (λ a. stored Z a i) (effectTerm Z b i)
+
+-- v_i, and what row a adds to it where the row stores observation i
+unfoldable pub addedAt : Sparse → List Float → ℕ → List Float → ℕ → Float
+addedAt Z b a v i = addWhere (stored Z a i) (v ! i) (effectTerm Z b i a)
 
 -- the three lent lists as one matrix
 abbrev pub sparse : List ℕ → List ℕ → List Float → Sparse

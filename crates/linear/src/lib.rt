@@ -4,4 +4,5 @@ mod stored;
 
 pub use product::cross_at;
 pub use product::x_beta;
+pub use stored::z_times;
 pub use stored::zt_times;
