@@ -3,3 +3,4 @@ pub mod StoredRows
 pub mod Parted
 pub mod Merge
 pub mod Added
+pub mod Symmetry

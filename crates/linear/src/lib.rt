@@ -6,3 +6,4 @@ pub use product::cross_at;
 pub use product::x_beta;
 pub use stored::z_times;
 pub use stored::zt_times;
+pub use stored::ztwz;

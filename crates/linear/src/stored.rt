@@ -1,10 +1,11 @@
 // Products with Z', which is stored by its rows: row starts, columns, values.
 ghost use mathlib.Core.Path.{_≡_};
-ghost use Prim.Native.Nat.{_≤_, _<_};
+ghost use Prim.Native.Nat.{_+_, _*_, _≤_, _<_};
 ghost use lib.ListN.{length};
-ghost use Rattle.base.specs.List.{fillTo};
+ghost use Rattle.base.specs.List.{fillTo, gridTo};
 ghost use Rattle.base.specs.Sparse.{Rows};
 ghost use Rattle.linear.specs.Stored.{sparse, ztTimesAt, ztwzAt, zTimesAt, addedAt};
+ghost use Rattle.linear.specs.Symmetric.{Bordered};
 
 // Entry a of Z'v: only the entries that the row stores are visited.
 fn row_times(
@@ -86,6 +87,53 @@ fn both_rows(
         }
     }
     sum
+}
+
+// Row a of Z'WZ up to the diagonal, and column a, which has the same numbers.
+fn ztwz_row(
+    starts: &[usize],
+    columns: &[usize],
+    values: &[f64],
+    rows: usize,
+    n: usize,
+    w: &[f64],
+    a: usize,
+    out: &mut [f64],
+)
+    requires { ⌜ Rows (now starts) (now columns) (now values) rows n ⌝ }
+    requires { ⌜ (a < rows) × (n ≤ length (now w)) × (rows * rows ≤ length (now out)) ⌝ }
+    ensures { λ _. ⌜ Bordered rows a (a + 1) (ztwzAt (sparse (now (starts .entry)) (now (columns .entry)) (now (values .entry))) n (now (w .entry))) (now (out .entry)) (now (out .exit)) ⌝ }
+{
+    let ao = base::offset(a, rows, rows);
+    let mut b = 0;
+    while b <= a {
+        let bo = base::offset(b, rows, rows);
+        let sum = both_rows(starts, columns, values, rows, n, w, a, b);
+        out[ao + b] = sum;
+        out[bo + a] = sum;
+        b += 1;
+    }
+}
+
+// Z'WZ into out, row by row.
+pub fn ztwz(
+    starts: &[usize],
+    columns: &[usize],
+    values: &[f64],
+    rows: usize,
+    n: usize,
+    w: &[f64],
+    out: &mut [f64],
+)
+    requires { ⌜ Rows (now starts) (now columns) (now values) rows n ⌝ }
+    requires { ⌜ (n ≤ length (now w)) × (rows * rows ≤ length (now out)) ⌝ }
+    ensures { λ _. ⌜ now (out .exit) ≡ gridTo rows rows (ztwzAt (sparse (now (starts .entry)) (now (columns .entry)) (now (values .entry))) n (now (w .entry))) (now (out .entry)) ⌝ }
+{
+    let mut a = 0;
+    while a < rows {
+        ztwz_row(starts, columns, values, rows, n, w, a, out);
+        a += 1;
+    }
 }
 
 // What row a adds to Zb: each of its entries to the place of its observation.
