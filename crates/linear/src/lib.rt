@@ -2,8 +2,12 @@
 mod product;
 mod stored;
 
-pub use product::cross_at;
+pub use product::column_dot;
+pub use product::effects_less;
+pub use product::normal_row;
+pub use product::products;
 pub use product::x_beta;
+pub use product::xw_column;
 pub use stored::z_times;
 pub use stored::zt_times;
 pub use stored::ztwz;
