@@ -1,7 +1,2 @@
--- Laws of the linear algebra. Assumes nothing.
-pub mod StoredRows
-pub mod Parted
-pub mod Merge
-pub mod Added
-pub mod Symmetry
+-- Laws of products with X and with the solved columns. Assumes nothing.
 pub mod Columns

@@ -1,13 +1,13 @@
--- `linear::z_times` meets its contract: before row a each place holds the sum over the rows before it.
+-- `stored::z_times` meets its contract: before row a each place holds the sum over the rows before it.
 use mathlib.Core.Path.{_≡_}
 use Prim.Native.Nat.{_-_, _≤_}
 use lib.ListN.{length}
 use Rattle.base.specs.List.{fillTo}
-use Rattle.linear.specs.Stored.{sparse, zTimesAt}
-use Rattle.linear.proofs.Added.{rows-none, rows-step, rows-end}
+use Rattle.stored.specs.Stored.{sparse, zTimesAt}
+use Rattle.stored.proofs.Added.{rows-none, rows-step, rows-end}
 use native.Mathlib.Omega.{arith}
-use Rattle.linear.proofs.stored.z_times.Statement.{statement}
-use Rattle.linear.proofs.stored.z_times.Tie as tie
+use Rattle.stored.proofs.effects.z_times.Statement.{statement}
+use Rattle.stored.proofs.effects.z_times.Tie as tie
 
 abbrev Inv-loop : tie.InvT-loop
 Inv-loop starts columns values rows n b out₀ a₀ out a = (a ≤ rows) × (length out ≡ length out₀) × (out ≡ fillTo n (zTimesAt (sparse starts columns values) a b) out₀)

@@ -14,8 +14,8 @@ use Rattle.base.specs.Sparse.{Rising, Rows, Sparse, stored}
 use Rattle.base.proofs.Sums.{lt-or-ge}
 use Rattle.base.proofs.Fills.{fill-none, fill-step, fill-in, fill-past, fill-is, length-fill}
 use Rattle.base.proofs.SparseRows.{stored-entry, value-entry}
-use Rattle.linear.specs.Stored.{effectTerm, zTimesAt, addedAt}
-use Rattle.linear.proofs.Parted.{Parted, parted-none, passed, between}
+use Rattle.stored.specs.Stored.{effectTerm, zTimesAt, addedAt}
+use Rattle.stored.proofs.Parted.{Parted, parted-none, passed, between}
 
 -- where the rule keeps what was there, one may fill further
 fill-on : (k m : ℕ) (f : ℕ → Float) (v : List Float) → k ≤ m → m ≤ length v → ((i : ℕ) → k ≤ i → i < m → f i ≡ v ! i) → fillTo k f v ≡ fillTo m f v

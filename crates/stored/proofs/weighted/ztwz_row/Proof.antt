@@ -1,13 +1,13 @@
--- `linear::ztwz_row` meets its contract: before turn b the first b entries of row a and of column a are written, and Z'WZ is symmetric.
+-- `stored::ztwz_row` meets its contract: before turn b the first b entries of row a and of column a are written, and Z'WZ is symmetric.
 use mathlib.Core.Path.{_≡_}
 use Prim.Native.Nat.{_-_, _+_, _≤_}
 use lib.ListN.{length, length-set}
-use Rattle.linear.specs.Stored.{sparse, ztwzAt}
-use Rattle.linear.specs.Symmetric.{Bordered}
-use Rattle.linear.proofs.Symmetry.{ztwz-symmetric, border-none, border-step, border-end}
+use Rattle.stored.specs.Stored.{sparse, ztwzAt}
+use Rattle.stored.specs.Symmetric.{Bordered}
+use Rattle.stored.proofs.Symmetry.{ztwz-symmetric, border-none, border-step, border-end}
 use native.Mathlib.Omega.{arith}
-use Rattle.linear.proofs.stored.ztwz_row.Statement.{statement}
-use Rattle.linear.proofs.stored.ztwz_row.Tie as tie
+use Rattle.stored.proofs.weighted.ztwz_row.Statement.{statement}
+use Rattle.stored.proofs.weighted.ztwz_row.Tie as tie
 
 abbrev Inv-loop : tie.InvT-loop
 Inv-loop starts columns values rows n w a out₀ ao b₀ out b = (b ≤ a + 1) × (length out ≡ length out₀) × (Bordered rows a b (ztwzAt (sparse starts columns values) n w) out₀ out)

@@ -1,4 +1,4 @@
--- `linear::both_rows` meets its contract: the sum is over the columns that both rows store below a cut, which parts what the cursors have passed from the rest.
+-- `stored::both_rows` meets its contract: the sum is over the columns that both rows store below a cut, which parts what the cursors have passed from the rest.
 use borrow.Author.Tests.{ltb-true, ltb-false}
 use mathlib.Core.Logic.{inl, inr}
 use mathlib.Core.Path.{_≡_}
@@ -6,11 +6,11 @@ use Prim.Native.Nat.{_+_, _-_}
 use lib.ListN.{length}
 use Rattle.base.specs.Sum.{_!!_}
 use Rattle.base.specs.Sparse.{Rising}
-use Rattle.linear.specs.Stored.{sparse, weightedTerm, ztwzAt}
-use Rattle.linear.proofs.Merge.{Merged, merge-none, merge-first, merge-second, merge-both, merge-end, weighted-entry}
+use Rattle.stored.specs.Stored.{sparse, weightedTerm, ztwzAt}
+use Rattle.stored.proofs.Merge.{Merged, merge-none, merge-first, merge-second, merge-both, merge-end, weighted-entry}
 use native.Mathlib.Omega.{arith}
-use Rattle.linear.proofs.stored.both_rows.Statement.{statement}
-use Rattle.linear.proofs.stored.both_rows.Tie as tie
+use Rattle.stored.proofs.weighted.both_rows.Statement.{statement}
+use Rattle.stored.proofs.weighted.both_rows.Tie as tie
 
 abbrev Inv-loop : tie.InvT-loop
 Inv-loop starts columns values rows n w a b i-end j-end sum₀ i₀ j₀ sum i j = (Rising columns n (starts !! a) i-end) × (Rising columns n (starts !! b) j-end) × (length columns ≡ length values) × (Merged (sparse starts columns values) n a b (weightedTerm (sparse starts columns values) w a b) i j sum)

@@ -1,12 +1,12 @@
--- `linear::ztwz` meets its contract: before row a the leading a by a square is written.
+-- `stored::ztwz` meets its contract: before row a the leading a by a square is written.
 use mathlib.Core.Path.{_≡_}
 use Prim.Native.Nat.{_-_, _≤_}
 use lib.ListN.{length}
-use Rattle.linear.specs.Stored.{sparse, ztwzAt}
-use Rattle.linear.proofs.Symmetry.{Leading, leading-none, leading-step, leading-end}
+use Rattle.stored.specs.Stored.{sparse, ztwzAt}
+use Rattle.stored.proofs.Symmetry.{Leading, leading-none, leading-step, leading-end}
 use native.Mathlib.Omega.{arith}
-use Rattle.linear.proofs.stored.ztwz.Statement.{statement}
-use Rattle.linear.proofs.stored.ztwz.Tie as tie
+use Rattle.stored.proofs.weighted.ztwz.Statement.{statement}
+use Rattle.stored.proofs.weighted.ztwz.Tie as tie
 
 abbrev Inv-loop : tie.InvT-loop
 Inv-loop starts columns values rows n w out₀ a₀ out a = (a ≤ rows) × (length out ≡ length out₀) × (Leading rows a (ztwzAt (sparse starts columns values) n w) out₀ out)

@@ -11,8 +11,8 @@ use Rattle.base.specs.Sum.{_!_, _!!_, sumWhere}
 use Rattle.base.specs.Sparse.{Rising, Rows, Sparse, stored, storedIn, valueAt, bothSum}
 use Rattle.base.proofs.Sums.{where-none, where-take, where-gap}
 use Rattle.base.proofs.SparseRows.{stored-entry, value-entry}
-use Rattle.linear.proofs.Parted.{Parted, parted-none, passed, raised, between}
-use Rattle.linear.specs.Stored.{weightedTerm}
+use Rattle.stored.proofs.Parted.{Parted, parted-none, passed, raised, between}
+use Rattle.stored.specs.Stored.{weightedTerm}
 
 and-false : (b : Bool) → b && false ≡ false
 and-false true = refl

@@ -17,8 +17,8 @@ use Rattle.base.specs.Sparse.{Sparse, stored, valueAt, bothSum}
 use Rattle.base.proofs.Commutes.{times-commutes}
 use Rattle.base.proofs.Sums.{lt-or-ge, last-or-before, where-cong}
 use Rattle.base.proofs.Fills.{row-fits, same-row, same-column, grid-is}
-use Rattle.linear.specs.Stored.{weightedTerm, ztwzAt}
-use Rattle.linear.specs.Symmetric.{Bordered}
+use Rattle.stored.specs.Stored.{weightedTerm, ztwzAt}
+use Rattle.stored.specs.Symmetric.{Bordered}
 
 -- ---- the sum of (z_a·z_b)·w is that of (z_b·z_a)·w
 and-commutes : (a b : Bool) → a && b ≡ b && a

@@ -1,14 +1,14 @@
--- `linear::add_row` meets its contract: the places below a cut, which parts what the cursor has passed from the rest, have what the row adds to them.
+-- `stored::add_row` meets its contract: the places below a cut, which parts what the cursor has passed from the rest, have what the row adds to them.
 use mathlib.Core.Path.{_≡_}
 use Prim.Native.Nat.{_-_}
 use lib.ListN.{length, length-set}
 use Rattle.base.specs.Sum.{_!!_}
 use Rattle.base.specs.Sparse.{Rising}
-use Rattle.linear.specs.Stored.{sparse}
-use Rattle.linear.proofs.Added.{RowAdded, added-none, added-step, added-end}
+use Rattle.stored.specs.Stored.{sparse}
+use Rattle.stored.proofs.Added.{RowAdded, added-none, added-step, added-end}
 use native.Mathlib.Omega.{arith}
-use Rattle.linear.proofs.stored.add_row.Statement.{statement}
-use Rattle.linear.proofs.stored.add_row.Tie as tie
+use Rattle.stored.proofs.effects.add_row.Statement.{statement}
+use Rattle.stored.proofs.effects.add_row.Tie as tie
 
 abbrev Inv-loop : tie.InvT-loop
 Inv-loop starts columns values rows n b a out₀ end k₀ out k = (Rising columns n (starts !! a) end) × (length columns ≡ length values) × (length out ≡ length out₀) × (RowAdded (sparse starts columns values) b n a out₀ k out)

@@ -1,13 +1,13 @@
--- `linear::zt_times` meets its contract: before row a the first a places hold the rows' sums.
+-- `stored::zt_times` meets its contract: before row a the first a places hold the rows' sums.
 use mathlib.Core.Path.{_≡_}
 use Prim.Native.Nat.{_≤_, _-_}
 use lib.ListN.{length}
 use Rattle.base.specs.List.{fillTo}
-use Rattle.linear.specs.Stored.{sparse, ztTimesAt}
+use Rattle.stored.specs.Stored.{sparse, ztTimesAt}
 use Rattle.base.proofs.Loops.{loops}
 use borrow.Author.Needs.{needs}
-use Rattle.linear.proofs.stored.zt_times.Statement.{statement}
-use Rattle.linear.proofs.stored.zt_times.Tie as tie
+use Rattle.stored.proofs.side.zt_times.Statement.{statement}
+use Rattle.stored.proofs.side.zt_times.Tie as tie
 
 abbrev Inv-loop : tie.InvT-loop
 Inv-loop starts columns values rows n v out₀ a₀ out a = (a ≤ rows) × (length out ≡ length out₀) × (out ≡ fillTo a (ztTimesAt (sparse starts columns values) n v) out₀)

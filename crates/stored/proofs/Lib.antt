@@ -1,0 +1,6 @@
+-- Laws of products with Z'. Assumes nothing.
+pub mod StoredRows
+pub mod Parted
+pub mod Merge
+pub mod Added
+pub mod Symmetry
