@@ -1,2 +1,3 @@
 -- Laws of products with X and with the solved columns. Assumes nothing.
 pub mod Columns
+pub mod Unique

@@ -4,3 +4,4 @@ pub mod Parted
 pub mod Merge
 pub mod Added
 pub mod Symmetry
+pub mod Unique

@@ -33,7 +33,7 @@ ztwz-symmetric Z n w a b =
     where-cong n _ _ _ _ (λ k l. and-commutes (stored Z a k) (stored Z b k)) (λ k l e. ap (λ (x : Float). x ⊗ (w ! k)) (times-commutes (valueAt Z a k) (valueAt Z b k)))
 
 -- ---- one number at two places, which may be one
-same-or-not : (t q : ℕ) → (t ≡ q) ⊎ (t ≡ q → ⊥)
+pub same-or-not : (t q : ℕ) → (t ≡ q) ⊎ (t ≡ q → ⊥)
 same-or-not t q = ⊎-elim (λ (l : t < q). inr (λ e. omega arith)) (λ (l : q ≤ t). ⊎-elim (λ (m : q < t). inr (λ e. omega arith)) (λ (m : t ≤ q). inl (omega arith)) (lt-or-ge q t)) (lt-or-ge t q)
 
 module _ (p q : ℕ) (x : Float) (X : List Float) where
