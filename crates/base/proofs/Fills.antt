@@ -137,6 +137,13 @@ place-row c i j l = rw (mul-add-div-right {m = c} (omega arith) i j, div-eq-of-l
 pub place-column : (c i j : ℕ) → j < c → (i * c + j) % c ≡ j
 place-column c i j l = rw (mul-add-mod-self-right i c j) (mod-eq-of-lt l)
 
+-- and to no other
+pub same-row : (c a b i j : ℕ) → b < c → j < c → a * c + b ≡ i * c + j → a ≡ i
+same-row c a b i j l m e = sym (place-row c a b l) ∙ ap (λ (t : ℕ). t / c) e ∙ place-row c i j m
+
+pub same-column : (c a b i j : ℕ) → b < c → j < c → a * c + b ≡ i * c + j → b ≡ j
+same-column c a b i j l m e = sym (place-column c a b l) ∙ ap (λ (t : ℕ). t % c) e ∙ place-column c i j m
+
 pub matrix-length : (r c : ℕ) (f : ℕ → ℕ → Float) → length (matrix r c f) ≡ r * c
 unfolding matrix
 matrix-length r c f = build-length (λ t. f (t / c) (t % c)) (r * c)
@@ -183,6 +190,22 @@ grid-in (suc n) c f b h i j l m =
 pub columns : (r c t : ℕ) → t < r * c → 0 < c
 columns r zero t l = absurd (not-suc-le-zero (rw mul-zero at l))
 columns r (suc c) t l = omega arith
+
+-- a list with the grid's entries in the grid, and b's behind it, is the grid
+pub grid-is : (r c : ℕ) (f : ℕ → ℕ → Float) (b w : List Float) → r * c ≤ length b → length w ≡ length b → ((i j : ℕ) → i < r → j < c → at c w i j ≡ f i j) → ((t : ℕ) → r * c ≤ t → w ! t ≡ b ! t) → w ≡ gridTo r c f b
+grid-is r c f b w h e inside past =
+    ext-getD nan w (gridTo r c f b) (e ∙ sym (length-grid r c f b))
+    (λ t l. ⊎-elim (λ (m : t < r * c). entry t m) (λ (m : r * c ≤ t). past t m ∙ sym (grid-past r c f b t m)) (lt-or-ge t (r * c)))
+  where
+    entry : (t : ℕ) → t < r * c → w ! t ≡ gridTo r c f b ! t
+    entry t l =
+        let some : 0 < c = columns r c t l in
+        let whole : t / c * c + t % c ≡ t = div-add-mod' t c in
+        let row : t / c < r = div-lt-iff-lt-mul some .1 l in
+        let d : t % c < c = mod-lt t some in
+        let q : w ! (t / c * c + t % c) ≡ gridTo r c f b ! (t / c * c + t % c) =
+        inside (t / c) (t % c) row d ∙ sym (grid-in r c f b h (t / c) (t % c) row d) in
+        rw whole at q
 
 -- a slice that is filled whole by rows
 pub grid-matrix : (r c : ℕ) (f : ℕ → ℕ → Float) (b : List Float) → length b ≡ r * c → gridTo r c f b ≡ matrix r c f

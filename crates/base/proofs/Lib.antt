@@ -1,6 +1,7 @@
 -- The laws that the proofs of every crate cite. Assumes nothing.
 pub mod Doubles
 pub mod Rounded
+pub mod Commutes
 pub mod Sums
 pub mod Order
 pub mod Fills

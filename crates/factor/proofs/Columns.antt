@@ -1,20 +1,19 @@
--- Columns of the unit matrix, a grid known by its entries, and a row of it that is lent as a part. Assumes nothing.
-use mathlib.Core.Path.{_≡_, refl, sym, _∙_}
+-- Columns of the unit matrix, and a row of a grid that is lent as a part. Assumes nothing.
+use mathlib.Core.Path.{_≡_, refl, _∙_}
 use mathlib.Core.List.{List}
 use mathlib.Core.Logic.{⊎-elim}
-use Prim.Native.Nat.{ℕ, _+_, _-_, _*_, _/_, _%_, _<_, _≤_}
-use native.Mathlib.Nat.{div-add-mod', mod-lt, div-lt-iff-lt-mul}
+use Prim.Native.Nat.{ℕ, _+_, _-_, _*_, _<_, _≤_}
 use native.Mathlib.Omega.{arith}
 use lib.ListN.{length, set, length-set}
-use lib.Seq.{getD-set-same, getD-set-other, ext-getD}
+use lib.Seq.{getD-set-same, getD-set-other}
 use lib.Ieee.{Float, nan}
 use borrow.Author.Tests.{eq-eqb, ne-eqb}
 use borrow.Rule.Slice.PartMut.{putMid, midOf, mid-len}
 use Rattle.base.specs.Number.{oneF}
 use Rattle.base.specs.Sum.{_!_}
-use Rattle.base.specs.List.{zeroAt, at, fillTo, fillAt, gridTo}
+use Rattle.base.specs.List.{zeroAt, fillTo, fillAt, gridTo}
 use Rattle.base.proofs.Sums.{lt-or-ge}
-use Rattle.base.proofs.Fills.{build-is, length-fill, fill-in, grid-step, length-grid, grid-in, grid-past, columns}
+use Rattle.base.proofs.Fills.{build-is, length-fill, fill-in, grid-step}
 use Rattle.base.proofs.Rows.{fillat-wrote, part-wrote, wrote-unique}
 use Rattle.factor.specs.Inverse.{unitAt, unitColumn}
 
@@ -33,22 +32,6 @@ unit-made s c b l h =
   where
     other : (i : ℕ) → i < s → (i ≡ c → ⊥) → set (fillTo s zeroAt b) c oneF ! i ≡ unitAt c i
     other i m n = rw (ne-eqb i c n) (getD-set-other (fillTo s zeroAt b) c i oneF nan n ∙ fill-in s zeroAt b (omega arith) i m)
-
--- a list with the grid's entries in the grid, and b's behind it, is the grid
-pub grid-is : (r c : ℕ) (f : ℕ → ℕ → Float) (b w : List Float) → r * c ≤ length b → length w ≡ length b → ((i j : ℕ) → i < r → j < c → at c w i j ≡ f i j) → ((t : ℕ) → r * c ≤ t → w ! t ≡ b ! t) → w ≡ gridTo r c f b
-grid-is r c f b w h e inside past =
-    ext-getD nan w (gridTo r c f b) (e ∙ sym (length-grid r c f b))
-    (λ t l. ⊎-elim (λ (m : t < r * c). entry t m) (λ (m : r * c ≤ t). past t m ∙ sym (grid-past r c f b t m)) (lt-or-ge t (r * c)))
-  where
-    entry : (t : ℕ) → t < r * c → w ! t ≡ gridTo r c f b ! t
-    entry t l =
-        let some : 0 < c = columns r c t l in
-        let whole : t / c * c + t % c ≡ t = div-add-mod' t c in
-        let row : t / c < r = div-lt-iff-lt-mul some .1 l in
-        let d : t % c < c = mod-lt t some in
-        let q : w ! (t / c * c + t % c) ≡ gridTo r c f b ! (t / c * c + t % c) =
-        inside (t / c) (t % c) row d ∙ sym (grid-in r c f b h (t / c) (t % c) row d) in
-        rw whole at q
 
 -- row r of the grid was lent as the part from o to e and came back as ys, which is C
 pub grid-part : (r c : ℕ) (f : ℕ → ℕ → Float) (b X ys C : List Float) (o e : ℕ) → X ≡ gridTo r c f b → o ≡ r * c → e ≡ o + c → e ≤ length X

@@ -1,8 +1,8 @@
 -- The exchanges of rows and columns make the transpose. Assumes nothing.
-use mathlib.Core.Path.{_≡_, refl, sym, ap, _∙_}
+use mathlib.Core.Path.{_≡_, refl, ap, _∙_}
 use mathlib.Core.List.{List}
 use mathlib.Core.Logic.{⊎-elim}
-use Prim.Native.Nat.{ℕ, zero, suc, _+_, _*_, _/_, _%_, _<_, _≤_}
+use Prim.Native.Nat.{ℕ, zero, suc, _+_, _*_, _<_, _≤_}
 use native.Mathlib.Nat.{not-suc-le-zero}
 use native.Mathlib.Numerals.{add-one}
 use native.Mathlib.Omega.{arith}
@@ -12,9 +12,8 @@ use lib.Ieee.{Float, nan}
 use Rattle.base.specs.Sum.{_!_}
 use Rattle.base.specs.List.{at, gridTo}
 use Rattle.base.proofs.Sums.{last-or-before}
-use Rattle.base.proofs.Fills.{row-fits, place-row, place-column, length-grid, grid-in, grid-past}
+use Rattle.base.proofs.Fills.{row-fits, same-row, same-column, length-grid, grid-in, grid-past, grid-is}
 use Rattle.factor.specs.Transpose.{turnedAt, swapped, rowTurned, squareTurned}
-use Rattle.factor.proofs.Columns.{grid-is}
 
 -- ---- one exchange
 length-swapped : (p q : ℕ) (X : List Float) → length (swapped p q X) ≡ length X
@@ -32,13 +31,6 @@ swapped-second p q X l = getD-set-same (set X p (X ! q)) q (X ! p) nan (omega (a
 swapped-other : (p q t : ℕ) (X : List Float) → (t ≡ p → ⊥) → (t ≡ q → ⊥) → swapped p q X ! t ≡ X ! t
 unfolding swapped
 swapped-other p q t X n m = getD-set-other (set X p (X ! q)) q t (X ! p) nan m ∙ getD-set-other X p t (X ! q) nan n
-
--- a place has one row and one column
-same-row : (s a b i j : ℕ) → b < s → j < s → a * s + b ≡ i * s + j → a ≡ i
-same-row s a b i j l m e = sym (place-row s a b l) ∙ ap (λ (t : ℕ). t / s) e ∙ place-row s i j m
-
-same-column : (s a b i j : ℕ) → b < s → j < s → a * s + b ≡ i * s + j → b ≡ j
-same-column s a b i j l m e = sym (place-column s a b l) ∙ ap (λ (t : ℕ). t % s) e ∙ place-column s i j m
 
 -- ---- the first n entries of row i and of column i, in P and in X
 record RowTurned (s i n : ℕ) (P X : List Float) : Type 0 where

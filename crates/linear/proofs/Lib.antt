@@ -1,2 +1,3 @@
--- Laws of the linear algebra. Assumes nothing.
-pub mod StoredRows
+-- Laws of products with X and with the solved columns. Assumes nothing.
+pub mod Columns
+pub mod Unique

@@ -1,3 +1,2 @@
--- The linear algebra of the fit, by entries. Assumes nothing.
+-- Products with X and with the solved columns, by entries. Assumes nothing.
 pub mod Product
-pub mod Stored

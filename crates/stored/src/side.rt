@@ -1,10 +1,10 @@
-// Products with Z', which is stored by its rows: row starts, columns, values.
+// Z'v: a vector over the observations, summed row by row.
 ghost use mathlib.Core.Path.{_≡_};
 ghost use Prim.Native.Nat.{_≤_, _<_};
 ghost use lib.ListN.{length};
 ghost use Rattle.base.specs.List.{fillTo};
 ghost use Rattle.base.specs.Sparse.{Rows};
-ghost use Rattle.linear.specs.Stored.{sparse, ztTimesAt};
+ghost use Rattle.stored.specs.Stored.{sparse, ztTimesAt};
 
 // Entry a of Z'v: only the entries that the row stores are visited.
 fn row_times(

@@ -8,7 +8,7 @@ use Rattle.base.specs.Sum.{_!_, _!!_, sumFrom}
 use Rattle.base.specs.Sparse.{Sparse, Rows}
 use Rattle.base.proofs.Sums.{from-cong}
 use Rattle.base.proofs.SparseRows.{row-sum, value-entry}
-use Rattle.linear.specs.Stored.{storedTerm, ztTimesAt}
+use Rattle.stored.specs.Stored.{storedTerm, ztTimesAt}
 
 -- what entry k of Z' adds: its value times v at its column
 abbrev pub entryTerm : Sparse → List Float → ℕ → Float

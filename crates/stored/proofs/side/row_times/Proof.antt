@@ -1,4 +1,4 @@
--- `linear::row_times` meets its contract: before entry k the sum is that of the row's entries before it, and a rising row's entries are what it stores.
+-- `stored::row_times` meets its contract: before entry k the sum is that of the row's entries before it, and a rising row's entries are what it stores.
 use mathlib.Core.Path.{_≡_, _∙_}
 use Prim.Native.Nat.{_≤_, _-_}
 use native.Mathlib.Omega.{arith}
@@ -6,12 +6,12 @@ use lib.ListN.{length}
 use Rattle.base.specs.Sum.{_!!_, sumFrom}
 use Rattle.base.specs.Sparse.{Rising}
 use Rattle.base.proofs.Sums.{from-none, from-step, from-end}
-use Rattle.linear.specs.Stored.{sparse}
-use Rattle.linear.proofs.StoredRows.{entryTerm, zt-entries}
+use Rattle.stored.specs.Stored.{sparse}
+use Rattle.stored.proofs.StoredRows.{entryTerm, zt-entries}
 use Rattle.base.proofs.Loops.{loops}
 use borrow.Author.Needs.{needs}
-use Rattle.linear.proofs.stored.row_times.Statement.{statement}
-use Rattle.linear.proofs.stored.row_times.Tie as tie
+use Rattle.stored.proofs.side.row_times.Statement.{statement}
+use Rattle.stored.proofs.side.row_times.Tie as tie
 
 abbrev Inv-loop : tie.InvT-loop
 Inv-loop starts columns values rows n v a end sum₀ k₀ sum k = (starts !! a ≤ k) × (k ≤ end) × (Rising columns n (starts !! a) end) × (length columns ≡ length values) × (sum ≡ sumFrom (starts !! a) k (entryTerm (sparse starts columns values) v))

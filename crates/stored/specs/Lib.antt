@@ -1,0 +1,3 @@
+-- Products with Z', by entries. Assumes nothing.
+pub mod Stored
+pub mod Symmetric
