@@ -22,10 +22,6 @@ NOT_GIVEN = 1023
 LONGEST = 65536
 
 
-def double(pattern):
-    return struct.unpack(">d", pattern.to_bytes(8, "big"))[0]
-
-
 def number_bytes(value):
     """Eight bytes, high byte first."""
     if isinstance(value, str) and len(value) == 16:
@@ -33,12 +29,11 @@ def number_bytes(value):
     return struct.pack(">d", float(value))
 
 
-def number_text(data):
+def number_text(value):
     """A number of a description; a NaN keeps its pattern."""
-    value = struct.unpack(">d", data)[0]
     if math.isfinite(value):
         return value
-    return data.hex().upper() if math.isnan(value) else "inf" if value > 0 else "-inf"
+    return struct.pack(">d", value).hex().upper() if math.isnan(value) else "inf" if value > 0 else "-inf"
 
 
 def packed(fields):
@@ -94,6 +89,18 @@ def from_groups(about):
         return about
     pairs = [block_rows(block) for block in about["blocks"]]
     return {**about, "blocks": [b for b, _ in pairs], "zt": [row for _, rows in pairs for row in rows]}
+
+
+def numbers_text(values):
+    return None if values is None else [number_text(v) for v in values]
+
+
+def description_of(job):
+    """The description of a job that was read."""
+    return {"family": FAMILIES[job.family], "link": LINKS[job.link], "n_agq": job.n_agq, "limit": job.limit,
+            "blocks": [{"m": m, "k": k} for m, k in job.blocks], "theta": numbers_text(job.theta), "y": numbers_text(job.y),
+            "weights": numbers_text(job.weights), "offset": numbers_text(job.offset), "x": [numbers_text(row) for row in job.x],
+            "zt": [[[column, number_text(v)] for column, v in row] for row in job.zt]}
 
 
 def text_of(about):
