@@ -9,7 +9,7 @@ LARGEST = (2.0 - E) * 2.0**1023
 
 
 class Declined(Exception):
-    """A quadrature step that keeps Laplace."""
+    """A quadrature step that keeps Laplace, with the cause."""
 
 
 class Account:
@@ -178,8 +178,8 @@ def spread_factor(matrix):
     """The Cholesky factor of the inverse."""
     try:
         return cholesky(ldl_inverse(matrix))
-    except Ended:
-        raise Declined
+    except Ended as end:
+        raise Declined("inverse" if end.args[0] == 10 else "factor")
 
 
 def grid(order, dimensions):
@@ -203,7 +203,7 @@ def log_term(log_weight, difference, inverse_phi, penalty):
 def log_inner(terms):
     value = log_sum_exp(terms)
     if not math.isfinite(value):
-        raise Declined
+        raise Declined("log sum")
     return -2.0 * value
 
 
@@ -215,7 +215,7 @@ def scalar_group(problem, account, mode, order, inverse_phi, g):
     """A group with one effect."""
     diagonal, u = mode.step.a[g][g], mode.step.u
     if diagonal <= E or not math.isfinite(diagonal):
-        raise Declined
+        raise Declined("diagonal")
     sigma = over(1.0, sqrt(diagonal))
     terms = []
     for node, weight in zip(*rule(order)):

@@ -5,6 +5,7 @@ from form import job_bytes
 
 PAIRS = [("binomial", "logit"), ("binomial", "cloglog"), ("poisson", "log"), ("poisson", "identity"), ("poisson", "sqrt"), ("gaussian", "identity"),
          ("gaussian", "log"), ("gaussian", "inverse")]
+CHEAP = PAIRS[:5] * 4 + PAIRS[5:]  # for large jobs: few that run the dispersion loop
 STEEP = [("gaussian", "log"), ("gaussian", "inverse"), ("poisson", "log"), ("poisson", "sqrt"), ("poisson", "identity"), ("binomial", "cloglog")]
 
 
@@ -116,7 +117,7 @@ def large(r):
     n = r.choice([512, 512, r.randint(200, 511)])
     p = r.choice([1, 2, 6, 14 if n == 512 else 10])
     most = (58000 - 8 * n * (p + 2)) // (10 * n)
-    about = description(r, r.choice(PAIRS), n, p, some_blocks(r, 32, None if most >= 3 else 1, max(1, min(8, most))))
+    about = description(r, r.choice(CHEAP), n, p, some_blocks(r, 32, None if most >= 3 else 1, max(1, min(8, most))))
     if r.random() < 0.5 and len(job_bytes(about)) + 8 * n <= 65536:
         positive_weights(r, about)
     return about if len(job_bytes(about)) <= 65536 else large(r)
@@ -126,7 +127,7 @@ def wide(r):
     """16 columns, 32 effects, few observations."""
     n = r.randint(34, 60)
     blocks = r.choice([[{"m": 32, "k": 1}], [{"m": 4, "k": 8}], [{"m": 1, "k": 4}] * 8, [{"m": 2, "k": 2}] * 8, [{"m": 16, "k": 1}, {"m": 8, "k": 2}]])
-    return dressed(r, description(r, r.choice(PAIRS), n, 16, blocks))
+    return dressed(r, description(r, r.choice(CHEAP), n, 16, blocks))
 
 
 def exact(r):
@@ -174,7 +175,7 @@ def joint(r):
 
 def full_joint(r):
     """Eight effects in two blocks: 6,561 points."""
-    about = description(r, r.choice(PAIRS[:6]), r.randint(3, 5), 1, [{"m": 3, "k": 2}, {"m": 2, "k": 1}])
+    about = description(r, r.choice(PAIRS[:5]), r.randint(3, 5), 1, [{"m": 3, "k": 2}, {"m": 2, "k": 1}])
     return {**about, "n_agq": 11}
 
 
@@ -231,8 +232,34 @@ def no_residual(r):
     return {**about, "n_agq": r.choice([1, 1, 3, 11])}
 
 
+def in_vain(r):
+    """No step is accepted: a start without a logarithm, or residuals whose squares overflow."""
+    about = description(r, r.choice([("gaussian", "log"), ("gaussian", "identity"), ("poisson", "log"), ("gaussian", "inverse")]), r.randint(2, 5), 1, some_blocks(r, 4))
+    about["y"][0] = {"log": -1.0, "identity": 1e200, "inverse": 1e-200}[about["link"]]
+    return about
+
+
 def halved(r):
-    """Starts so far away that steps are halved; some in vain."""
+    """Inverse link with responses of many sizes: steps that leave the positive predictors are halved, and most jobs still fit."""
+    n = r.randint(4, 9)
+    about = description(r, ("gaussian", "inverse"), n, 2, some_blocks(r, 3, 1, 1))
+    about["x"] = [[1.0, between(r, -3.0, 3.0)] for _ in range(n)]
+    about["y"] = [r.choice([between(r, 0.05, 0.5), between(r, 0.5, 2.0), between(r, 2.0, 9.0)]) for _ in range(n)]
+    about["theta"] = [between(r, 0.0, 0.3)]
+    return about
+
+
+def overshot(r):
+    """Log link with a column that reaches far out: means overflow, steps are halved, and the way back is long."""
+    n = r.randint(4, 7)
+    about = description(r, ("poisson", "log"), n, 2, some_blocks(r, 3, 1, 1))
+    about["x"] = [[1.0, between(r, -1.0, 1.0)] for _ in range(n - 1)] + [[1.0, r.choice([300.0, 1000.0, 1e5])]]
+    about["y"][:2], about["weights"] = [1.0, 60.0], [1.0] * (n - 1) + [1e-12]
+    return {**about, "limit": r.choice([None, 1000, 1000])}
+
+
+def far(r):
+    """Starts so far away that steps are halved; many in vain."""
     about = description(r, r.choice(STEEP), r.randint(2, 8), r.randint(1, 2), some_blocks(r, 4))
     span = r.choice([5.0, 30.0, 300.0, 800.0])
     about["offset"] = [between(r, -span, span) for _ in about["y"]]
@@ -261,24 +288,41 @@ def pivots(r):
     return about
 
 
+def apart(about):
+    """X in the last observation alone, which no row of Z' has: then large effects do not spoil the normal matrix."""
+    last = len(about["y"]) - 1
+    about["x"] = [[1.0 if i == last else 0.0] for i in range(last + 1)]
+    about["zt"] = [[entry for entry in row if entry[0] < last] for row in about["zt"]]
+    return about
+
+
 def coupled(r):
-    """One or two blocks of large effects on the same observations: an inverse that cannot be factored, so the quadrature declines."""
+    """Large effects on the same observations: an inverse that cannot be factored, so that the quadrature declines."""
     blocks = r.choice([[{"m": 1, "k": 2}], [{"m": 1, "k": 3}], [{"m": 2, "k": 2}], [{"m": 1, "k": 1}, {"m": 1, "k": 1}], [{"m": 1, "k": 2}, {"m": 1, "k": 1}]])
-    about = description(r, r.choice(PAIRS), r.randint(2, 6), 1, blocks)
-    size = r.choice([1e6, 1e7, 3e7, 1e8, 3e8])
+    about = description(r, r.choice(PAIRS), r.randint(3, 6), 1, blocks)
+    size = r.choice([2e7, 3e7, 5e7, 1e8, 2e8])
     n = len(about["y"])
     about["zt"] = [[[i, 1.0 + (r.choice([0.0, 1e-8, 1e-7]) * r.random())] for i in range(n) if r.random() < 0.8] for _ in about["zt"]]
     about["theta"] = [v * size for v in about["theta"]]
-    return {**about, "n_agq": r.choice([3, 5, 11])}
+    return {**apart(about), "n_agq": r.choice([3, 5, 11])}
 
 
 def later_group(r):
-    """The first groups are sound, the last one is too large to invert: a quadrature that declines with points counted."""
-    about = description(r, r.choice(PAIRS[:5]), 6, 1, [{"m": 2, "k": 2}])
+    """The first group is sound, the second is too large: a quadrature that declines with points counted."""
+    about = description(r, r.choice(PAIRS[:5]), 7, 1, [{"m": 2, "k": 2}])
     size = r.choice([1e7, 3e7, 1e8])
     about["zt"] = [[[0, 1.0], [1, 1.0], [2, 1.0]], [[0, 0.5], [1, -0.5], [2, between(r, -1.0, 1.0)]],
                    [[i, size * (1.0 + r.choice([0.0, 1e-8]))] for i in (3, 4, 5)], [[i, size * (1.0 + r.choice([0.0, 1e-8]))] for i in (3, 4, 5)]]
-    return {**about, "n_agq": r.choice([3, 7])}
+    return {**apart(about), "n_agq": r.choice([3, 7])}
+
+
+def second_block(r):
+    """The second group's block alone has a pivot of zero, by rounding; in A the first group changes it. So the fit goes on and the inverse declines."""
+    about = description(r, ("gaussian", "identity"), 4, 1, [{"m": 2, "k": 2}])
+    step = float(r.randint(9, 11))
+    about["y"], about["theta"] = [0.0] * 4, [1.0, 0.0, 1.0]
+    about["zt"] = [[[1, 10.0]], [[2, between(r, 0.5, 2.0)]], [[0, 2.0**30], [1, step]], [[0, 2.0**30]]]
+    return {**apart(about), "n_agq": r.randint(2, 7)}
 
 
 def out_of_range(r):
@@ -342,8 +386,24 @@ def not_carried(r, about):
     about["family"], about["link"] = r.choice([("binomial", "probit"), ("gamma", "inverse"), ("gamma", "identity"), ("gamma", "log")])
 
 
-KINDS = {plain: 24, middle: 6, scalar: 8, product: 8, joint: 6, weights: 5, thetas: 5, stored_zeros: 5, limits: 3, dispersion: 6, halved: 6, least: 3, wide: 2,
-         singular: 2, pivots: 3, coupled: 4, later_group: 1, out_of_range: 3, extremes: 3, no_residual: 1, refused: 3, large: 1, full_joint: 1}
+KINDS = {plain: 24, middle: 6, scalar: 8, product: 8, joint: 6, weights: 5, thetas: 5, stored_zeros: 5, limits: 3, dispersion: 6, halved: 4, overshot: 1, far: 3, least: 3, wide: 2,
+         singular: 2, in_vain: 1, pivots: 3, coupled: 4, later_group: 1, second_block: 1, out_of_range: 3, extremes: 3, no_residual: 1, refused: 3, large: 1, full_joint: 1}
+
+
+def points(about, wish):
+    """Points of one quadrature, were it not to step down from the first order not below the wish."""
+    order = next((o for o in (3, 5, 7, 9, 11) if o >= wish), 11)
+    blocks = about["blocks"]
+    m, k = (blocks[0]["m"], blocks[0]["k"]) if len(blocks) == 1 else (1, sum(b["m"] * b["k"] for b in blocks))
+    return m * min(order**k, 7000)
+
+
+def spared(about):
+    """The job, its wish lowered where some two hundred rounds of the dispersion loop would each take many points."""
+    wish = about.get("n_agq", 1)
+    if about["family"] != "gaussian" or wish < 2 or points(about, wish) <= 60:
+        return about
+    return {**about, "n_agq": 3 if points(about, 3) <= 60 else 1}
 
 
 def named_kinds():
@@ -356,4 +416,4 @@ def random_jobs(seed, count, kind=None):
     for i in range(count):
         r = random.Random(f"{seed}/{i}")
         chosen = named_kinds()[kind] if kind else r.choices(kinds, shares)[0]
-        yield f"{chosen.__name__}-{seed}-{i}", job_bytes(chosen(r))
+        yield f"{chosen.__name__}-{seed}-{i}", job_bytes(spared(chosen(r)))
