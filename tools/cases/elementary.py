@@ -4,7 +4,9 @@ What `cases_elementary` must print, worked out apart from the Rattle code. The s
 numbers. The other four are the published algorithms (musl's exp.c, log.c, log1p.c and expm1.c, with their tests on the bits of the
 argument) in Python's own doubles; the two tables are read from the definitions, the arguments from the programs."""
 import math, re, struct
+from pathlib import Path
 
+ROOT = Path(__file__).resolve().parents[2]
 NAN = 0x7FF8000000000000
 MASK = (1 << 64) - 1
 
@@ -38,7 +40,7 @@ def sqrt(x):
 
 def numbers(path):
     """The hexadecimal numbers of a file's list."""
-    with open(path) as source:
+    with open(ROOT / path) as source:
         entries = source.read().split("Table =\n" if path.endswith(".antt") else "= [", 1)[1].split("];", 1)[0]
     return [int(n.replace("_", ""), 16) for n in re.findall(r"0x([0-9a-f_]+)", entries)]
 

@@ -1,0 +1,161 @@
+"""Damaged jobs: a list that depends on nothing but this file. Each has the name of what was done to it."""
+import random
+from form import job_bytes, packed
+from kinds import exact
+
+CASE_J = {"family": "poisson", "link": "log", "limit": 0, "blocks": [{"m": 1, "k": 1}], "theta": [1], "y": [2], "x": [[1]], "zt": [[[0, 1]]]}
+TWO_BLOCKS = {"family": "binomial", "link": "logit", "n_agq": 3, "limit": None, "blocks": [{"m": 2, "k": 1}, {"m": 1, "k": 2}], "theta": [0.5, 1.0, 0.25, 0.75],
+              "y": [0.0, 1.0, 0.5], "weights": [1.0, 2.0, 3.0], "offset": [0.0, 0.125, -0.25], "x": [[1.0, 0.5], [1.0, -0.5], [1.0, 0.25]],
+              "zt": [[[0, 1.0], [2, 1.0]], [[1, 1.0]], [[0, 1.0], [1, 1.0], [2, 1.0]], [[0, 0.5], [2, -0.5]]]}
+NOT_FINITE = ["7FF0000000000000", "FFF0000000000000", "7FF8000000000000", "7FF0000000000001", "FFFFFFFFFFFFFFFF"]
+HEADER = [("version", 0, 4), ("family", 4, 2), ("link", 6, 3), ("weighted", 9, 1), ("shifted", 10, 1), ("n_agq", 11, 5), ("n", 16, 13), ("p", 29, 5), ("blocks", 34, 4),
+          ("limit", 38, 10)]
+
+
+def with_field(data, at, width, value):
+    """The job with `width` bits from bit `at` set to a number."""
+    bits, whole = 8 * len(data), int.from_bytes(data, "big")
+    down = bits - at - width
+    return (whole & ~((1 << width) - 1 << down) | value << down).to_bytes(len(data), "big")
+
+
+def cuts(name, data):
+    for length in range(len(data)):
+        yield f"{name}-cut-{length}", data[:length]
+
+
+def surplus(name, data):
+    for extra in (b"\0", b"\xff", b"\0" * 9, b"\1" * 1000):
+        yield f"{name}-surplus-{len(extra)}-{extra[0]}", data + extra
+    for length in (65535, 65536, 65537, 70000, 200000):
+        yield f"{name}-long-{length}", data + b"\0" * (length - len(data))
+
+
+def fields(name, data):
+    """Each field of the header at its edges and beyond."""
+    values = {"version": range(16), "family": range(4), "link": range(8), "weighted": range(2), "shifted": range(2), "n_agq": (0, 1, 2, 31),
+              "n": (0, 1, 2, 3, 4, 512, 513, 4096, 8191), "p": (0, 1, 2, 3, 16, 17, 31), "blocks": range(16), "limit": (0, 1, 999, 1000, 1001, 1002, 1010, 1021, 1022, 1023)}
+    for field, at, width in HEADER:
+        for value in values[field]:
+            yield f"{name}-{field}-{value}", with_field(data, at, width, value)
+
+
+def pairs(name, data):
+    """Every family with every link."""
+    for family in range(4):
+        for link in range(8):
+            yield f"{name}-pair-{family}-{link}", with_field(with_field(data, 4, 2, family), 6, 3, link)
+
+
+def two_byte_places(about):
+    """Bytes where a field of two bytes begins, with the number of its spare bits: blocks, counts of rows, columns."""
+    places = [(6 + 2 * i, 5) for i in range(len(about["blocks"]))]
+    at = len(job_bytes({**about, "zt": []}))
+    for row in about["zt"]:
+        places.append((at, 3))
+        at += 2
+        for _ in row:
+            places.append((at, 3))
+            at += 10
+    return places
+
+
+def spare_bits(name, about):
+    data = job_bytes(about)
+    for at, spare in two_byte_places(about):
+        for bit in range(spare):
+            yield f"{name}-spare-{at}-{bit}", with_field(data, 8 * at + 15 - bit, 1, 1)
+        yield f"{name}-spare-{at}-cut", with_field(data, 8 * at + 16 - spare, spare, 1)[:at + 2]
+        yield f"{name}-spare-{at}-short", with_field(data, 8 * at + 16 - spare, spare, 1)[:at + 1]
+
+
+def counts_and_columns(name, about):
+    """Counts of rows and columns that are too high, and columns that do not rise."""
+    data = job_bytes(about)
+    for at, spare in two_byte_places(about)[len(about["blocks"]):]:
+        for value in (0, 1, 2, 3, 100, 8191):
+            yield f"{name}-index-{at}-{value}", with_field(data, 8 * at, 13, value)
+
+
+def block_sizes(name, about):
+    data = job_bytes(about)
+    for i in range(len(about["blocks"])):
+        for m in (0, 1, 2, 3, 31, 32, 33, 127):
+            yield f"{name}-m-{i}-{m}", with_field(data, 8 * (6 + 2 * i), 7, m)
+        for k in (0, 1, 2, 8, 9, 15):
+            yield f"{name}-k-{i}-{k}", with_field(data, 8 * (6 + 2 * i) + 7, 4, k)
+
+
+def double_places(about):
+    """Bytes where a double begins."""
+    start, rows = 6 + 2 * len(about["blocks"]), len(job_bytes({**about, "zt": []}))
+    places = list(range(start, rows, 8))
+    for at, _ in two_byte_places(about)[len(about["blocks"]):]:
+        places.append(at + 2)
+    return places
+
+
+def not_finite(name, about):
+    """NaN and infinity in each place. (Two bytes behind a row's count stands a column; there it is another damage.)"""
+    data = job_bytes(about)
+    for at in double_places(about):
+        for pattern in NOT_FINITE:
+            if at + 8 <= len(data):
+                yield f"{name}-number-{at}-{pattern}", data[:at] + bytes.fromhex(pattern) + data[at + 8:]
+
+
+def two_faults(name, about):
+    """Two faults at once: which is first?"""
+    data = job_bytes(about)
+    faults = {"version": (0, 4, 2), "link": (6, 3, 7), "limit": (38, 10, 1001), "n": (16, 13, 0), "k": (8 * 6 + 7, 4, 9), "spare": (8 * 6 + 11, 5, 1), "pair": (4, 2, 3)}
+    for one in faults:
+        for two in faults:
+            if one < two:
+                both = with_field(with_field(data, *faults[one]), *faults[two])
+                yield f"{name}-both-{one}-{two}", both
+                yield f"{name}-both-{one}-{two}-surplus", both + b"\0"
+                yield f"{name}-both-{one}-{two}-cut", both[:-1]
+        yield f"{name}-{one}-cut-7", with_field(data, *faults[one])[:7]
+        yield f"{name}-{one}-long", with_field(data, *faults[one]) + b"\0" * 65536
+
+
+def all_blocks():
+    """Fifteen blocks; eight and nine of them; q of 32 and 33."""
+    for count in (8, 9, 15):
+        blocks = [{"m": 1, "k": 1}] * count
+        yield f"blocks-{count}", job_bytes({**CASE_J, "blocks": blocks, "theta": [1] * count, "zt": [[[0, 1]]] * count})
+        yield f"blocks-{count}-spare", with_field(job_bytes({**CASE_J, "blocks": blocks, "theta": [1] * count, "zt": []}), 8 * (6 + 2 * count) - 1, 1, 1)
+        yield f"blocks-{count}-cut", job_bytes({**CASE_J, "blocks": blocks})[:6 + 2 * count - 1]
+    for m, k in ((32, 1), (33, 1), (4, 8), (16, 2), (17, 2), (5, 8)):
+        effects = m * k
+        yield f"effects-{m}-{k}", job_bytes({**CASE_J, "blocks": [{"m": m, "k": k}], "theta": [1] * (k * (k + 1) // 2), "zt": [[[0, 1]]] * effects, "limit": 5})
+
+
+def observations():
+    """512 and 513 observations, 16 and 17 columns."""
+    for n, p in ((512, 1), (513, 1), (40, 16), (40, 17), (512, 14), (512, 15)):
+        x = [[1.0 if j == i % p else 0.125 for j in range(p)] for i in range(n)]
+        yield f"sizes-{n}-{p}", job_bytes({**CASE_J, "limit": 4, "y": [float(i % 5) for i in range(n)], "x": x, "zt": [[[i, 1.0] for i in range(0, n, 3)]]})
+
+
+def full_jobs():
+    """65,536 bytes, and with one byte more."""
+    about = exact(random.Random("full"))
+    data = job_bytes(about)
+    yield f"full-{len(data)}", data
+    yield f"full-{len(data)}-more", data + b"\0" * (65537 - len(data))
+
+
+def damaged_jobs():
+    """(name, bytes) of every damaged job, the two sound ones first."""
+    yield "caseJ", job_bytes(CASE_J)
+    yield "two", job_bytes(TWO_BLOCKS)
+    for name, about in (("caseJ", CASE_J), ("two", TWO_BLOCKS)):
+        data = job_bytes(about)
+        for family in (cuts, surplus, fields, pairs):
+            yield from family(name, data)
+        for family in (spare_bits, counts_and_columns, block_sizes, not_finite, two_faults):
+            yield from family(name, about)
+    yield from all_blocks()
+    yield from observations()
+    yield from full_jobs()

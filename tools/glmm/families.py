@@ -1,0 +1,120 @@
+"""Links and families of the reference, element by element, with Rust's `max` and `clamp` in document 01's words. exp, ln, ln_1p, exp_m1 and the square
+root are those of tools/cases/elementary.py: the algorithms of docs/ELEMENTARY.md in Python's own doubles."""
+import math, sys
+from pathlib import Path
+
+sys.path.append(str(Path(__file__).resolve().parents[1] / "cases"))
+from elementary import exp, exp_m1, ln, ln_1p, sqrt
+
+E = 2.0**-52
+INF, NAN = math.inf, math.nan
+BINOMIAL, POISSON, GAUSSIAN = 0, 1, 2
+LOGIT, CLOGLOG, LOG, IDENTITY, INVERSE, SQRT = 0, 2, 3, 4, 5, 6
+
+
+def larger(a, b):
+    """a.max(b): of one NaN the other number, of two zeros the second."""
+    return a if math.isnan(b) or b < a else b
+
+
+def inside(p):
+    """p.clamp(E, 1 - E): NaN stays."""
+    return p if math.isnan(p) else E if p < E else 1.0 - E if p > 1.0 - E else p
+
+
+def over(a, b):
+    """a / b as IEEE 754 has it, also where b is zero."""
+    if b != 0.0:
+        return a / b
+    return NAN if a == 0.0 or math.isnan(a) else math.copysign(INF, a) * math.copysign(1.0, b)
+
+
+def link_fun(link, m):
+    if link == LOGIT:
+        m = inside(m)
+        return ln(over(m, 1.0 - m))
+    if link == CLOGLOG:
+        return ln(-ln_1p(-inside(m)))
+    if link == LOG:
+        return ln(m)
+    if link == INVERSE:
+        return over(1.0, larger(m, E))
+    return sqrt(larger(m, 0.0)) if link == SQRT else m
+
+
+def link_inv(link, e):
+    if link == LOGIT:
+        return inside(over(1.0, 1.0 + exp(-e)))
+    if link == CLOGLOG:
+        return inside(-exp_m1(-exp(e)))
+    if link == LOG:
+        return exp(e)
+    if link == INVERSE:
+        return over(1.0, larger(e, E))
+    return larger(e, 0.0) * larger(e, 0.0) if link == SQRT else e
+
+
+def mu_eta(link, e):
+    if link == LOGIT:
+        p = over(1.0, 1.0 + exp(-e))
+        return larger(p * (1.0 - p), E)
+    if link == CLOGLOG:
+        grown = exp(e)
+        return larger(0.0 if math.isinf(grown) else grown * exp(-grown), E)
+    if link == LOG:
+        return exp(e)
+    if link == INVERSE:
+        e = larger(e, E)
+        return -larger(over(1.0, e * e), E)
+    return larger(2.0 * larger(e, 0.0), E) if link == SQRT else 1.0
+
+
+def start_mean(family, y):
+    if family == BINOMIAL:
+        return (y + 0.5) / 2.0
+    return y + 0.1 if family == POISSON else y
+
+
+def variance(family, m):
+    if family == BINOMIAL:
+        m = inside(m)
+        return m * (1.0 - m)
+    return larger(m, E) if family == POISSON else 1.0
+
+
+def binomial_deviance(y, m, w):
+    if not 0.0 <= y <= 1.0:
+        return NAN
+    m, d = inside(m), 0.0
+    if y > 0.0:
+        d += y * ln(over(y, m))
+    if y < 1.0:
+        d += (1.0 - y) * ln(over(1.0 - y, 1.0 - m))
+    return 2.0 * w * d
+
+
+def poisson_deviance(y, m, w):
+    if y < 0.0:
+        return NAN
+    m = larger(m, E)
+    d = -(y - m)
+    if y > 0.0:
+        d += y * ln(over(y, m))
+    return 2.0 * w * d
+
+
+def deviance(family, y, m, w):
+    if family == GAUSSIAN:
+        return w * ((y - m) * (y - m))
+    return (binomial_deviance if family == BINOMIAL else poisson_deviance)(y, m, w)
+
+
+def gaussian_aic(weights, total):
+    """n (ln(2 pi total / n) + 1) + 2 less the logarithms of the weights above zero."""
+    if not math.isfinite(total) or total <= 0.0:
+        return INF
+    n, logs = float(len(weights)), 0.0
+    for w in weights:
+        if w > 0.0:
+            logs += ln(w)
+    return n * (ln(2.0 * math.pi * total / n) + 1.0) + 2.0 - logs

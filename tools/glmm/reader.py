@@ -1,0 +1,122 @@
+"""Document 01's reading of a job: every number, or the first fault with its byte."""
+import math, struct
+
+LONGEST = 65536
+CARRIED = {(0, 0), (0, 2), (1, 3), (1, 4), (1, 6), (2, 4), (2, 3), (2, 5)}  # family and link of a call that can be fitted
+VALID = CARRIED | {(0, 1), (3, 5), (3, 4), (3, 3)}
+
+
+class Refused(Exception):
+    """A refusal and its byte."""
+
+
+class Bits:
+    """The job's bytes and a bit position."""
+
+    def __init__(self, data):
+        self.data, self.at = data, 0
+
+    def take(self, width):
+        if self.at + width > 8 * len(self.data):
+            raise Refused(20, len(self.data))
+        whole = int.from_bytes(self.data[self.at // 8:(self.at + width + 7) // 8], "big")
+        self.at += width
+        return whole >> -self.at % 8 & (1 << width) - 1
+
+    def zeros(self, width):
+        """Spare bits; they stand within one byte each time."""
+        if self.take(width):
+            raise Refused(22, (self.at - 1) // 8)
+
+    def doubles(self, count):
+        return [struct.unpack(">d", self.take(64).to_bytes(8, "big"))[0] for _ in range(count)]
+
+
+class Job:
+    """The numbers of a job."""
+
+
+def read_header(bits, job):
+    if bits.take(4) != 1:
+        raise Refused(21, 0)
+    job.family = bits.take(2)
+    job.link = bits.take(3)
+    if job.link == 7:
+        raise Refused(24, 0)
+    job.weighted, job.shifted, job.n_agq = bits.take(1), bits.take(1), bits.take(5)
+    job.n, job.p, job.count, limit = bits.take(13), bits.take(5), bits.take(4), bits.take(10)
+    if 1001 <= limit <= 1022:
+        raise Refused(24, 4)
+    job.limit = None if limit == 1023 else limit
+
+
+def read_blocks(bits, job):
+    job.blocks = []
+    for _ in range(job.count):
+        m, k = bits.take(7), bits.take(4)
+        bits.zeros(5)
+        job.blocks.append((m, k))
+    job.q = sum(m * k for m, k in job.blocks)
+
+
+def check_sizes(job):
+    fits = 1 <= job.n <= 512 and 1 <= job.p <= 16 and 1 <= job.count <= 8 and 1 <= job.q <= 32
+    if not fits or any(m < 1 or not 1 <= k <= 8 for m, k in job.blocks):
+        raise Refused(1, 0)
+
+
+def read_numbers(bits, job):
+    job.theta = bits.doubles(sum(k * (k + 1) // 2 for _, k in job.blocks))
+    job.y = bits.doubles(job.n)
+    job.weights = bits.doubles(job.n) if job.weighted else None
+    job.offset = bits.doubles(job.n) if job.shifted else None
+    job.x = [bits.doubles(job.p) for _ in range(job.n)]
+
+
+def read_rows(bits, job):
+    job.zt = []
+    for _ in range(job.q):
+        count = bits.take(13)
+        bits.zeros(3)
+        row = []
+        for _ in range(count):
+            column = bits.take(13)
+            bits.zeros(3)
+            row.append((column, bits.doubles(1)[0]))
+        job.zt.append(row)
+
+
+def check_table(job):
+    """Refusals 6, 3, 4 and 5; 1 was tested before, and 2 and 7 cannot come from a job."""
+    for row in job.zt:
+        columns = [column for column, _ in row]
+        if any(c >= job.n for c in columns) or any(c >= d for c, d in zip(columns, columns[1:])):
+            raise Refused(6, 0)
+    numbers = [*job.theta, *job.y, *(job.weights or []), *(job.offset or []), *(v for row in job.x for v in row), *(v for row in job.zt for _, v in row)]
+    if not all(map(math.isfinite, numbers)):
+        raise Refused(3, 0)
+    if (job.family, job.link) not in VALID:
+        raise Refused(4, 0)
+    if (job.family, job.link) not in CARRIED:
+        raise Refused(5, 0)
+
+
+def parse(data):
+    """The numbers of a job, before the table but for its number 1."""
+    if len(data) > LONGEST:
+        raise Refused(25, LONGEST)
+    bits, job = Bits(data), Job()
+    read_header(bits, job)
+    read_blocks(bits, job)
+    check_sizes(job)
+    read_numbers(bits, job)
+    read_rows(bits, job)
+    if bits.at // 8 < len(data):
+        raise Refused(23, bits.at // 8)
+    return job
+
+
+def read(data):
+    job = parse(data)
+    check_table(job)
+    return job
