@@ -18,7 +18,7 @@ use Rattle.base.proofs.Fills.{fillat-cong, fillat-step, length-fillat, fillat-b
 use Rattle.model.specs.Shape.{effectsOf, InRange}
 use Rattle.model.specs.declared.sizes.Shape.{Shape}
 use Rattle.lambda.specs.Column.{columnOf, isEntry, lambdaAt}
-use Rattle.lambda.specs.Product.{addedAt, acrossRow, downColumn, timesTerm, lambdaTimesAt, transposedTerm, lambdaTransposedAt, rightTerm, rightAt, rightColumnAt, leftTerm, systemAt}
+use Rattle.lambda.specs.Product.{columnAddedAt, acrossRow, downColumn, timesTerm, lambdaTimesAt, transposedTerm, lambdaTransposedAt, rightTerm, rightAt, rightColumnAt, leftTerm, systemAt}
 use Rattle.lambda.specs.declared.columns.Column.{Column}
 use Rattle.lambda.proofs.ColumnPlaces.{column-rows}
 
@@ -71,12 +71,12 @@ transposed-dot s theta v X j m z r l e x h =
         rw (part-at j m t X (omega arith), x, fill-past j (lambdaTransposedAt s theta v) v (j + t) (omega arith), entry-at s theta j t) refl
 
 -- one row of a column more is added
-pub added-step : (theta : List Float) (first : ℕ) (x : Float) (b : List Float) (j t : ℕ) (X : List Float) → X ≡ fillAt j t (addedAt theta first x b j) b
-    → set X (j + t) ((X ! (j + t)) ⊕ ((theta ! (first + t)) ⊗ x)) ≡ fillAt j (t + 1) (addedAt theta first x b j) b
-unfolding addedAt
+pub added-step : (theta : List Float) (first : ℕ) (x : Float) (b : List Float) (j t : ℕ) (X : List Float) → X ≡ fillAt j t (columnAddedAt theta first x b j) b
+    → set X (j + t) ((X ! (j + t)) ⊕ ((theta ! (first + t)) ⊗ x)) ≡ fillAt j (t + 1) (columnAddedAt theta first x b j) b
+unfolding columnAddedAt
 added-step theta first x b j t X e =
-    let old : X ! (j + t) ≡ b ! (j + t) = rw e (fillat-above j t (addedAt theta first x b j) b (j + t) (omega arith)) in
-    rw old (fillat-step j (addedAt theta first x b j) b t X e)
+    let old : X ! (j + t) ≡ b ! (j + t) = rw e (fillat-above j t (columnAddedAt theta first x b j) b (j + t) (omega arith)) in
+    rw old (fillat-step j (columnAddedAt theta first x b j) b t X e)
 
 -- ---- row by row: what a column of Λ gives, the shape being out of sight
 -- entry a of column c of SΛ, by the column k of Λ
@@ -136,7 +136,7 @@ module _ (s : Shape) (theta u : List Float) (q j : ℕ) (b X : List Float) (r : 
   count = columnOf s j .count
 
   abbrev W : List Float
-  W = fillAt j count (addedAt theta first (u ! j) X j) X
+  W = fillAt j count (columnAddedAt theta first (u ! j) X j) X
 
   within : j + count ≤ q
   within = omega (arith, e, column-rows s j r l)
@@ -160,7 +160,7 @@ module _ (s : Shape) (theta u : List Float) (q j : ℕ) (b X : List Float) (r : 
       (where-take (λ k. isEntry s (j + t) k) (timesTerm s theta u (j + t)) j (X ! (j + t)) (entry-in s j t m) (before (j + t) (omega (arith, within))))
 
   inside : (i : ℕ) → i < q → W ! i ≡ timesTo s theta u (j + 1) i
-  unfolding addedAt
+  unfolding columnAddedAt
   inside i m =
       ⊎-elim (λ (a : i < j). fillat-below j count _ X i a ∙ skipped i m (entry-above s i j a))
       (λ (a : j ≤ i).
@@ -168,7 +168,7 @@ module _ (s : Shape) (theta u : List Float) (q j : ℕ) (b X : List Float) (r : 
       (λ (d : i < j + count).
       let z : j + (i - j) ≡ i = omega arith in
       let here : W ! (j + (i - j)) ≡ timesTo s theta u (j + 1) (j + (i - j)) =
-      fillat-in j count (addedAt theta first (u ! j) X j) X (omega (arith, within, long)) (i - j) (omega arith) ∙ taken (i - j) (omega arith) in
+      fillat-in j count (columnAddedAt theta first (u ! j) X j) X (omega (arith, within, long)) (i - j) (omega arith) ∙ taken (i - j) (omega arith) in
       rw z at here)
       (λ (d : j + count ≤ i). fillat-above j count _ X i d ∙ skipped i m (entry-past s i j d))
       (lt-or-ge i (j + count)))

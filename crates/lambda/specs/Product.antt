@@ -55,5 +55,5 @@ abbrev pub rightColumnAt : Shape → List Float → List Float → ℕ → ℕ �
 rightColumnAt s theta S c a = rightAt s theta S a c
 
 -- what stands t places behind j in b, and x times the number of theta t places behind first
-unfoldable pub addedAt : List Float → ℕ → Float → List Float → ℕ → ℕ → Float
-addedAt theta first x b j t = (b ! (j + t)) ⊕ ((theta ! (first + t)) ⊗ x)
+unfoldable pub columnAddedAt : List Float → ℕ → Float → List Float → ℕ → ℕ → Float
+columnAddedAt theta first x b j t = (b ! (j + t)) ⊕ ((theta ! (first + t)) ⊗ x)

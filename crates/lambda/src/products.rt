@@ -7,7 +7,7 @@ ghost use Prim.Native.Nat.{_+_, _≤_};
 ghost use lib.ListN.{length};
 ghost use Rattle.base.specs.List.{fillTo, fillAt};
 ghost use Rattle.model.specs.Shape.{effectsOf, thetaLength, goodShape};
-ghost use Rattle.lambda.specs.Product.{addedAt, lambdaTimesAt, lambdaTransposedAt};
+ghost use Rattle.lambda.specs.Product.{columnAddedAt, lambdaTimesAt, lambdaTransposedAt};
 
 // Λ'v over v: column j looks at no entry before j, so each is replaced as soon as it is used up.
 pub fn lambda_transposed(shape: Shape, theta: &[f64], q: usize, v: &mut [f64])
@@ -27,7 +27,7 @@ pub fn lambda_transposed(shape: Shape, theta: &[f64], q: usize, v: &mut [f64])
 // A column's numbers, times x, to what stands in its rows.
 fn add_column(theta: &[f64], first: usize, count: usize, x: f64, j: usize, out: &mut [f64])
     requires { ⌜ (first + count ≤ length (now theta)) × (j + count ≤ length (now out)) ⌝ }
-    ensures { λ _. ⌜ now (out .exit) ≡ fillAt j count (addedAt (now (theta .entry)) first x (now (out .entry)) j) (now (out .entry)) ⌝ }
+    ensures { λ _. ⌜ now (out .exit) ≡ fillAt j count (columnAddedAt (now (theta .entry)) first x (now (out .entry)) j) (now (out .entry)) ⌝ }
 {
     let mut t = 0;
     while t < count {

@@ -1,8 +1,8 @@
 -- That the layout is sound: the pieces of each work slice follow each other, and the last ends within the length that document 01 names, "Numbers of an answer", number 7. Assumes nothing.
 use Prim.Native.Nat.{ℕ, _+_, _*_, _≤_}
 use Rattle.layout.specs.WorkRows.{firstEtaRow, secondEtaRow, muRow, rawRow, xbetaRow, devianceRow, pointRow, markRow, weightedRow, columnRow, workingRow, rowsLength}
-use Rattle.layout.specs.WorkMatrices.{systemAt, inverseAt, solvedAt, rootInverseAt, rightAt, wyAt, uAt, bAt, trialUAt, trialBAt, pointAt, columnAt, betaAt, logWeightsAt, matricesLength}
-use Rattle.layout.specs.WorkTerms.{factorAt, wAt, zAt, unsolvedAt, normalAt, spareAt, termsLength}
+use Rattle.layout.specs.WorkMatrices.{systemPlace, inversePlace, solvedPlace, rootInversePlace, rightPlace, wyPlace, uPlace, bPlace, trialUPlace, trialBPlace, pointPlace, columnPlace, betaPlace, logWeightsPlace, matricesLength}
+use Rattle.layout.specs.WorkTerms.{factorPlace, wPlace, zPlace, unsolvedPlace, normalPlace, sparePlace, termsLength}
 
 -- each row ends where the next begins or before
 pub record RowsLaid (n : ℕ) : Type 0 where
@@ -21,30 +21,30 @@ pub record RowsLaid (n : ℕ) : Type 0 where
 
 -- each piece of the matrices ends where the next begins or before
 pub record MatricesLaid (p q : ℕ) : Type 0 where
-  pub system : systemAt + q * q ≤ inverseAt q
-  pub inverse : inverseAt q + q * q ≤ solvedAt q
-  pub solved : solvedAt q + q * p ≤ rootInverseAt p q
-  pub root-inverse : rootInverseAt p q + p * p ≤ rightAt p q
-  pub right : rightAt p q + q ≤ wyAt p q
-  pub wy : wyAt p q + q ≤ uAt p q
-  pub u : uAt p q + q ≤ bAt p q
-  pub b : bAt p q + q ≤ trialUAt p q
-  pub trial-u : trialUAt p q + q ≤ trialBAt p q
-  pub trial-b : trialBAt p q + q ≤ pointAt p q
-  pub point : pointAt p q + q ≤ columnAt p q
-  pub column : columnAt p q + q ≤ betaAt p q
-  pub beta : betaAt p q + p ≤ logWeightsAt p q
-  pub log-weights : logWeightsAt p q + 11 ≤ matricesLength p q
+  pub system : systemPlace + q * q ≤ inversePlace q
+  pub inverse : inversePlace q + q * q ≤ solvedPlace q
+  pub solved : solvedPlace q + q * p ≤ rootInversePlace p q
+  pub root-inverse : rootInversePlace p q + p * p ≤ rightPlace p q
+  pub right : rightPlace p q + q ≤ wyPlace p q
+  pub wy : wyPlace p q + q ≤ uPlace p q
+  pub u : uPlace p q + q ≤ bPlace p q
+  pub b : bPlace p q + q ≤ trialUPlace p q
+  pub trial-u : trialUPlace p q + q ≤ trialBPlace p q
+  pub trial-b : trialBPlace p q + q ≤ pointPlace p q
+  pub point : pointPlace p q + q ≤ columnPlace p q
+  pub column : columnPlace p q + q ≤ betaPlace p q
+  pub beta : betaPlace p q + p ≤ logWeightsPlace p q
+  pub log-weights : logWeightsPlace p q + 11 ≤ matricesLength p q
   pub length-few : matricesLength p q ≤ 5696
 
 -- each piece of the terms before quadrature ends where the next begins or before
 pub record TermsLaid (n p q : ℕ) : Type 0 where
-  pub factor : factorAt + q * q ≤ wAt q
-  pub w : wAt q + n ≤ zAt n q
-  pub z : zAt n q + n ≤ unsolvedAt n q
-  pub unsolved : unsolvedAt n q + q * p ≤ normalAt n p q
-  pub normal : normalAt n p q + p * p ≤ spareAt n p q
-  pub spare : spareAt n p q + 2 * q ≤ termsLength
+  pub factor : factorPlace + q * q ≤ wPlace q
+  pub w : wPlace q + n ≤ zPlace n q
+  pub z : zPlace n q + n ≤ unsolvedPlace n q
+  pub unsolved : unsolvedPlace n q + q * p ≤ normalPlace n p q
+  pub normal : normalPlace n p q + p * p ≤ sparePlace n p q
+  pub spare : sparePlace n p q + 2 * q ≤ termsLength
 
 -- the three work slices
 pub record LaidOut (n p q : ℕ) : Type 0 where

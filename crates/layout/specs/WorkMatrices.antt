@@ -2,60 +2,60 @@
 use Prim.Native.Nat.{ℕ, _+_, _*_}
 
 -- S, q²: Z'WZ, then A over it
-abbrev pub systemAt : ℕ
-systemAt = 0
+abbrev pub systemPlace : ℕ
+systemPlace = 0
 
 -- I, q²: the inverse of a block or of A, then its Cholesky factor
-abbrev pub inverseAt : ℕ → ℕ
-inverseAt q = q * q
+abbrev pub inversePlace : ℕ → ℕ
+inversePlace q = q * q
 
 -- W, qp: the solved columns
-abbrev pub solvedAt : ℕ → ℕ
-solvedAt q = inverseAt q + q * q
+abbrev pub solvedPlace : ℕ → ℕ
+solvedPlace q = inversePlace q + q * q
 
 -- P, p²: the inverse of the normal matrix's Cholesky factor
-abbrev pub rootInverseAt : ℕ → ℕ → ℕ
-rootInverseAt p q = solvedAt q + q * p
+abbrev pub rootInversePlace : ℕ → ℕ → ℕ
+rootInversePlace p q = solvedPlace q + q * p
 
 -- the right side Λ'(Z'(w·(z - offset))), the first of eight vectors of q numbers
-abbrev pub rightAt : ℕ → ℕ → ℕ
-rightAt p q = rootInverseAt p q + p * p
+abbrev pub rightPlace : ℕ → ℕ → ℕ
+rightPlace p q = rootInversePlace p q + p * p
 
 -- wy, the right side solved with A's factor
-abbrev pub wyAt : ℕ → ℕ → ℕ
-wyAt p q = rightAt p q + q
+abbrev pub wyPlace : ℕ → ℕ → ℕ
+wyPlace p q = rightPlace p q + q
 
 -- u
-abbrev pub uAt : ℕ → ℕ → ℕ
-uAt p q = wyAt p q + q
+abbrev pub uPlace : ℕ → ℕ → ℕ
+uPlace p q = wyPlace p q + q
 
 -- b
-abbrev pub bAt : ℕ → ℕ → ℕ
-bAt p q = uAt p q + q
+abbrev pub bPlace : ℕ → ℕ → ℕ
+bPlace p q = uPlace p q + q
 
 -- the trial u
-abbrev pub trialUAt : ℕ → ℕ → ℕ
-trialUAt p q = bAt p q + q
+abbrev pub trialUPlace : ℕ → ℕ → ℕ
+trialUPlace p q = bPlace p q + q
 
 -- the trial b
-abbrev pub trialBAt : ℕ → ℕ → ℕ
-trialBAt p q = trialUAt p q + q
+abbrev pub trialBPlace : ℕ → ℕ → ℕ
+trialBPlace p q = trialUPlace p q + q
 
 -- z of a quadrature point
-abbrev pub pointAt : ℕ → ℕ → ℕ
-pointAt p q = trialBAt p q + q
+abbrev pub pointPlace : ℕ → ℕ → ℕ
+pointPlace p q = trialBPlace p q + q
 
 -- one column of q numbers
-abbrev pub columnAt : ℕ → ℕ → ℕ
-columnAt p q = pointAt p q + q
+abbrev pub columnPlace : ℕ → ℕ → ℕ
+columnPlace p q = pointPlace p q + q
 
 -- β, p numbers
-abbrev pub betaAt : ℕ → ℕ → ℕ
-betaAt p q = columnAt p q + q
+abbrev pub betaPlace : ℕ → ℕ → ℕ
+betaPlace p q = columnPlace p q + q
 
 -- the logarithms of a rule's weights, 11 numbers
-abbrev pub logWeightsAt : ℕ → ℕ → ℕ
-logWeightsAt p q = betaAt p q + p
+abbrev pub logWeightsPlace : ℕ → ℕ → ℕ
+logWeightsPlace p q = betaPlace p q + p
 
 -- the room that the caller must lend; the pieces take 2q² + qp + p² + 8q + p + 11 of it
 abbrev pub matricesLength : ℕ → ℕ → ℕ

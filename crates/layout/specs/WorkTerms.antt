@@ -2,28 +2,28 @@
 use Prim.Native.Nat.{ℕ, _+_, _*_}
 
 -- K, q²: (Z'WZ)Λ, then L and d
-abbrev pub factorAt : ℕ
-factorAt = 0
+abbrev pub factorPlace : ℕ
+factorPlace = 0
 
 -- w, n numbers
-abbrev pub wAt : ℕ → ℕ
-wAt q = q * q
+abbrev pub wPlace : ℕ → ℕ
+wPlace q = q * q
 
 -- z, n numbers
-abbrev pub zAt : ℕ → ℕ → ℕ
-zAt n q = wAt q + n
+abbrev pub zPlace : ℕ → ℕ → ℕ
+zPlace n q = wPlace q + n
 
 -- V, qp: the columns before they are solved
-abbrev pub unsolvedAt : ℕ → ℕ → ℕ
-unsolvedAt n q = zAt n q + n
+abbrev pub unsolvedPlace : ℕ → ℕ → ℕ
+unsolvedPlace n q = zPlace n q + n
 
 -- N, p²: the normal matrix, then its factor
-abbrev pub normalAt : ℕ → ℕ → ℕ → ℕ
-normalAt n p q = unsolvedAt n q + q * p
+abbrev pub normalPlace : ℕ → ℕ → ℕ → ℕ
+normalPlace n p q = unsolvedPlace n q + q * p
 
 -- 2q numbers to spare
-abbrev pub spareAt : ℕ → ℕ → ℕ → ℕ
-spareAt n p q = normalAt n p q + p * p
+abbrev pub sparePlace : ℕ → ℕ → ℕ → ℕ
+sparePlace n p q = normalPlace n p q + p * p
 
 -- the room that the caller must lend; in the quadrature all of it is for log terms
 abbrev pub termsLength : ℕ

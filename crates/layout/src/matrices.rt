@@ -4,11 +4,11 @@ use crate::products::square;
 ghost use mathlib.Core.Path.{_≡_};
 ghost use Prim.Native.Nat.{_≤_};
 ghost use Rattle.layout.specs.Products.{Small};
-ghost use Rattle.layout.specs.WorkMatrices.{systemAt, inverseAt, solvedAt, rootInverseAt, rightAt, wyAt, uAt, bAt, trialUAt, trialBAt, pointAt, columnAt, betaAt, logWeightsAt, matricesLength};
+ghost use Rattle.layout.specs.WorkMatrices.{systemPlace, inversePlace, solvedPlace, rootInversePlace, rightPlace, wyPlace, uPlace, bPlace, trialUPlace, trialBPlace, pointPlace, columnPlace, betaPlace, logWeightsPlace, matricesLength};
 
 // S, q²: Z'WZ, then A over it.
 pub fn system_at() -> usize
-    ensures { λ r. ⌜ r ≡ systemAt ⌝ }
+    ensures { λ r. ⌜ r ≡ systemPlace ⌝ }
 {
     0
 }
@@ -16,7 +16,7 @@ pub fn system_at() -> usize
 // I, q²: the inverse of a block or of A, then its Cholesky factor.
 pub fn inverse_at(q: usize) -> usize
     requires { ⌜ q ≤ 32 ⌝ }
-    ensures { λ r. ⌜ r ≡ inverseAt q ⌝ }
+    ensures { λ r. ⌜ r ≡ inversePlace q ⌝ }
 {
     square(q)
 }
@@ -24,7 +24,7 @@ pub fn inverse_at(q: usize) -> usize
 // W, qp: the solved columns.
 pub fn solved_at(q: usize) -> usize
     requires { ⌜ q ≤ 32 ⌝ }
-    ensures { λ r. ⌜ r ≡ solvedAt q ⌝ }
+    ensures { λ r. ⌜ r ≡ solvedPlace q ⌝ }
 {
     2 * square(q)
 }
@@ -32,7 +32,7 @@ pub fn solved_at(q: usize) -> usize
 // P, p²: the inverse of the normal matrix's Cholesky factor.
 pub fn root_inverse_at(p: usize, q: usize) -> usize
     requires { ⌜ (p ≤ 16) × (q ≤ 32) ⌝ }
-    ensures { λ r. ⌜ r ≡ rootInverseAt p q ⌝ }
+    ensures { λ r. ⌜ r ≡ rootInversePlace p q ⌝ }
 {
     2 * square(q) + product(q, p)
 }
@@ -40,7 +40,7 @@ pub fn root_inverse_at(p: usize, q: usize) -> usize
 // Where the vectors begin, after the four matrices.
 fn vectors_at(p: usize, q: usize) -> usize
     requires { ⌜ (p ≤ 16) × (q ≤ 32) ⌝ }
-    ensures { λ r. ⌜ Small (rightAt p q) 3584 r ⌝ }
+    ensures { λ r. ⌜ Small (rightPlace p q) 3584 r ⌝ }
 {
     2 * square(q) + product(q, p) + square(p)
 }
@@ -48,7 +48,7 @@ fn vectors_at(p: usize, q: usize) -> usize
 // The right side Λ'(Z'(w·(z - offset))), the first of eight vectors of q numbers.
 pub fn right_at(p: usize, q: usize) -> usize
     requires { ⌜ (p ≤ 16) × (q ≤ 32) ⌝ }
-    ensures { λ r. ⌜ r ≡ rightAt p q ⌝ }
+    ensures { λ r. ⌜ r ≡ rightPlace p q ⌝ }
 {
     vectors_at(p, q)
 }
@@ -56,7 +56,7 @@ pub fn right_at(p: usize, q: usize) -> usize
 // wy, the right side solved with A's factor.
 pub fn wy_at(p: usize, q: usize) -> usize
     requires { ⌜ (p ≤ 16) × (q ≤ 32) ⌝ }
-    ensures { λ r. ⌜ r ≡ wyAt p q ⌝ }
+    ensures { λ r. ⌜ r ≡ wyPlace p q ⌝ }
 {
     vectors_at(p, q) + q
 }
@@ -64,7 +64,7 @@ pub fn wy_at(p: usize, q: usize) -> usize
 // u.
 pub fn u_at(p: usize, q: usize) -> usize
     requires { ⌜ (p ≤ 16) × (q ≤ 32) ⌝ }
-    ensures { λ r. ⌜ r ≡ uAt p q ⌝ }
+    ensures { λ r. ⌜ r ≡ uPlace p q ⌝ }
 {
     vectors_at(p, q) + 2 * q
 }
@@ -72,7 +72,7 @@ pub fn u_at(p: usize, q: usize) -> usize
 // b.
 pub fn b_at(p: usize, q: usize) -> usize
     requires { ⌜ (p ≤ 16) × (q ≤ 32) ⌝ }
-    ensures { λ r. ⌜ r ≡ bAt p q ⌝ }
+    ensures { λ r. ⌜ r ≡ bPlace p q ⌝ }
 {
     vectors_at(p, q) + 3 * q
 }
@@ -80,7 +80,7 @@ pub fn b_at(p: usize, q: usize) -> usize
 // The trial u.
 pub fn trial_u_at(p: usize, q: usize) -> usize
     requires { ⌜ (p ≤ 16) × (q ≤ 32) ⌝ }
-    ensures { λ r. ⌜ r ≡ trialUAt p q ⌝ }
+    ensures { λ r. ⌜ r ≡ trialUPlace p q ⌝ }
 {
     vectors_at(p, q) + 4 * q
 }
@@ -88,7 +88,7 @@ pub fn trial_u_at(p: usize, q: usize) -> usize
 // The trial b.
 pub fn trial_b_at(p: usize, q: usize) -> usize
     requires { ⌜ (p ≤ 16) × (q ≤ 32) ⌝ }
-    ensures { λ r. ⌜ r ≡ trialBAt p q ⌝ }
+    ensures { λ r. ⌜ r ≡ trialBPlace p q ⌝ }
 {
     vectors_at(p, q) + 5 * q
 }
@@ -96,7 +96,7 @@ pub fn trial_b_at(p: usize, q: usize) -> usize
 // z of a quadrature point.
 pub fn point_at(p: usize, q: usize) -> usize
     requires { ⌜ (p ≤ 16) × (q ≤ 32) ⌝ }
-    ensures { λ r. ⌜ r ≡ pointAt p q ⌝ }
+    ensures { λ r. ⌜ r ≡ pointPlace p q ⌝ }
 {
     vectors_at(p, q) + 6 * q
 }
@@ -104,7 +104,7 @@ pub fn point_at(p: usize, q: usize) -> usize
 // One column of q numbers.
 pub fn column_at(p: usize, q: usize) -> usize
     requires { ⌜ (p ≤ 16) × (q ≤ 32) ⌝ }
-    ensures { λ r. ⌜ r ≡ columnAt p q ⌝ }
+    ensures { λ r. ⌜ r ≡ columnPlace p q ⌝ }
 {
     vectors_at(p, q) + 7 * q
 }
@@ -112,7 +112,7 @@ pub fn column_at(p: usize, q: usize) -> usize
 // β, p numbers.
 pub fn beta_at(p: usize, q: usize) -> usize
     requires { ⌜ (p ≤ 16) × (q ≤ 32) ⌝ }
-    ensures { λ r. ⌜ r ≡ betaAt p q ⌝ }
+    ensures { λ r. ⌜ r ≡ betaPlace p q ⌝ }
 {
     vectors_at(p, q) + 8 * q
 }
@@ -120,7 +120,7 @@ pub fn beta_at(p: usize, q: usize) -> usize
 // The logarithms of a rule's weights, 11 numbers.
 pub fn log_weights_at(p: usize, q: usize) -> usize
     requires { ⌜ (p ≤ 16) × (q ≤ 32) ⌝ }
-    ensures { λ r. ⌜ r ≡ logWeightsAt p q ⌝ }
+    ensures { λ r. ⌜ r ≡ logWeightsPlace p q ⌝ }
 {
     vectors_at(p, q) + 8 * q + p
 }

@@ -3,11 +3,11 @@ use crate::products::product;
 use crate::products::square;
 ghost use mathlib.Core.Path.{_≡_};
 ghost use Prim.Native.Nat.{_≤_};
-ghost use Rattle.layout.specs.WorkTerms.{factorAt, wAt, zAt, unsolvedAt, normalAt, spareAt, termsLength};
+ghost use Rattle.layout.specs.WorkTerms.{factorPlace, wPlace, zPlace, unsolvedPlace, normalPlace, sparePlace, termsLength};
 
 // K, q²: (Z'WZ)Λ, then L and d.
 pub fn factor_at() -> usize
-    ensures { λ r. ⌜ r ≡ factorAt ⌝ }
+    ensures { λ r. ⌜ r ≡ factorPlace ⌝ }
 {
     0
 }
@@ -15,7 +15,7 @@ pub fn factor_at() -> usize
 // w, n numbers.
 pub fn w_at(q: usize) -> usize
     requires { ⌜ q ≤ 32 ⌝ }
-    ensures { λ r. ⌜ r ≡ wAt q ⌝ }
+    ensures { λ r. ⌜ r ≡ wPlace q ⌝ }
 {
     square(q)
 }
@@ -23,7 +23,7 @@ pub fn w_at(q: usize) -> usize
 // z, n numbers.
 pub fn z_at(n: usize, q: usize) -> usize
     requires { ⌜ (n ≤ 512) × (q ≤ 32) ⌝ }
-    ensures { λ r. ⌜ r ≡ zAt n q ⌝ }
+    ensures { λ r. ⌜ r ≡ zPlace n q ⌝ }
 {
     square(q) + n
 }
@@ -31,7 +31,7 @@ pub fn z_at(n: usize, q: usize) -> usize
 // V, qp: the columns before they are solved.
 pub fn unsolved_at(n: usize, q: usize) -> usize
     requires { ⌜ (n ≤ 512) × (q ≤ 32) ⌝ }
-    ensures { λ r. ⌜ r ≡ unsolvedAt n q ⌝ }
+    ensures { λ r. ⌜ r ≡ unsolvedPlace n q ⌝ }
 {
     square(q) + 2 * n
 }
@@ -39,7 +39,7 @@ pub fn unsolved_at(n: usize, q: usize) -> usize
 // N, p²: the normal matrix, then its factor.
 pub fn normal_at(n: usize, p: usize, q: usize) -> usize
     requires { ⌜ (n ≤ 512) × (p ≤ 16) × (q ≤ 32) ⌝ }
-    ensures { λ r. ⌜ r ≡ normalAt n p q ⌝ }
+    ensures { λ r. ⌜ r ≡ normalPlace n p q ⌝ }
 {
     square(q) + 2 * n + product(q, p)
 }
@@ -47,7 +47,7 @@ pub fn normal_at(n: usize, p: usize, q: usize) -> usize
 // 2q numbers to spare.
 pub fn spare_at(n: usize, p: usize, q: usize) -> usize
     requires { ⌜ (n ≤ 512) × (p ≤ 16) × (q ≤ 32) ⌝ }
-    ensures { λ r. ⌜ r ≡ spareAt n p q ⌝ }
+    ensures { λ r. ⌜ r ≡ sparePlace n p q ⌝ }
 {
     square(q) + 2 * n + product(q, p) + square(p)
 }

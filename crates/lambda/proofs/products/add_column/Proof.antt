@@ -4,7 +4,7 @@ use Prim.Native.Nat.{_-_, _≤_}
 use lib.ListN.{length, length-set}
 use native.Mathlib.Omega.{arith}
 use Rattle.base.specs.List.{fillAt}
-use Rattle.lambda.specs.Product.{addedAt}
+use Rattle.lambda.specs.Product.{columnAddedAt}
 use Rattle.lambda.proofs.Entries.{added-step}
 use Rattle.base.proofs.Loops.{loops}
 use borrow.Author.Needs.{needs}
@@ -12,7 +12,7 @@ use Rattle.lambda.proofs.products.add_column.Statement.{statement}
 use Rattle.lambda.proofs.products.add_column.Tie as tie
 
 abbrev Inv-loop : tie.InvT-loop
-Inv-loop theta first count x j out₀ t₀ out t = (t ≤ count) × (length out ≡ length out₀) × (out ≡ fillAt j t (addedAt theta first x out₀ j) out₀)
+Inv-loop theta first count x j out₀ t₀ out t = (t ≤ count) × (length out ≡ length out₀) × (out ≡ fillAt j t (columnAddedAt theta first x out₀ j) out₀)
 
 abbrev μ-loop : tie.MeasureT-loop
 μ-loop theta first count x j out₀ t₀ out t = count - t
