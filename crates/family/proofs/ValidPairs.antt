@@ -5,7 +5,10 @@ use mathlib.Core.List.{List, [], _∷_, map}
 use Rattle.model.specs.declared.names.Family.{Family}
 use Rattle.model.specs.declared.names.Family.the-variants.{Binomial, Poisson, Gaussian, Gamma}
 use Rattle.model.specs.declared.names.Link.the-variants.{Logit, Probit, Cloglog, Log, Identity, Inverse, Sqrt}
-use Rattle.family.specs.Carried.{linksFor, among, validFor, defaultFor}
+use Rattle.family.specs.Carried.{carriedLink, linkOf, linksFor, among, validFor, defaultFor}
+use Rattle.family.specs.declared.carried.LinkCarried.the-variants as linkCarried
+use Rattle.family.specs.declared.carried.CarriedLink.{CarriedLink}
+use Rattle.family.specs.declared.carried.CarriedLink.the-variants as link
 
 -- the answers for one family, over the links in their order
 abbrev pub answersFor : Family → List Bool
@@ -35,3 +38,12 @@ default-is-valid Binomial = refl
 default-is-valid Poisson = refl
 default-is-valid Gaussian = refl
 default-is-valid Gamma = refl
+
+-- a carried link is the one that its own link is mapped to
+pub carried-link-of : (l : CarriedLink) → carriedLink (linkOf l) ≡ linkCarried.Carried l
+carried-link-of link.Logit = refl
+carried-link-of link.Cloglog = refl
+carried-link-of link.Log = refl
+carried-link-of link.Identity = refl
+carried-link-of link.Inverse = refl
+carried-link-of link.Sqrt = refl

@@ -12,6 +12,7 @@ use Rattle.family.specs.declared.carried.LinkCarried.{LinkCarried}
 use Rattle.family.specs.declared.carried.LinkCarried.the-variants as linkCarried
 use Rattle.family.specs.declared.carried.FamilyCarried.{FamilyCarried}
 use Rattle.family.specs.declared.carried.FamilyCarried.the-variants as familyCarried
+use Rattle.family.specs.declared.carried.CarriedLink.{CarriedLink}
 use Rattle.family.specs.declared.carried.CarriedLink.the-variants as link
 use Rattle.family.specs.declared.carried.CarriedFamily.the-variants as family
 
@@ -24,6 +25,15 @@ carriedLink Log = linkCarried.Carried link.Log
 carriedLink Identity = linkCarried.Carried link.Identity
 carriedLink Inverse = linkCarried.Carried link.Inverse
 carriedLink Sqrt = linkCarried.Carried link.Sqrt
+
+-- the link that a carried one is
+abbrev pub linkOf : CarriedLink → Link
+linkOf link.Logit = Logit
+linkOf link.Cloglog = Cloglog
+linkOf link.Log = Log
+linkOf link.Identity = Identity
+linkOf link.Inverse = Inverse
+linkOf link.Sqrt = Sqrt
 
 -- every family but Gamma
 abbrev pub carriedFamily : Family → FamilyCarried

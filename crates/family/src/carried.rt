@@ -2,7 +2,7 @@
 use model::Family;
 use model::Link;
 ghost use mathlib.Core.Path.{_≡_};
-ghost use Rattle.family.specs.Carried.{carriedLink, carriedFamily, defaultFor, validFor};
+ghost use Rattle.family.specs.Carried.{carriedLink, linkOf, carriedFamily, defaultFor, validFor};
 
 // The links that have their formulas here.
 pub enum CarriedLink {
@@ -45,6 +45,20 @@ pub fn carried_link(link: Link) -> LinkCarried
         Link::Identity => LinkCarried::Carried(CarriedLink::Identity),
         Link::Inverse => LinkCarried::Carried(CarriedLink::Inverse),
         Link::Sqrt => LinkCarried::Carried(CarriedLink::Sqrt),
+    }
+}
+
+// The link that a carried one is.
+pub fn link_of(link: CarriedLink) -> Link
+    ensures { λ r. ⌜ r ≡ linkOf link ⌝ }
+{
+    match link {
+        CarriedLink::Logit => Link::Logit,
+        CarriedLink::Cloglog => Link::Cloglog,
+        CarriedLink::Log => Link::Log,
+        CarriedLink::Identity => Link::Identity,
+        CarriedLink::Inverse => Link::Inverse,
+        CarriedLink::Sqrt => Link::Sqrt,
     }
 }
 

@@ -10,6 +10,7 @@ pub use carried::LinkCarried;
 pub use carried::carried_family;
 pub use carried::carried_link;
 pub use carried::default_for;
+pub use carried::link_of;
 pub use carried::valid_for;
 pub use families::dev_resid;
 pub use families::initialize_mu;

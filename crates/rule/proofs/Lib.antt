@@ -1,0 +1,4 @@
+-- Theorems about the rule. Assumes nothing.
+pub mod Stopping
+pub mod Limits
+pub mod Caps

@@ -1,0 +1,44 @@
+-- What an inner fit is given. Document 01, "What the port carries". Assumes nothing.
+use mathlib.Core.List.{List}
+use mathlib.Core.Bool.{Bool, cond}
+use Prim.Native.Nat.{ℕ}
+use lib.Dec.{eqb}
+use lib.ListN.{length}
+use lib.Ieee.{Float}
+use Rattle.base.specs.Number.{_⊕_, _⊖_}
+use Rattle.base.specs.Sum.{_!_}
+use Rattle.base.specs.Sparse.{Sparse}
+use Rattle.model.specs.Shape.{effectsOf}
+use Rattle.model.specs.declared.sizes.Shape.{Shape}
+use Rattle.family.specs.declared.carried.CarriedFamily.{CarriedFamily}
+use Rattle.family.specs.declared.carried.CarriedLink.{CarriedLink}
+
+-- n responses, p columns of X (row by row), the random effects by their shape with theta and Z'; weights and offset are n long, or empty where they are absent
+pub record Given : Type 0 where
+  pub family : CarriedFamily
+  pub link : CarriedLink
+  pub n : ℕ
+  pub p : ℕ
+  pub shape : Shape
+  pub theta : List Float
+  pub y : List Float
+  pub weights : List Float
+  pub offset : List Float
+  pub x : List Float
+  pub zt : Sparse
+
+-- how many effects there are
+abbrev pub qOf : Given → ℕ
+qOf G = effectsOf (G .shape)
+
+-- the list is absent
+unfoldable pub absent : List Float → Bool
+absent l = eqb (length l) 0
+
+-- v plus the offset of observation i, where there is an offset
+unfoldable pub plusOffset : List Float → ℕ → Float → Float
+plusOffset offset i v = cond (absent offset) v (v ⊕ (offset ! i))
+
+-- v less the offset of observation i, where there is an offset
+unfoldable pub lessOffset : List Float → ℕ → Float → Float
+lessOffset offset i v = cond (absent offset) v (v ⊖ (offset ! i))

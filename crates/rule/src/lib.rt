@@ -1,0 +1,8 @@
+// The written rule of the inner fit is in specs/; here are its steps that need one number of each kind.
+mod steps;
+
+pub use steps::divisor;
+pub use steps::fine_eta;
+pub use steps::stops;
+pub use steps::working_response;
+pub use steps::working_weight;
