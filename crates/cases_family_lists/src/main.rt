@@ -111,21 +111,31 @@ fn deviance_line(wt: &[f64]) {
     list_line(answer, &out);
 }
 
+// The answers of the list functions of a link.
+fn put_link_answers(x: &[f64], out: &mut [f64]) {
+    put_answer(family_lists::link_fun_list(CarriedLink::Logit, x, out));
+    put_answer(family_lists::link_inv_list(CarriedLink::Log, x, out));
+    put_answer(family_lists::mu_eta_list(CarriedLink::Sqrt, x, out));
+}
+
+// Those of a family.
+fn put_family_answers(x: &[f64], out: &mut [f64]) {
+    put_answer(family_lists::variance_list(CarriedFamily::Poisson, x, out));
+    put_answer(family_lists::initialize_mu_list(CarriedFamily::Gaussian, x, out));
+}
+
 // Lists that differ in length: number 2, and the output as it was.
 fn refused_links(x: &[f64]) {
     let mut out = [9.0, 8.0, 7.0];
     text::put_word(b"refused");
-    put_answer(family_lists::link_fun_list(CarriedLink::Logit, x, &mut out));
-    put_answer(family_lists::link_inv_list(CarriedLink::Log, x, &mut out));
-    put_answer(family_lists::mu_eta_list(CarriedLink::Sqrt, x, &mut out));
+    put_link_answers(x, &mut out);
     put_row(&out);
 }
 
 fn refused_families(x: &[f64]) {
     let mut out = [9.0, 8.0, 7.0];
     text::put_word(b"refused");
-    put_answer(family_lists::variance_list(CarriedFamily::Poisson, x, &mut out));
-    put_answer(family_lists::initialize_mu_list(CarriedFamily::Gaussian, x, &mut out));
+    put_family_answers(x, &mut out);
     put_row(&out);
 }
 
@@ -151,18 +161,12 @@ fn deviance_refusals() {
 }
 
 // Empty lists are accepted.
-fn empty_links() {
+fn empty_lists() {
     text::put_word(b"empty");
-    put_answer(family_lists::link_fun_list(CarriedLink::Logit, &[], &mut []));
-    put_answer(family_lists::link_inv_list(CarriedLink::Logit, &[], &mut []));
-    put_answer(family_lists::mu_eta_list(CarriedLink::Logit, &[], &mut []));
+    put_link_answers(&[], &mut []);
     text::end_line();
-}
-
-fn empty_families() {
     text::put_word(b"empty");
-    put_answer(family_lists::variance_list(CarriedFamily::Poisson, &[], &mut []));
-    put_answer(family_lists::initialize_mu_list(CarriedFamily::Poisson, &[], &mut []));
+    put_family_answers(&[], &mut []);
     put_answer(family_lists::dev_resid_list(CarriedFamily::Poisson, &[], &[], &[], &mut []));
     text::end_line();
 }
@@ -175,6 +179,5 @@ fn main() {
     deviance_line(&[]);
     refusals();
     deviance_refusals();
-    empty_links();
-    empty_families();
+    empty_lists();
 }
