@@ -1,7 +1,7 @@
 -- The caps of an inner fit: at most L solves, at most 25 tries a solve and with the inverse link 100, no point, and one fit. Assumes nothing.
 use mathlib.Core.Path.{_≡_, refl, ap}
 use mathlib.Core.Bool.{Bool, true, false}
-use mathlib.Core.List.{List, [], _∷_}
+use mathlib.Core.List.{List, [], _∷_, _++_}
 use Prim.Native.Nat.{ℕ, zero, suc, _+_, _*_, _≤_}
 use native.Mathlib.Nat.{mul-suc}
 use native.Mathlib.Omega.{arith}
@@ -40,3 +40,75 @@ one-more : (f : ℕ) (t : Item) (x : Search) → Tries 1 (t ∷ []) → Tries f 
 unfolding itemBefore countOf
 one-more f t (foundMove m is) o r = record { fits = omega (arith, o, r); solves = omega (arith, o, r); tries = omega (arith, o, r); points = omega (arith, o, r) }
 one-more f t (noMove is) o r = record { fits = omega (arith, o, r); solves = omega (arith, o, r); tries = omega (arith, o, r); points = omega (arith, o, r) }
+
+tries-few : (f : ℕ) (x : Tried) (rest : Float → Search) (step : Float) → ((st : Float) → Tries f (itemsIn (rest st))) → Tries (suc f) (itemsIn (afterTry x rest step))
+unfolding afterTry countOf
+tries-few f (moves m) rest step h = record { fits = refl; solves = refl; tries = omega arith; points = refl }
+tries-few f (refused t) rest step h =
+    one-more f (aTry t) (rest (step ⊗ halfF)) (record { fits = refl; solves = refl; tries = omega arith; points = refl }) (h (step ⊗ halfF))
+
+tries-from : (G : Given) (s : Solved) (prev : List Float) (f : ℕ) (step : Float) → Tries f (itemsIn (triesFrom G s prev f step))
+unfolding triesFrom
+tries-from G s prev zero step = no-tries
+tries-from G s prev (suc f) step = tries-few f (tryOf G s prev step) (triesFrom G s prev f) step (λ st. tries-from G s prev f st)
+
+tries-of : (G : Given) (s : Solved) (prev : List Float) → Tries (triesCap (linkOf (G .link))) (itemsIn (triesOf G s prev))
+unfolding triesOf
+tries-of G s prev = tries-from G s prev (triesCap (linkOf (G .link))) _
+
+-- ---- the iterations
+-- f solves at most, c·f tries, no inner fit begun and no point
+record Runs (c f : ℕ) (is : List Item) : Type 0 where
+  fits : countOf isFit is ≡ 0
+  solves : countOf isSolve is ≤ f
+  tries : countOf isTry is ≤ c * f
+  points : countOf isPoint is ≡ 0
+
+nothing : (c f : ℕ) → Runs c f []
+unfolding countOf
+nothing c f = record { fits = refl; solves = omega arith; tries = omega arith; points = refl }
+
+-- a solve with its tries
+solve-tries : (c f : ℕ) (is : List Item) → Tries c is → Runs c (suc f) (aSolve ∷ is)
+unfolding countOf
+solve-tries c f is t =
+    record { fits = omega (arith, t); solves = omega (arith, t); tries = omega (arith, t, mul-suc c f); points = omega (arith, t) }
+
+-- and what follows it
+then-runs : (c f : ℕ) (is js : List Item) → Tries c is → Runs c f js → Runs c (suc f) (aSolve ∷ is ++ js)
+unfolding countOf
+then-runs c f is js t r =
+    record {
+      fits = omega (arith, t, r, count-append isFit is js);
+      solves = omega (arith, t, r, count-append isSolve is js);
+      tries = omega (arith, t, r, mul-suc c f, count-append isTry is js);
+      points = omega (arith, t, r, count-append isPoint is js);
+    }
+
+module _ (G : Given) (c f : ℕ) (s : State) (rest : State → Outcome) (h : (t : State) → Runs c f (rest t .items)) where
+  stop-runs : (b : Bool) (m : Mode) (t : State) → Runs c f (afterStop b m rest t .items)
+  unfolding afterStop
+  stop-runs true m t = nothing c f
+  stop-runs false m t = h t
+
+  search-runs : (x : Search) (v : Solved) → Tries c (itemsIn x) → Runs c (suc f) (afterSearch x G v s rest .items)
+  unfolding afterSearch itemsBefore failedAfter
+  search-runs (noMove is) v t = solve-tries c f is t
+  search-runs (foundMove m is) v t =
+      then-runs c f is (afterStop (stops (s .old) (m .pwrss)) (modeOf G (s .done + 1) v m) rest (moved s m) .items) t (stop-runs (stops (s .old) (m .pwrss)) (modeOf G (s .done + 1) v m) (moved s m))
+
+run-from : (G : Given) (phi : Float) (f : ℕ) (s : State) → Runs (triesCap (linkOf (G .link))) f (runFrom G phi f s .items)
+unfolding runFrom failedAfter afterSolve
+run-from G phi zero s = nothing (triesCap (linkOf (G .link))) 0
+run-from G phi (suc f) s = by-solve (solveOf G phi (s .eta) (s .mu)) (λ t. run-from G phi f t)
+  where
+    by-solve : (x : Solve) → ((t : State) → Runs (triesCap (linkOf (G .link))) f (runFrom G phi f t .items)) → Runs (triesCap (linkOf (G .link))) (suc f) (afterSolve x G s (runFrom G phi f) .items)
+    by-solve (unsolved e) h = nothing (triesCap (linkOf (G .link))) (suc f)
+    by-solve (solved v) h = search-runs G (triesCap (linkOf (G .link))) f s (runFrom G phi f) h (triesOf G v (s .eta)) v (tries-of G v (s .eta))
+
+-- ---- the inner fit: one fit, at most L solves and 25·L tries, with the inverse link 100·L
+pub run-capped : (G : Given) (phi : Float) (L : ℕ) (mu : List Float) → AtMost (innerCapOf (G .shape) (linkOf (G .link)) L) (tally (runOf G phi L mu .items))
+unfolding runOf itemsBefore tally innerCapOf countOf
+run-capped G phi L mu =
+    let r = run-from G phi L (startAt G mu) in
+    record { fits = omega (arith, r .fits); solves = omega (arith, r .solves); tries = omega (arith, r .tries); points = omega (arith, r .points) }
