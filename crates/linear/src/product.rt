@@ -1,4 +1,4 @@
-// Products with X, which has n rows of p numbers.
+// Products with X, which has n rows of p numbers, and with the solved columns.
 ghost use mathlib.Core.Path.{_≡_};
 ghost use Prim.Native.Nat.{_+_, _*_, _≤_, _<_};
 ghost use lib.ListN.{length};

@@ -6,7 +6,7 @@ use Prim.Native.Nat.{ℕ, zero, suc, _+_, _*_, _≤_}
 use native.Mathlib.Nat.{mul-suc}
 use native.Mathlib.Omega.{arith}
 use lib.Ieee.{Float}
-use Rattle.base.specs.Number.{_⊗_, halfF}
+use Rattle.base.specs.Number.{_⊗_, oneF, halfF}
 use Rattle.model.specs.Account.{AtMost}
 use Rattle.model.specs.Caps.{triesCap, innerCapOf}
 use Rattle.model.specs.Items.{Item, aFit, aSolve, aTry, isFit, isSolve, isTry, isPoint, countOf, tally}
@@ -15,7 +15,7 @@ use Rattle.model.proofs.Tallies.{count-append}
 use Rattle.family.specs.Carried.{linkOf}
 use Rattle.rule.specs.Given.{Given}
 use Rattle.rule.specs.Solve.{Solved, Solve, solved, unsolved, solveOf}
-use Rattle.rule.specs.Try.{Tried, refused, moves, Search, foundMove, noMove, itemBefore, tryOf, afterTry, triesFrom, triesOf}
+use Rattle.rule.specs.Try.{Trial, Tried, refused, moves, Search, foundMove, noMove, itemBefore, tryOf, afterTry, triesFrom, triesOf, trialOf}
 use Rattle.rule.specs.Stop.{Mode, modeOf, stops}
 use Rattle.rule.specs.Run.{Outcome, State, itemsBefore, failedAfter, afterStop, moved, afterSearch, afterSolve, runFrom, startAt, runOf}
 
@@ -47,14 +47,14 @@ tries-few f (moves m) rest step h = record { fits = refl; solves = refl; tries =
 tries-few f (refused t) rest step h =
     one-more f (aTry t) (rest (step ⊗ halfF)) (record { fits = refl; solves = refl; tries = omega arith; points = refl }) (h (step ⊗ halfF))
 
-tries-from : (G : Given) (s : Solved) (prev : List Float) (f : ℕ) (step : Float) → Tries f (itemsIn (triesFrom G s prev f step))
+tries-from : (T : Trial) (f : ℕ) (step : Float) → Tries f (itemsIn (triesFrom T f step))
 unfolding triesFrom
-tries-from G s prev zero step = no-tries
-tries-from G s prev (suc f) step = tries-few f (tryOf G s prev step) (triesFrom G s prev f) step (λ st. tries-from G s prev f st)
+tries-from T zero step = no-tries
+tries-from T (suc f) step = tries-few f (tryOf T step) (triesFrom T f) step (λ st. tries-from T f st)
 
-tries-of : (G : Given) (s : Solved) (prev : List Float) → Tries (triesCap (linkOf (G .link))) (itemsIn (triesOf G s prev))
+tries-of : (T : Trial) → Tries (triesCap (linkOf (T .link))) (itemsIn (triesOf T))
 unfolding triesOf
-tries-of G s prev = tries-from G s prev (triesCap (linkOf (G .link))) _
+tries-of T = tries-from T (triesCap (linkOf (T .link))) oneF
 
 -- ---- the iterations
 -- f solves at most, c·f tries, no inner fit begun and no point
@@ -98,16 +98,16 @@ module _ (G : Given) (c f : ℕ) (s : State) (rest : State → Outcome) (h : (t 
       then-runs c f is (afterStop (stops (s .old) (m .pwrss)) (modeOf G (s .done + 1) v m) rest (moved s m) .items) t (stop-runs (stops (s .old) (m .pwrss)) (modeOf G (s .done + 1) v m) (moved s m))
 
 run-from : (G : Given) (phi : Float) (f : ℕ) (s : State) → Runs (triesCap (linkOf (G .link))) f (runFrom G phi f s .items)
-unfolding runFrom failedAfter afterSolve
+unfolding runFrom failedAfter afterSolve trialOf
 run-from G phi zero s = nothing (triesCap (linkOf (G .link))) 0
 run-from G phi (suc f) s = by-solve (solveOf G phi (s .eta) (s .mu)) (λ t. run-from G phi f t)
   where
     by-solve : (x : Solve) → ((t : State) → Runs (triesCap (linkOf (G .link))) f (runFrom G phi f t .items)) → Runs (triesCap (linkOf (G .link))) (suc f) (afterSolve x G s (runFrom G phi f) .items)
     by-solve (unsolved e) h = nothing (triesCap (linkOf (G .link))) (suc f)
-    by-solve (solved v) h = search-runs G (triesCap (linkOf (G .link))) f s (runFrom G phi f) h (triesOf G v (s .eta)) v (tries-of G v (s .eta))
+    by-solve (solved v) h = search-runs G (triesCap (linkOf (G .link))) f s (runFrom G phi f) h (triesOf (trialOf G v (s .eta))) v (tries-of (trialOf G v (s .eta)))
 
 -- ---- the inner fit: one fit, at most L solves and 25·L tries, with the inverse link 100·L
-pub run-capped : (G : Given) (phi : Float) (L : ℕ) (mu : List Float) → AtMost (innerCapOf (G .shape) (linkOf (G .link)) L) (tally (runOf G phi L mu .items))
+pub run-capped : (G : Given) (phi : Float) (L : ℕ) (mu : List Float) → AtMost (innerCapOf (G .design .shape) (linkOf (G .link)) L) (tally (runOf G phi L mu .items))
 unfolding runOf itemsBefore tally innerCapOf countOf
 run-capped G phi L mu =
     let r = run-from G phi L (startAt G mu) in

@@ -12,7 +12,7 @@ use Rattle.model.specs.declared.ends.End.the-variants.{NoStop}
 use Rattle.model.proofs.Tallies.{count-append}
 use Rattle.rule.specs.Given.{Given}
 use Rattle.rule.specs.Solve.{Solved, Solve, solved, unsolved, solveOf}
-use Rattle.rule.specs.Try.{Move, Search, foundMove, noMove, triesOf}
+use Rattle.rule.specs.Try.{Move, Search, foundMove, noMove, triesOf, trialOf}
 use Rattle.rule.specs.Stop.{Mode, modeOf, stops}
 use Rattle.rule.specs.Run.{failed, Outcome, State, itemsBefore, failedAfter, afterStop, moved, afterSearch, afterSolve, runFrom, startAt, runOf}
 
@@ -36,7 +36,7 @@ module _ (G : Given) (s : State) (rest more : State → Outcome) where
     solve-same : (x : Solve) → Ended (afterSolve x G s rest) → afterSolve x G s more ≡ afterSolve x G s rest
     unfolding afterSolve
     solve-same (unsolved e) h = refl
-    solve-same (solved v) h = search-same (triesOf G v (s .eta)) v h
+    solve-same (solved v) h = search-same (triesOf (trialOf G v (s .eta))) v h
 
   module _ (t : Item → Bool) (grows : (r : State) → countOf t (rest r .items) ≤ countOf t (more r .items)) where
     stop-grows : (b : Bool) (m : Mode) (r : State) → countOf t (afterStop b m rest r .items) ≤ countOf t (afterStop b m more r .items)
@@ -53,7 +53,7 @@ module _ (G : Given) (s : State) (rest more : State → Outcome) where
     solve-grows : (x : Solve) → countOf t (afterSolve x G s rest .items) ≤ countOf t (afterSolve x G s more .items)
     unfolding afterSolve failedAfter
     solve-grows (unsolved e) = omega arith
-    solve-grows (solved v) = search-grows (triesOf G v (s .eta)) v
+    solve-grows (solved v) = search-grows (triesOf (trialOf G v (s .eta))) v
 
 -- ---- the run from a state on
 pub run-same : (G : Given) (phi : Float) (f g : ℕ) → f ≤ g → (s : State) → Ended (runFrom G phi f s) → runFrom G phi g s ≡ runFrom G phi f s

@@ -13,23 +13,31 @@ use Rattle.model.specs.declared.sizes.Shape.{Shape}
 use Rattle.family.specs.declared.carried.CarriedFamily.{CarriedFamily}
 use Rattle.family.specs.declared.carried.CarriedLink.{CarriedLink}
 
--- n responses, p columns of X (row by row), the random effects by their shape with theta and Z'; weights and offset are n long, or empty where they are absent
-pub record Given : Type 0 where
-  pub family : CarriedFamily
-  pub link : CarriedLink
+-- what the predictor is made of: n observations; X with p columns, row by row; the random effects by their shape, with theta and Z'; the offset, empty where it is absent
+pub record Design : Type 0 where
   pub n : ℕ
   pub p : ℕ
   pub shape : Shape
   pub theta : List Float
-  pub y : List Float
-  pub weights : List Float
   pub offset : List Float
   pub x : List Float
   pub zt : Sparse
 
 -- how many effects there are
-abbrev pub qOf : Given → ℕ
-qOf G = effectsOf (G .shape)
+abbrev pub qOf : Design → ℕ
+qOf D = effectsOf (D .shape)
+
+-- the design, the responses with their family and link, and the prior weights, empty where they are absent
+pub record Given : Type 0 where
+  pub family : CarriedFamily
+  pub link : CarriedLink
+  pub y : List Float
+  pub weights : List Float
+  pub design : Design
+
+-- how many observations there are
+abbrev pub nOf : Given → ℕ
+nOf G = G .design .n
 
 -- the list is absent
 unfoldable pub absent : List Float → Bool

@@ -11,10 +11,12 @@ use Rattle.model.specs.declared.ends.End.{End}
 use Rattle.model.specs.declared.ends.End.the-variants.{NoStep, NoStop}
 use Rattle.family.specs.Link.{linkFun}
 use Rattle.family.specs.Family.{initializeMu}
+use Rattle.family.specs.declared.carried.CarriedFamily.{CarriedFamily}
+use Rattle.family.specs.declared.carried.CarriedLink.{CarriedLink}
 use Rattle.rule.specs.Constant.{hugeF}
-use Rattle.rule.specs.Given.{Given, plusOffset}
+use Rattle.rule.specs.Given.{Given, nOf, plusOffset}
 use Rattle.rule.specs.Solve.{Solved, Solve, solved, unsolved, solveOf}
-use Rattle.rule.specs.Try.{Move, Search, foundMove, noMove, triesOf}
+use Rattle.rule.specs.Try.{Move, Search, foundMove, noMove, triesOf, trialOf}
 use Rattle.rule.specs.Stop.{Mode, modeOf, stops}
 
 -- how an inner fit ends: it stopped, or it has no result
@@ -60,7 +62,7 @@ afterSearch (foundMove m is) G v s rest =
 -- by the solve of an iteration: ends 10 and 11 where there is none
 unfoldable pub afterSolve : Solve → Given → State → (State → Outcome) → Outcome
 afterSolve (unsolved e) G s rest = failedAfter [] e
-afterSolve (solved v) G s rest = afterSearch (triesOf G v (s .eta)) G v s rest
+afterSolve (solved v) G s rest = afterSearch (triesOf (trialOf G v (s .eta))) G v s rest
 
 -- the run from a state on, with f iterations left: end 13 where there is none left
 unfoldable pub runFrom : Given → Float → ℕ → State → Outcome
@@ -68,20 +70,20 @@ runFrom G phi zero s = failedAfter [] NoStop
 runFrom G phi (suc f) s = afterSolve (solveOf G phi (s .eta) (s .mu)) G s (runFrom G phi f)
 
 -- the starting mean of observation i, by `initialize_mu`
-unfoldable pub startMeanAt : Given → ℕ → Float
-startMeanAt G i = initializeMu (G .family) (G .y ! i)
+unfoldable pub startMeanAt : CarriedFamily → List Float → ℕ → Float
+startMeanAt family y i = initializeMu family (y ! i)
 
 -- the starting means
 unfoldable pub startMeans : Given → List Float
-startMeans G = build (startMeanAt G) (G .n)
+startMeans G = build (startMeanAt (G .family) (G .y)) (nOf G)
 
 -- eta of observation i: link (mu), plus offset where there is one
-unfoldable pub startEtaAt : Given → List Float → ℕ → Float
-startEtaAt G mu i = plusOffset (G .offset) i (linkFun (G .link) (mu ! i))
+unfoldable pub startEtaAt : CarriedLink → List Float → List Float → ℕ → Float
+startEtaAt link offset mu i = plusOffset offset i (linkFun link (mu ! i))
 
 -- the starting predictor
 unfoldable pub startEta : Given → List Float → List Float
-startEta G mu = build (startEtaAt G mu) (G .n)
+startEta G mu = build (startEtaAt (G .link) (G .design .offset) mu) (nOf G)
 
 -- before the first iteration
 unfoldable pub startAt : Given → List Float → State
@@ -95,7 +97,7 @@ runOf G phi L mu = itemsBefore (aFit ∷ []) (runFrom G phi L (startAt G mu))
 
 -- the run stops at its first iteration that passes the stop test: at this one, or, where this one fails the test, at the first after it
 pub data FirstStop (G : Given) (phi : Float) : State → Mode → Type 0 where
-  here : (s : State) (v : Solved) (m : Move) (is : List Item) → solveOf G phi (s .eta) (s .mu) ≡ solved v → triesOf G v (s .eta) ≡ foundMove m is → stops (s .old) (m .pwrss) ≡ true
+  here : (s : State) (v : Solved) (m : Move) (is : List Item) → solveOf G phi (s .eta) (s .mu) ≡ solved v → triesOf (trialOf G v (s .eta)) ≡ foundMove m is → stops (s .old) (m .pwrss) ≡ true
       → FirstStop G phi s (modeOf G (s .done + 1) v m)
-  later : (s : State) (v : Solved) (m : Move) (is : List Item) (k : Mode) → solveOf G phi (s .eta) (s .mu) ≡ solved v → triesOf G v (s .eta) ≡ foundMove m is → stops (s .old) (m .pwrss) ≡ false
+  later : (s : State) (v : Solved) (m : Move) (is : List Item) (k : Mode) → solveOf G phi (s .eta) (s .mu) ≡ solved v → triesOf (trialOf G v (s .eta)) ≡ foundMove m is → stops (s .old) (m .pwrss) ≡ false
       → FirstStop G phi (moved s m) k → FirstStop G phi s k

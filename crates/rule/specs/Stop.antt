@@ -11,7 +11,7 @@ use Rattle.family.specs.Family.{tenthF, usesDispersion}
 use Rattle.family_lists.specs.Lists.{devAt}
 use Rattle.family_lists.specs.Aic.{aicOf}
 use Rattle.rule.specs.Constant.{tolF}
-use Rattle.rule.specs.Given.{Given, qOf}
+use Rattle.rule.specs.Given.{Given, qOf, nOf}
 use Rattle.rule.specs.Solve.{Solved}
 use Rattle.rule.specs.Try.{Move}
 
@@ -21,11 +21,11 @@ stops old new = lt (absF (old ⊖ new) ⊘ (new ⊕ tenthF)) tolF
 
 -- the deviance of every response at the means mu
 unfoldable pub deviancesOf : Given → List Float → List Float
-deviancesOf G mu = build (devAt (G .family) (G .y) mu (G .weights)) (G .n)
+deviancesOf G mu = build (devAt (G .family) (G .y) mu (G .weights)) (nOf G)
 
 -- their sum
 unfoldable pub devianceSum : Given → List Float → Float
-devianceSum G devs = sumTo (G .n) (entryOf devs)
+devianceSum G devs = sumTo (nOf G) (entryOf devs)
 
 -- the fit term: the deviance sum, with dispersion `aic` - 2
 unfoldable pub fitTerm : Given → List Float → Float → Float
@@ -36,12 +36,12 @@ unfoldable pub logPivotAt : ℕ → List Float → ℕ → Float
 logPivotAt q F i = lnOf (absF (at q F i i))
 
 -- the sum of ln|d|
-unfoldable pub logPivots : Given → List Float → Float
-logPivots G F = sumTo (qOf G) (logPivotAt (qOf G) F)
+unfoldable pub logPivots : ℕ → List Float → Float
+logPivots q F = sumTo q (logPivotAt q F)
 
 -- the Laplace deviance: (fit term + sum of ln|d|) + u·u
-unfoldable pub laplaceOf : Given → Solved → Float → Float
-laplaceOf G s fit = (fit ⊕ logPivots G (s .factor)) ⊕ dotOf (qOf G) (s .u) (s .u)
+unfoldable pub laplaceOf : ℕ → Solved → Float → Float
+laplaceOf q s fit = (fit ⊕ logPivots q (s .factor)) ⊕ dotOf q (s .u) (s .u)
 
 -- what a stop leaves for the quadrature and the results: the iterations; A and the normal matrix's factor of the last solve; β and u of its full step; the accepted eta and mu; the deviances there, their sum, the fit term and the Laplace deviance
 pub record Mode : Type 0 where
@@ -71,7 +71,7 @@ modeFit G k s m devs devSum fit =
       devs = devs;
       devSum = devSum;
       fit = fit;
-      laplace = laplaceOf G s fit;
+      laplace = laplaceOf (qOf (G .design)) s fit;
     }
 
 -- with the deviance sum

@@ -12,8 +12,19 @@ use Rattle.model.specs.Items.{Item, aTry, Fate, etaRefused, meanRefused, pwrssR
 use Rattle.family.specs.Carried.{linkOf}
 use Rattle.family.specs.Link.{linkInv}
 use Rattle.family.specs.declared.carried.CarriedLink.{CarriedLink}
-use Rattle.rule.specs.Given.{Given, qOf}
+use Rattle.rule.specs.Given.{Given, qOf, nOf}
 use Rattle.rule.specs.Solve.{Solved}
+
+-- what the tries of an iteration look at: the previous predictor, and w, z, u and the raw predictor of the solve
+pub record Trial : Type 0 where
+  pub link : CarriedLink
+  pub n : ℕ
+  pub q : ℕ
+  pub prev : List Float
+  pub w : List Float
+  pub z : List Float
+  pub u : List Float
+  pub raw : List Float
 
 -- ---- a candidate and its three tests
 
@@ -22,8 +33,8 @@ unfoldable pub candidateAt : List Float → List Float → Float → ℕ → Flo
 candidateAt prev raw step i = (prev ! i) ⊕ (((raw ! i) ⊖ (prev ! i)) ⊗ step)
 
 -- the candidate predictor
-unfoldable pub candidateOf : Given → List Float → List Float → Float → List Float
-candidateOf G prev raw step = build (candidateAt prev raw step) (G .n)
+unfoldable pub candidateOf : Trial → Float → List Float
+candidateOf T step = build (candidateAt (T .prev) (T .raw) step) (T .n)
 
 -- an eta that can be accepted: finite, and with the inverse link above E
 unfoldable pub fineEta : CarriedLink → Float → Bool
@@ -38,8 +49,8 @@ unfoldable pub meanAt : CarriedLink → List Float → ℕ → Float
 meanAt link eta i = linkInv link (eta ! i)
 
 -- the means of a predictor
-unfoldable pub meansOf : Given → List Float → List Float
-meansOf G eta = build (meanAt (G .link) eta) (G .n)
+unfoldable pub meansOf : Trial → List Float → List Float
+meansOf T eta = build (meanAt (T .link) eta) (T .n)
 
 -- w·(z - candidate)²
 unfoldable pub squareAt : List Float → List Float → List Float → ℕ → Float
@@ -51,8 +62,8 @@ addTo zero s f = s
 addTo (suc n) s f = addTo n s f ⊕ f n
 
 -- PWRSS: u·u, then w·(z - candidate)² added
-unfoldable pub pwrssOf : Given → Solved → List Float → Float
-pwrssOf G s c = addTo (G .n) (dotOf (qOf G) (s .u) (s .u)) (squareAt (s .w) (s .z) c)
+unfoldable pub pwrssOf : Trial → List Float → Float
+pwrssOf T c = addTo (T .n) (dotOf (T .q) (T .u) (T .u)) (squareAt (T .w) (T .z) c)
 
 -- ---- a try
 
@@ -77,26 +88,26 @@ unfoldable pub tryPwrss : List Float → List Float → Float → Tried
 tryPwrss c m r = afterPwrss (finite r) c m r
 
 -- by the second test, of the means
-unfoldable pub afterMeans : Bool → Given → Solved → List Float → List Float → Tried
-afterMeans false G s c m = refused meanRefused
-afterMeans true G s c m = tryPwrss c m (pwrssOf G s c)
+unfoldable pub afterMeans : Bool → Trial → List Float → List Float → Tried
+afterMeans false T c m = refused meanRefused
+afterMeans true T c m = tryPwrss c m (pwrssOf T c)
 
 -- the second test
-unfoldable pub tryMeans : Given → Solved → List Float → List Float → Tried
-tryMeans G s c m = afterMeans (allTo (G .n) (finiteAt m)) G s c m
+unfoldable pub tryMeans : Trial → List Float → List Float → Tried
+tryMeans T c m = afterMeans (allTo (T .n) (finiteAt m)) T c m
 
 -- by the first test, of each eta
-unfoldable pub afterEta : Bool → Given → Solved → List Float → Tried
-afterEta false G s c = refused etaRefused
-afterEta true G s c = tryMeans G s c (meansOf G c)
+unfoldable pub afterEta : Bool → Trial → List Float → Tried
+afterEta false T c = refused etaRefused
+afterEta true T c = tryMeans T c (meansOf T c)
 
 -- the first test
-unfoldable pub tryEta : Given → Solved → List Float → Tried
-tryEta G s c = afterEta (allTo (G .n) (fineEtaAt (G .link) c)) G s c
+unfoldable pub tryEta : Trial → List Float → Tried
+tryEta T c = afterEta (allTo (T .n) (fineEtaAt (T .link) c)) T c
 
--- the try with a step, from the previous predictor
-unfoldable pub tryOf : Given → Solved → List Float → Float → Tried
-tryOf G s prev step = tryEta G s (candidateOf G prev (s .raw) step)
+-- the try with a step
+unfoldable pub tryOf : Trial → Float → Tried
+tryOf T step = tryEta T (candidateOf T step)
 
 -- ---- the tries
 
@@ -116,10 +127,14 @@ afterTry (moves m) rest step = foundMove m (aTry accepted ∷ [])
 afterTry (refused f) rest step = itemBefore (aTry f) (rest (step ⊗ halfF))
 
 -- at most f tries, from a step on
-unfoldable pub triesFrom : Given → Solved → List Float → ℕ → Float → Search
-triesFrom G s prev zero step = noMove []
-triesFrom G s prev (suc f) step = afterTry (tryOf G s prev step) (triesFrom G s prev f) step
+unfoldable pub triesFrom : Trial → ℕ → Float → Search
+triesFrom T zero step = noMove []
+triesFrom T (suc f) step = afterTry (tryOf T step) (triesFrom T f) step
 
 -- the tries of an iteration: from step 1, at most 25, with the inverse link 100
-unfoldable pub triesOf : Given → Solved → List Float → Search
-triesOf G s prev = triesFrom G s prev (triesCap (linkOf (G .link))) oneF
+unfoldable pub triesOf : Trial → Search
+triesOf T = triesFrom T (triesCap (linkOf (T .link))) oneF
+
+-- what they look at, after the solve s at the predictor prev
+unfoldable pub trialOf : Given → Solved → List Float → Trial
+trialOf G s prev = record { link = G .link; n = nOf G; q = qOf (G .design); prev = prev; w = s .w; z = s .z; u = s .u; raw = s .raw }

@@ -10,16 +10,18 @@ use Rattle.family.specs.Link.{muEta}
 use Rattle.family.specs.Family.{varianceOf}
 use Rattle.family_lists.specs.Lists.{weightAt}
 use Rattle.linear.specs.Product.{xwAt}
-use Rattle.rule.specs.Given.{Given, lessOffset}
+use Rattle.family.specs.declared.carried.CarriedFamily.{CarriedFamily}
+use Rattle.family.specs.declared.carried.CarriedLink.{CarriedLink}
+use Rattle.rule.specs.Given.{Design, Given, nOf, lessOffset}
 
 -- w: ((wt·me)·me) / (max (phi, E)·max (variance, E)), at least E; me is the derivative as it is
 unfoldable pub workingWeight : Float → Float → Float → Float → Float
 workingWeight phi wt me v = maxF (((wt ⊗ me) ⊗ me) ⊘ (maxF phi epsF ⊗ maxF v epsF)) epsF
 
 -- w of observation i
-unfoldable pub workingWeightAt : Given → Float → List Float → List Float → ℕ → Float
-workingWeightAt G phi eta mu i =
-    workingWeight phi (weightAt (G .weights) i) (muEta (G .link) (eta ! i)) (varianceOf (G .family) (mu ! i))
+unfoldable pub workingWeightAt : CarriedFamily → CarriedLink → List Float → Float → List Float → List Float → ℕ → Float
+workingWeightAt family link weights phi eta mu i =
+    workingWeight phi (weightAt weights i) (muEta link (eta ! i)) (varianceOf family (mu ! i))
 
 -- E with the sign of the derivative
 abbrev pub tiny : Bool → Float
@@ -35,29 +37,29 @@ unfoldable pub workingResponse : Float → Float → Float → Float → Float
 workingResponse eta y mu me = eta ⊕ ((y ⊖ mu) ⊘ divisor me)
 
 -- z of observation i
-unfoldable pub workingResponseAt : Given → List Float → List Float → ℕ → Float
-workingResponseAt G eta mu i = workingResponse (eta ! i) (G .y ! i) (mu ! i) (muEta (G .link) (eta ! i))
+unfoldable pub workingResponseAt : CarriedLink → List Float → List Float → List Float → ℕ → Float
+workingResponseAt link y eta mu i = workingResponse (eta ! i) (y ! i) (mu ! i) (muEta link (eta ! i))
 
 -- w of every observation
 unfoldable pub workingWeights : Given → Float → List Float → List Float → List Float
-workingWeights G phi eta mu = build (workingWeightAt G phi eta mu) (G .n)
+workingWeights G phi eta mu = build (workingWeightAt (G .family) (G .link) (G .weights) phi eta mu) (nOf G)
 
 -- z of every observation
 unfoldable pub workingResponses : Given → List Float → List Float → List Float
-workingResponses G eta mu = build (workingResponseAt G eta mu) (G .n)
+workingResponses G eta mu = build (workingResponseAt (G .link) (G .y) eta mu) (nOf G)
 
 -- what X and Z are fitted to: z less the offset
-unfoldable pub targetAt : Given → List Float → ℕ → Float
-targetAt G z i = lessOffset (G .offset) i (z ! i)
+unfoldable pub targetAt : List Float → List Float → ℕ → Float
+targetAt offset z i = lessOffset offset i (z ! i)
 
 -- of every observation
-unfoldable pub targets : Given → List Float → List Float
-targets G z = build (targetAt G z) (G .n)
+unfoldable pub targets : Design → List Float → List Float
+targets D z = build (targetAt (D .offset) z) (D .n)
 
 -- w·(z - offset)
-unfoldable pub weightedTargets : Given → List Float → List Float → List Float
-weightedTargets G w t = build (productAt w t) (G .n)
+unfoldable pub weightedTargets : Design → List Float → List Float → List Float
+weightedTargets D w t = build (productAt w t) (D .n)
 
 -- column a of X times w
-unfoldable pub weightedColumn : Given → List Float → ℕ → List Float
-weightedColumn G w a = build (xwAt (G .x) (G .p) w a) (G .n)
+unfoldable pub weightedColumn : Design → List Float → ℕ → List Float
+weightedColumn D w a = build (xwAt (D .x) (D .p) w a) (D .n)

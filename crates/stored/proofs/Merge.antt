@@ -2,7 +2,7 @@
 use mathlib.Core.Path.{_≡_, refl, ap, _∙_}
 use mathlib.Core.List.{List}
 use mathlib.Core.Logic.{⊎-elim, _⊎_}
-use mathlib.Core.Bool.{Bool, true, false, _&&_}
+use mathlib.Core.Bool.{true, false, _&&_, and-false}
 use Prim.Native.Nat.{ℕ, _+_, _<_, _≤_}
 use native.Mathlib.Omega.{arith}
 use lib.Ieee.{Float}
@@ -13,10 +13,6 @@ use Rattle.base.proofs.Sums.{where-none, where-take, where-gap}
 use Rattle.base.proofs.SparseRows.{stored-entry, value-entry}
 use Rattle.stored.proofs.Parted.{Parted, parted-none, passed, raised, between}
 use Rattle.stored.specs.Stored.{weightedTerm}
-
-and-false : (b : Bool) → b && false ≡ false
-and-false true = refl
-and-false false = refl
 
 -- the cursors stand at i and j, and the sum is over the columns below the cut
 pub record Merged (Z : Sparse) (n a b : ℕ) (f : ℕ → Float) (i j : ℕ) (sum : Float) : Type 0 where

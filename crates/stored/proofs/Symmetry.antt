@@ -2,7 +2,7 @@
 use mathlib.Core.Path.{_≡_, refl, ap, _∙_}
 use mathlib.Core.List.{List}
 use mathlib.Core.Logic.{⊎-elim, _⊎_, inl, inr}
-use mathlib.Core.Bool.{Bool, true, false, _&&_}
+use mathlib.Core.Bool.{and-comm}
 use Prim.Native.Nat.{ℕ, suc, _+_, _*_, _<_, _≤_}
 use native.Mathlib.Nat.{not-suc-le-zero}
 use native.Mathlib.Numerals.{add-one}
@@ -21,16 +21,10 @@ use Rattle.stored.specs.Stored.{weightedTerm, ztwzAt}
 use Rattle.stored.specs.Symmetric.{Bordered}
 
 -- ---- the sum of (z_a·z_b)·w is that of (z_b·z_a)·w
-and-commutes : (a b : Bool) → a && b ≡ b && a
-and-commutes true true = refl
-and-commutes true false = refl
-and-commutes false true = refl
-and-commutes false false = refl
-
 pub ztwz-symmetric : (Z : Sparse) (n : ℕ) (w : List Float) (a b : ℕ) → ztwzAt Z n w a b ≡ ztwzAt Z n w b a
 unfolding ztwzAt bothSum weightedTerm
 ztwz-symmetric Z n w a b =
-    where-cong n _ _ _ _ (λ k l. and-commutes (stored Z a k) (stored Z b k)) (λ k l e. ap (λ (x : Float). x ⊗ (w ! k)) (times-commutes (valueAt Z a k) (valueAt Z b k)))
+    where-cong n _ _ _ _ (λ k l. and-comm (stored Z a k) (stored Z b k)) (λ k l e. ap (λ (x : Float). x ⊗ (w ! k)) (times-commutes (valueAt Z a k) (valueAt Z b k)))
 
 -- ---- one number at two places, which may be one
 pub same-or-not : (t q : ℕ) → (t ≡ q) ⊎ (t ≡ q → ⊥)

@@ -1,0 +1,2 @@
+-- What an inner fit tells, for the closed cases. Assumes nothing.
+pub mod Told
