@@ -25,9 +25,9 @@ impl<A: Copy> Array1<A> {
     }
 
     pub fn mapv(&self, f: impl Fn(A) -> A) -> Self {
-        let mut data = Vec::new();
-        for &x in &self.data {
-            data.push(f(x));
+        let mut data = self.data.clone();
+        for x in &mut data {
+            *x = f(*x);
         }
         Array1 { data }
     }
@@ -83,9 +83,9 @@ impl<'a, A> IntoIterator for &'a Array1<A> {
 
 fn entrywise(a: &[f64], b: &[f64], f: impl Fn(f64, f64) -> f64) -> Vec<f64> {
     assert_eq!(a.len(), b.len());
-    let mut data = Vec::new();
+    let mut data = a.to_vec();
     for i in 0..a.len() {
-        data.push(f(a[i], b[i]));
+        data[i] = f(data[i], b[i]);
     }
     data
 }
@@ -99,8 +99,9 @@ impl Add for &Array1<f64> {
 
 impl Add for Array1<f64> {
     type Output = Array1<f64>;
-    fn add(self, other: Array1<f64>) -> Array1<f64> {
-        &self + &other
+    fn add(mut self, other: Array1<f64>) -> Array1<f64> {
+        self += &other;
+        self
     }
 }
 
@@ -127,7 +128,10 @@ impl Mul<f64> for Array1<f64> {
 
 impl AddAssign<&Array1<f64>> for Array1<f64> {
     fn add_assign(&mut self, other: &Array1<f64>) {
-        *self = &*self + other;
+        assert_eq!(self.len(), other.len());
+        for i in 0..other.len() {
+            self.data[i] = self.data[i] + other.data[i];
+        }
     }
 }
 
@@ -191,9 +195,10 @@ impl Dot<Array1<f64>> for Array2<f64> {
         assert_eq!(self.ncols(), other.len());
         let mut product = Array1::zeros(self.nrows());
         for i in 0..self.nrows() {
+            let row = &self.data[i * self.ncols()..(i + 1) * self.ncols()];
             let mut s = 0.0;
-            for j in 0..self.ncols() {
-                s = s + self[[i, j]] * other[j];
+            for j in 0..row.len() {
+                s = s + row[j] * other.data[j];
             }
             product[i] = s;
         }

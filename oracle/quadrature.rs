@@ -177,3 +177,4 @@ pub(crate) fn log_sum_exp(xs: &[f64]) -> f64 {
     } // ALTERED: added
     m + sum.glmm_ln() // ALTERED: added
 }
+
