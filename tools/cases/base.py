@@ -39,7 +39,7 @@ for p in SPECIAL:
     x = double(p)
     nan = math.isnan(x)
     sign = 0 if nan else p >> 63
-    print("one", text(x), int(nan), int(not nan and not math.isinf(x)), sign, text(double(NAN if nan else p & (1 << 63) - 1)),
+    print("one", text(x), int(nan), int(not nan and not math.isinf(x)), int(math.isinf(x)), sign, text(double(NAN if nan else p & (1 << 63) - 1)),
           text(clamped(e, 1.0 - e, x)), text(clamped(-1.0, math.inf, x)))
     for q in SPECIAL:
         print("max", text(x), text(double(q)), text(larger(x, double(q))))

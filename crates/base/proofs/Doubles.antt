@@ -1,15 +1,15 @@
 -- Laws of single doubles: NaN, order, signs and bit patterns. Assumes nothing.
 use mathlib.Core.Path.{_≡_, refl, sym, ap, _∙_}
-use mathlib.Core.Bool.{Bool, true, false, cond, _||_, true≢false}
+use mathlib.Core.Bool.{Bool, true, false, not, cond, _||_, true≢false}
 use mathlib.Core.Logic.{⊎-elim}
 use Prim.Native.Nat.{ℕ, zero, suc, _+_, _*_, _/_, _%_, _<_, _≤_}
 use native.Mathlib.Nat.{eq-or-lt-of-le}
 use native.Mathlib.Omega.{arith}
 use borrow.Author.Tests.{lt-ltb, le-ltb, eq-eqb, ltb-true, ltb-false}
 use lib.Dec.{T, leb, ltb, eqb}
-use lib.Ieee.{Float, nan, inf, fin, up, down, below, level, binary64, add, div, ofBits, toBits, ofFields, odd, nanBits, isNan, fits, neg, lt, eq, le, ne, top, hid}
+use lib.Ieee.{Float, nan, inf, fin, up, down, below, level, binary64, add, mul, div, ofBits, toBits, ofFields, odd, nanBits, isNan, fits, neg, lt, eq, le, ne, top, hid}
 use lib.Ieee.Bits.{nanBits-is, nanBits-above, ofBits-toBits}
-use Rattle.base.specs.Number.{_⊕_, bits, zeroF, finite, negative, absF}
+use Rattle.base.specs.Number.{_⊕_, _⊗_, bits, zeroF, finite, infinite, negative, absF}
 
 -- ---- tests
 pub ff : false ≡ true → ⊥
@@ -46,6 +46,12 @@ unfolding add
 plus-nan nan = refl
 plus-nan (inf s) = refl
 plus-nan (fin s m e) = refl
+
+pub times-nan : (x : Float) → x ⊗ nan ≡ nan
+unfolding mul
+times-nan nan = refl
+times-nan (inf s) = refl
+times-nan (fin s m e) = refl
 
 -- ---- order: of two numbers that are no NaN, one is at most the other
 low-or : (a b : ℕ) (l : Bool) → a ≤ b → (a ≡ b → l ≡ true) → ltb a b || l ≡ true
@@ -135,6 +141,19 @@ unfolding lt finite
 finite-past nan m e h = refl
 finite-past (inf s) m e h = refl
 finite-past (fin s k d) m e h = absurd (ff (sym (rw e at h)))
+
+-- a finite number is not infinite, and what is not finite is infinite or a NaN
+pub finite-is-not : (x : Float) → finite x ≡ true → false ≡ infinite x
+unfolding finite infinite
+finite-is-not nan h = refl
+finite-is-not (inf s) h = absurd (ff h)
+finite-is-not (fin s m e) h = refl
+
+pub infinite-or-nan : (x : Float) → finite x ≡ false → not (isNan x) ≡ infinite x
+unfolding finite infinite isNan
+infinite-or-nan nan h = refl
+infinite-or-nan (inf s) h = refl
+infinite-or-nan (fin s m e) h = absurd (ff (sym h))
 
 -- ---- signs
 pub abs-negative : (x : Float) → negative x ≡ true → neg x ≡ absF x

@@ -1,6 +1,8 @@
 -- The laws that the proofs of every crate cite. Assumes nothing.
 pub mod Doubles
+pub mod Rounded
 pub mod Sums
+pub mod Order
 pub mod Fills
 pub mod Rows
 pub mod InPlace

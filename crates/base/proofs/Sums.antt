@@ -75,6 +75,11 @@ pub where-skip : (t : ℕ → Bool) (f : ℕ → Float) (k : ℕ) (s : Float) �
 unfolding sumWhere addWhere
 where-skip t f k s h e = rw (e, add-one, h) refl
 
+-- what the test leaves out is added as nothing
+pub where-step : (t : ℕ → Bool) (f : ℕ → Float) (k : ℕ) (s : Float) → s ≡ sumWhere k t f → addWhere (t k) s (f k) ≡ sumWhere (k + 1) t f
+unfolding sumWhere
+where-step t f k s e = rw (e, add-one)
+
 pub where-end : (t : ℕ → Bool) (f : ℕ → Float) (k n : ℕ) (s : Float) → s ≡ sumWhere k t f → k ≤ n → n ≤ k → s ≡ sumWhere n t f
 where-end t f k n s e l m = let q : k ≡ n = omega arith in rw (← q) e
 

@@ -1,7 +1,8 @@
 -- What one operation on doubles means here, the constants, and Rust's tests, `abs`, `max` and `clamp`. Document 01, its head. Assumes nothing.
 use mathlib.Core.Bool.{Bool, true, false, _||_, cond}
 use Prim.Native.Nat.{ℕ}
-use lib.Ieee.{Float, nan, inf, fin, binary64, ofBits, add, sub, mul, div, lt, isNan}
+use lib.IntN.{pos}
+use lib.Ieee.{Float, nan, inf, fin, binary64, ofBits, ofInt, add, sub, mul, div, lt, isNan}
 
 infixl 65 _⊕_
 infixl 65 _⊖_
@@ -35,6 +36,18 @@ zeroF = bits 0
 abbrev pub oneF : Float
 oneF = bits 0x3ff0_0000_0000_0000
 
+-- 0.5
+abbrev pub halfF : Float
+halfF = bits 0x3fe0_0000_0000_0000
+
+-- 2.0
+abbrev pub twoF : Float
+twoF = bits 0x4000_0000_0000_0000
+
+-- a whole number as a double, rounded once
+abbrev pub numberOf : ℕ → Float
+numberOf n = ofInt binary64 (pos n)
+
 -- E, 2 ^ -52
 abbrev pub epsF : Float
 epsF = bits 0x3cb0_0000_0000_0000
@@ -48,6 +61,12 @@ unfoldable pub finite : Float → Bool
 finite nan = false
 finite (inf s) = false
 finite (fin s m e) = true
+
+-- `is_infinite`, of either sign
+unfoldable pub infinite : Float → Bool
+infinite nan = false
+infinite (inf s) = true
+infinite (fin s m e) = false
 
 -- `is_sign_negative`, which -0.0 passes; of a NaN, whose sign is not kept, false
 unfoldable pub negative : Float → Bool

@@ -10,6 +10,7 @@ pub use number::clamp;
 pub use number::double;
 pub use number::infinity;
 pub use number::is_finite;
+pub use number::is_infinite;
 pub use number::is_nan;
 pub use number::is_sign_negative;
 pub use number::max;

@@ -2,7 +2,7 @@
 ghost use mathlib.Core.Path.{_≡_};
 ghost use mathlib.Core.Bool.{false};
 ghost use lib.Ieee.{inf, isNan, binary64, toBits};
-ghost use Rattle.base.specs.Number.{bits, finite, negative, absF, maxF, clampF};
+ghost use Rattle.base.specs.Number.{bits, finite, infinite, negative, absF, maxF, clampF};
 
 // E, 2^-52.
 pub const EPSILON: f64 = 2.220446049250313e-16;
@@ -53,6 +53,16 @@ pub fn is_finite(x: f64) -> bool
         return -m < x;
     }
     false
+}
+
+// Infinite, of either sign.
+pub fn is_infinite(x: f64) -> bool
+    ensures { λ r. ⌜ r ≡ infinite x ⌝ }
+{
+    if is_finite(x) {
+        return false;
+    }
+    !is_nan(x)
 }
 
 // The sign bit, which -0.0 has too; false of a NaN.

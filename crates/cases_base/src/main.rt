@@ -6,6 +6,7 @@ fn one(x: f64) {
     text::put_double(x);
     text::put_test(base::is_nan(x));
     text::put_test(base::is_finite(x));
+    text::put_test(base::is_infinite(x));
     text::put_test(base::is_sign_negative(x));
     text::put_double(base::abs(x));
     text::put_double(base::clamp(base::EPSILON, 1.0 - base::EPSILON, x));

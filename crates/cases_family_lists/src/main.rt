@@ -66,13 +66,18 @@ fn put_answer(answer: ListAnswer) {
     text::put_count(family_lists::list_number(answer) as u64);
 }
 
-fn list_line(answer: ListAnswer, a: f64, b: f64, c: f64) {
+// What an output holds.
+fn put_row(out: &[f64; 3]) {
+    text::put_double(out[0]);
+    text::put_double(out[1]);
+    text::put_double(out[2]);
+    text::end_line();
+}
+
+fn list_line(answer: ListAnswer, out: &[f64; 3]) {
     text::put_word(b"list");
     put_answer(answer);
-    text::put_double(a);
-    text::put_double(b);
-    text::put_double(c);
-    text::end_line();
+    put_row(out);
 }
 
 // What the list functions of a link write.
@@ -80,11 +85,11 @@ fn link_lists() {
     let x = [0.25, 0.5, 0.0 / 0.0];
     let mut out = [9.0, 8.0, 7.0];
     let fun = family_lists::link_fun_list(CarriedLink::Logit, &x, &mut out);
-    list_line(fun, out[0], out[1], out[2]);
+    list_line(fun, &out);
     let inv = family_lists::link_inv_list(CarriedLink::Cloglog, &x, &mut out);
-    list_line(inv, out[0], out[1], out[2]);
+    list_line(inv, &out);
     let slope = family_lists::mu_eta_list(CarriedLink::Inverse, &x, &mut out);
-    list_line(slope, out[0], out[1], out[2]);
+    list_line(slope, &out);
 }
 
 // What those of a family write.
@@ -92,9 +97,9 @@ fn family_lines() {
     let x = [0.25, 0.5, 0.0 / 0.0];
     let mut out = [9.0, 8.0, 7.0];
     let spread = family_lists::variance_list(CarriedFamily::Binomial, &x, &mut out);
-    list_line(spread, out[0], out[1], out[2]);
+    list_line(spread, &out);
     let start = family_lists::initialize_mu_list(CarriedFamily::Poisson, &x, &mut out);
-    list_line(start, out[0], out[1], out[2]);
+    list_line(start, &out);
 }
 
 // Deviances with these weights, or without any.
@@ -103,7 +108,7 @@ fn deviance_line(wt: &[f64]) {
     let mu = [0.4, 0.4, 0.4];
     let mut out = [9.0, 8.0, 7.0];
     let answer = family_lists::dev_resid_list(CarriedFamily::Binomial, &x, &mu, wt, &mut out);
-    list_line(answer, out[0], out[1], out[2]);
+    list_line(answer, &out);
 }
 
 // Lists that differ in length: number 2, and the output as it was.
@@ -113,10 +118,7 @@ fn refused_links(x: &[f64]) {
     put_answer(family_lists::link_fun_list(CarriedLink::Logit, x, &mut out));
     put_answer(family_lists::link_inv_list(CarriedLink::Log, x, &mut out));
     put_answer(family_lists::mu_eta_list(CarriedLink::Sqrt, x, &mut out));
-    text::put_double(out[0]);
-    text::put_double(out[1]);
-    text::put_double(out[2]);
-    text::end_line();
+    put_row(&out);
 }
 
 fn refused_families(x: &[f64]) {
@@ -124,32 +126,28 @@ fn refused_families(x: &[f64]) {
     text::put_word(b"refused");
     put_answer(family_lists::variance_list(CarriedFamily::Poisson, x, &mut out));
     put_answer(family_lists::initialize_mu_list(CarriedFamily::Gaussian, x, &mut out));
-    text::put_double(out[0]);
-    text::put_double(out[1]);
-    text::put_double(out[2]);
-    text::end_line();
+    put_row(&out);
 }
 
 fn refused_deviances(y: &[f64], mu: &[f64], wt: &[f64]) {
     let mut out = [9.0, 8.0, 7.0];
     text::put_word(b"refused");
     put_answer(family_lists::dev_resid_list(CarriedFamily::Gaussian, y, mu, wt, &mut out));
-    text::put_double(out[0]);
-    text::put_double(out[1]);
-    text::put_double(out[2]);
-    text::end_line();
+    put_row(&out);
 }
 
 fn refusals() {
-    let x = [0.25, 0.5];
-    let y = [0.25, 0.5, 0.75];
-    refused_links(&x);
+    refused_links(&[0.25, 0.5]);
     refused_links(&[]);
-    refused_families(&x);
-    refused_deviances(&x, &x, &x);
-    refused_deviances(&y, &x, &y);
-    refused_deviances(&y, &y, &x);
-    refused_deviances(&[], &[], &x);
+    refused_families(&[0.25, 0.5]);
+}
+
+// Too short an output; too few means; too few weights; weights without responses.
+fn deviance_refusals() {
+    refused_deviances(&[0.25, 0.5], &[0.25, 0.5], &[0.25, 0.5]);
+    refused_deviances(&[0.25, 0.5, 0.75], &[0.25, 0.5], &[0.25, 0.5, 0.75]);
+    refused_deviances(&[0.25, 0.5, 0.75], &[0.25, 0.5, 0.75], &[0.25, 0.5]);
+    refused_deviances(&[], &[], &[0.25, 0.5]);
 }
 
 // Empty lists are accepted.
@@ -176,6 +174,7 @@ fn main() {
     deviance_line(&[2.0, 3.0, 4.0]);
     deviance_line(&[]);
     refusals();
+    deviance_refusals();
     empty_links();
     empty_families();
 }

@@ -3,7 +3,7 @@ use mathlib.Core.Path.{_≡_, refl}
 use lib.Ieee.{ofBits, toBits, ofInt, lt, le, eq, add, sub, mul}
 use Rattle.base.specs.Number.{bits, absF}
 use Rattle.elementary.specs.ExpTable.{expTable, expRow}
-use Rattle.elementary.specs.Exp.{reduced, tailOf, scaleBits, excess, scaled, large, refitted, fitted, small, edge, ended, expMain, aboveZero, expOf}
+use Rattle.elementary.specs.Exp.{reduced, rowTail, scaleBits, excess, scaled, large, refitted, fitted, small, edge, ended, expMain, aboveZero, expOf}
 use Rattle.elementary.specs.LogTable.{logTable, logRow}
 use Rattle.elementary.specs.LogPoly.{nearPoly, nearSum, nearOf, lnSum}
 use Rattle.elementary.specs.Log.{nearOne, lnNear, lnRow, lnMain, lnFar, lnOf}
@@ -17,7 +17,7 @@ exp-computed :
     (expOf (bits 0xc086_8266_6666_6666) ≡ bits 0x0000_0007_1844_d2b6) ×
     (expOf (bits 0xc087_4800_0000_0000) ≡ bits 0x0000_0000_0000_0001) ×
     (expOf (bits 0x3bc7_9ca1_0c92_4223) ≡ bits 0x3ff0_0000_0000_0000)
-unfolding expOf aboveZero expMain ended edge small fitted refitted large scaled excess scaleBits tailOf reduced expTable expRow absF ofBits toBits lt add sub mul
+unfolding expOf aboveZero expMain ended edge small fitted refitted large scaled excess scaleBits rowTail reduced expTable expRow absF ofBits toBits lt add sub mul
 exp-computed = (refl, refl, refl, refl, refl, refl, refl)
 
 -- ln of 2, 10, 1.01, 0.95, 1e-310, 1e300

@@ -9,7 +9,7 @@ use lib.Ieee.{Float, nan, inf, fin, up, down, binary64, isNan, lt, neg, ofBits, 
 use Rattle.base.specs.Number.{_⊕_, bits, zeroF, oneF, absF}
 use Rattle.base.proofs.Doubles.{by-test, ff, not-both}
 use Rattle.elementary.specs.Exp.{expMain, aboveZero, expFar, expOf}
-use Rattle.elementary.proofs.Rounded.{add-number, round-plus}
+use Rattle.base.proofs.Rounded.{add-number, round-plus}
 
 -- ---- special arguments
 pub exp-nan : expOf nan ≡ nan

@@ -1,5 +1,4 @@
 pub mod Arms
-pub mod Rounded
 pub mod ExpFacts
 pub mod LogFacts
 pub mod Computed

@@ -11,7 +11,7 @@ use lib.Ieee.Fits.{down-pos}
 use Rattle.base.specs.Number.{zeroF, oneF}
 use Rattle.base.proofs.Doubles.{ff}
 use Rattle.elementary.specs.Log.{nearOne, lnNear, lnFar, lnOf}
-use Rattle.elementary.proofs.Rounded.{plus-fin}
+use Rattle.base.proofs.Rounded.{plus-fin}
 
 -- ---- special arguments
 pub ln-one : lnOf oneF ≡ zeroF

@@ -46,8 +46,8 @@ unfoldable pub reduced : Float → Float → Float
 reduced x k = x ⊕ k ⊗ negLn2HiN ⊕ k ⊗ negLn2LoN
 
 -- the tail of 2^(k/N), at k mod N; ki is the pattern of 1.5 · 2^52 + k
-unfoldable pub tailOf : ℕ → Float
-tailOf ki = bits (expRow (ki % 128) .tail)
+unfoldable pub rowTail : ℕ → Float
+rowTail ki = bits (expRow (ki % 128) .tail)
 
 -- the pattern of the scale, the double nearest to 2^(k/N): k · 2^45 added to the entry, modulo 2^64
 unfoldable pub scaleBits : ℕ → ℕ
@@ -98,7 +98,7 @@ unfoldable pub expMain : Float → Float
 expMain x =
     let shifted = invLn2N ⊗ x ⊕ shift in
     let ki = toBits binary64 shifted in
-    ended x ki (scaleBits ki) (excess (tailOf ki) (reduced x (shifted ⊖ shift)))
+    ended x ki (scaleBits ki) (excess (rowTail ki) (reduced x (shifted ⊖ shift)))
 
 -- z where it is above zero, and +0 elsewhere
 unfoldable pub aboveZero : Float → Float

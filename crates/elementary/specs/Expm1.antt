@@ -4,8 +4,8 @@ use mathlib.Core.Bool.{cond}
 use Prim.Native.Nat.{ℕ}
 use lib.Dec.{eqb, ltb}
 use lib.Ieee.{Float, neg, lt, le, isNan}
-use Rattle.base.specs.Number.{_⊕_, _⊖_, _⊗_, _⊘_, bits, zeroF, oneF, absF}
-use Rattle.elementary.specs.Parts.{halfF, twoF, minusOneF, ln2Hi, ln2Lo, wholeOf, numberOf, powerOf, inversePowerOf}
+use Rattle.base.specs.Number.{_⊕_, _⊖_, _⊗_, _⊘_, bits, zeroF, oneF, halfF, twoF, numberOf, absF}
+use Rattle.elementary.specs.Parts.{minusOneF, ln2Hi, ln2Lo, wholeOf, powerOf, inversePowerOf}
 
 -- (r² / 2) (p - t) / (6 - r t), with s = r² / 2, p = 1 + Q1 s + .. + Q5 s ^ 5 and t = 3 - p r / 2
 unfoldable pub quotientOf : Float → Float

@@ -6,7 +6,7 @@ use lib.IntN.{pos}
 use lib.Ieee.{Float, nan, inf, binary64, toBits, ofInt, lt, le, eq}
 use Rattle.base.specs.Number.{_⊕_, _⊖_, _⊗_, bits, zeroF, oneF, hugeF}
 use Rattle.elementary.specs.LogTable.{logRow}
-use Rattle.elementary.specs.LogPoly.{nearOf, ln2Hi, lnSum}
+use Rattle.elementary.specs.LogPoly.{nearOf, logLn2Hi, lnSum}
 
 -- x is from 1 - 2^-4 to below 1.064697265625, where |ln x| is below 2^-4 or little more
 unfoldable pub nearOne : Float → Bool
@@ -20,7 +20,7 @@ lnNear x = cond (eq x oneF) zeroF (nearOf (x ⊖ oneF))
 unfoldable pub lnRow : ℕ → Float → Float → Float
 lnRow i z k =
     let row = logRow i in
-    lnSum k ((z ⊖ row .centre ⊖ row .rest) ⊗ row .inverse) (k ⊗ ln2Hi ⊕ row .log)
+    lnSum k ((z ⊖ row .centre ⊖ row .rest) ⊗ row .inverse) (k ⊗ logLn2Hi ⊕ row .log)
 
 -- ln x for a normal x above zero. t is x's pattern less that of 0.6875, plus 1024 · 2^52: from 2^52 on its digits are k + 1024, the seven below say
 -- in which of the N parts from 0.6875 to 1.375 z lies. The bias is 1024, and 52 more for an x that was scaled up by 2^52

@@ -3,8 +3,8 @@ use mathlib.Core.Bool.{true, false, cond}
 use Prim.Native.Nat.{ℕ, _+_, _/_, _%_}
 use lib.Dec.{ltb}
 use lib.Ieee.{Float, nan, inf, binary64, neg, lt, le, eq, isNan, toBits}
-use Rattle.base.specs.Number.{_⊕_, _⊖_, _⊗_, _⊘_, bits, zeroF, oneF, absF}
-use Rattle.elementary.specs.Parts.{halfF, twoF, minusOneF, ln2Hi, ln2Lo, numberOf}
+use Rattle.base.specs.Number.{_⊕_, _⊖_, _⊗_, _⊘_, bits, zeroF, oneF, halfF, twoF, numberOf, absF}
+use Rattle.elementary.specs.Parts.{minusOneF, ln2Hi, ln2Lo}
 
 -- ln(1 + f) + k ln 2 + c: s (f² / 2 + R) + (k ln2_lo + c) - f² / 2 + f + k ln2_hi, with s = f / (2 + f) and R a polynomial in s², its odd terms and its even ones
 unfoldable pub tailOf : Float → Float → Float → Float

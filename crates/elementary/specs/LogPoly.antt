@@ -69,12 +69,12 @@ nearOf r =
 
 -- ---- elsewhere
 -- ln 2, first part: its product with k is exact
-abbrev pub ln2Hi : Float
-ln2Hi = bits 0x3fe6_2e42_fefa_3800
+abbrev pub logLn2Hi : Float
+logLn2Hi = bits 0x3fe6_2e42_fefa_3800
 
 -- ln 2, what the first part lacks
-abbrev pub ln2Lo : Float
-ln2Lo = bits 0x3d2e_f357_93c7_6730
+abbrev pub logLn2Lo : Float
+logLn2Lo = bits 0x3d2e_f357_93c7_6730
 
 -- the coefficient of r², near to -1/2
 abbrev pub a₀ : Float
@@ -96,10 +96,10 @@ a₃ = bits 0x3fc9_99b3_24f1_0111
 abbrev pub a₄ : Float
 a₄ = bits 0xbfc5_5575_e506_c89f
 
--- w + ln (1 + r) + k ln2Lo, hi and lo being the sum of w, r and k ln2Lo in two parts
+-- w + ln (1 + r) + k logLn2Lo, hi and lo being the sum of w, r and k logLn2Lo in two parts
 unfoldable pub lnSum : Float → Float → Float → Float
 lnSum k r w =
     let hi = w ⊕ r in
-    let lo = w ⊖ hi ⊕ r ⊕ k ⊗ ln2Lo in
+    let lo = w ⊖ hi ⊕ r ⊕ k ⊗ logLn2Lo in
     let r2 = r ⊗ r in
     lo ⊕ r2 ⊗ a₀ ⊕ r ⊗ r2 ⊗ (a₁ ⊕ r ⊗ a₂ ⊕ r2 ⊗ (a₃ ⊕ r ⊗ a₄)) ⊕ hi

@@ -1,17 +1,10 @@
 -- What the definitions of exp_m1 and ln_1p share: constants by their bits, the whole part of a number, powers of two. Assumes nothing.
 use mathlib.Core.Bool.{cond}
 use Prim.Native.Nat.{ℕ, _+_, _-_, _*_, _%_}
-use lib.IntN.{pos}
-use lib.Ieee.{Float, binary64, neg, lt, toUnsigned, ofInt}
+use lib.Ieee.{Float, neg, lt, toUnsigned}
 use Rattle.base.specs.Number.{bits, oneF}
 
--- 0.5, 2.0, -1.0
-abbrev pub halfF : Float
-halfF = bits 0x3fe0_0000_0000_0000
-
-abbrev pub twoF : Float
-twoF = bits 0x4000_0000_0000_0000
-
+-- -1.0
 abbrev pub minusOneF : Float
 minusOneF = neg oneF
 
@@ -25,10 +18,6 @@ ln2Lo = bits 0x3dea_39ef_3579_3c76
 -- the whole part of z, cut toward zero, and 0 outside -1 to 2 ^ 64
 unfoldable pub wholeOf : Float → ℕ
 wholeOf z = cond (lt minusOneF z) (cond (lt z (bits 0x43f0_0000_0000_0000)) (toUnsigned 64 z) 0) 0
-
--- a whole number as a double
-abbrev pub numberOf : ℕ → Float
-numberOf n = ofInt binary64 (pos n)
 
 -- 2 ^ m and 2 ^ -m, by the exponent's field; m is at most 1023 where they are used
 unfoldable pub powerOf : ℕ → Float

@@ -6,9 +6,9 @@ ghost use Rattle.elementary.specs.LogPoly.{nearPoly, nearSum, nearOf, ln
 ghost use Rattle.elementary.specs.Log.{nearOne, lnNear, lnRow, lnMain, lnFar, lnOf};
 
 // ln 2, in two parts: k times the first is exact.
-const LN2_HI: f64 = 0.6931471805598903;
+const LOG_LN2_HI: f64 = 0.6931471805598903;
 
-const LN2_LO: f64 = 5.497923018708371e-14;
+const LOG_LN2_LO: f64 = 5.497923018708371e-14;
 
 const A0: f64 = -0.5000000000000001;
 
@@ -97,7 +97,7 @@ fn ln_sum(k: f64, r: f64, w: f64) -> f64
     ensures { λ y. ⌜ y ≡ lnSum k r w ⌝ }
 {
     let hi = w + r;
-    let lo = w - hi + r + k * LN2_LO;
+    let lo = w - hi + r + k * LOG_LN2_LO;
     let r2 = r * r;
     lo + r2 * A0 + r * r2 * (A1 + r * A2 + r2 * (A3 + r * A4)) + hi
 }
@@ -111,7 +111,7 @@ fn ln_row(i: u64, z: f64, k: f64) -> f64
     ln_sum(
         k,
         (z - row.centre - row.rest) * row.inverse,
-        k * LN2_HI + row.log,
+        k * LOG_LN2_HI + row.log,
     )
 }
 

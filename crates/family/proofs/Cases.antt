@@ -1,34 +1,17 @@
--- Cases of a test: of a double that is not finite, and of a link by its place. Assumes nothing.
+-- Cases of a test of a link by its place. Assumes nothing.
 use mathlib.Core.Path.{_≡_, refl, sym, ap, _∙_}
-use mathlib.Core.Bool.{Bool, true, false, not}
+use mathlib.Core.Bool.{Bool}
 use mathlib.Core.List.{List, [], _∷_}
 use mathlib.Core.Logic.{⊎-elim}
 use Prim.Native.Nat.{ℕ}
-use lib.Ieee.{Float, nan, inf, fin, isNan}
 use types.Run.{OneOf}
 use denote.Enum.Declared.{tagOf}
-use Rattle.base.specs.Number.{finite}
-use Rattle.base.proofs.Doubles.{ff}
 use Rattle.model.specs.Names.{linkCode}
 use Rattle.model.specs.declared.names.Family.{Family}
 use Rattle.model.proofs.names.Link as link
 use Rattle.model.specs.declared.names.Link.{Link}
 use Rattle.model.specs.declared.names.Link.the-variants.{Logit, Probit, Cloglog, Log, Identity, Inverse, Sqrt}
-use Rattle.family.specs.Link.{infinite}
 use Rattle.family.specs.Carried.{linksFor, among, validFor}
-
--- ---- a finite number is not infinite, and what is not finite is infinite or a NaN
-pub finite-is-not : (x : Float) → finite x ≡ true → false ≡ infinite x
-unfolding finite infinite
-finite-is-not nan h = refl
-finite-is-not (inf s) h = absurd (ff h)
-finite-is-not (fin s m e) h = refl
-
-pub infinite-or-nan : (x : Float) → finite x ≡ false → not (isNan x) ≡ infinite x
-unfolding finite infinite isNan
-infinite-or-nan nan h = refl
-infinite-or-nan (inf s) h = refl
-infinite-or-nan (fin s m e) h = absurd (ff (sym h))
 
 -- ---- a link that stands at one of some places is valid, or not, as the links at all these places are
 tag-is-code : (l : Link) → tagOf link.the-type l ≡ linkCode l

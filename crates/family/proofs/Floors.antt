@@ -9,7 +9,7 @@ use Rattle.family.specs.Link.{clampE, muEta}
 use Rattle.family.specs.Family.{varianceOf}
 use Rattle.family.specs.declared.carried.CarriedLink.the-variants.{Logit, Cloglog, Log, Inverse, Sqrt}
 use Rattle.family.specs.declared.carried.CarriedFamily.the-variants.{Binomial, Poisson}
-use Rattle.family.proofs.Order.{max-from, le-turned, clamp-again}
+use Rattle.base.proofs.Order.{max-from, le-turned, clamp-again}
 
 floor : (x : Float) → le epsF (maxF x epsF) ≡ true
 unfolding isNan ofBits

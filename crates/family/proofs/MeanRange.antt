@@ -1,16 +1,16 @@
--- The means of logit and cloglog lie between E and 1 - E for every eta but NaN. Document 01, module 3. Assumes nothing.
+-- The means of logit and cloglog lie between E and 1 - E for every eta but NaN, and reach both ends. Document 01, module 3. Assumes nothing.
 use mathlib.Core.Path.{_≡_, refl, ap}
 use mathlib.Core.Bool.{true, false}
-use lib.Ieee.{Float, neg, add, sub, lt, eq, le, isNan, ofBits}
-use Rattle.base.specs.Number.{_⊖_, oneF, epsF}
+use lib.Ieee.{Float, nan, inf, neg, add, sub, div, lt, eq, le, isNan, ofBits}
+use Rattle.base.specs.Number.{_⊖_, oneF, epsF, clampF}
 use Rattle.base.proofs.NumberFacts.{clamp-from, clamp-to}
 use Rattle.elementary.specs.Exp.{expOf}
 use Rattle.elementary.specs.Expm1.{expm1Of}
-use Rattle.elementary.proofs.ExpFacts.{exp-nan-only}
-use Rattle.elementary.proofs.Expm1Facts.{nan-only}
+use Rattle.elementary.proofs.ExpFacts.{exp-nan, exp-inf, exp-minus-inf, exp-nan-only}
+use Rattle.elementary.proofs.Expm1Facts.{nan-only, at-nan, at-minus-zero, at-minus-infinity}
 use Rattle.family.specs.Link.{clampE, logistic, linkInv}
 use Rattle.family.specs.declared.carried.CarriedLink.the-variants.{Logit, Cloglog}
-use Rattle.family.proofs.Order.{neg-number, one-plus-number, one-over-number, number-of}
+use Rattle.base.proofs.Rounded.{neg-number, one-plus-number, one-over-number, number-of}
 
 -- from E to 1 - E
 pub record InsideE (p : Float) : Type 0 where
@@ -41,3 +41,21 @@ logit-mean-inside eta h = clamped-inside (logistic eta) (logistic-number eta h)
 pub cloglog-mean-inside : (eta : Float) → isNan eta ≡ false → InsideE (linkInv Cloglog eta)
 unfolding linkInv
 cloglog-mean-inside eta h = clamped-inside _ (neg-number _ (expm1-number _ (neg-number _ (exp-number eta h))))
+
+-- ---- of a NaN the mean is NaN
+pub logit-mean-of-nan : linkInv Logit nan ≡ nan
+unfolding linkInv logistic clampE clampF lt sub add div neg ofBits
+logit-mean-of-nan = rw exp-nan
+
+pub cloglog-mean-of-nan : linkInv Cloglog nan ≡ nan
+unfolding linkInv clampE clampF lt sub add neg ofBits
+cloglog-mean-of-nan = rw (exp-nan, at-nan)
+
+-- ---- both ends are reached, at the infinities
+pub logit-mean-ends : (linkInv Logit (inf true) ≡ epsF) × (linkInv Logit (inf false) ≡ oneF ⊖ epsF)
+unfolding linkInv logistic clampE clampF lt sub add div neg ofBits
+logit-mean-ends = (rw exp-inf, rw exp-minus-inf)
+
+pub cloglog-mean-ends : (linkInv Cloglog (inf true) ≡ epsF) × (linkInv Cloglog (inf false) ≡ oneF ⊖ epsF)
+unfolding linkInv clampE clampF lt sub add neg ofBits
+cloglog-mean-ends = (rw (exp-minus-inf, at-minus-zero), rw (exp-inf, at-minus-infinity))

@@ -2,12 +2,12 @@
 use mathlib.Core.Path.{_≡_, refl}
 use mathlib.Core.Bool.{Bool, true, false, _&&_}
 use lib.Ieee.{Float, nan, neg, add, sub, lt, eq, le, ofBits}
-use Rattle.base.specs.Number.{_⊗_, zeroF, oneF}
+use Rattle.base.specs.Number.{_⊗_, zeroF, oneF, twoF}
 use Rattle.base.specs.Sum.{addWhere}
-use Rattle.elementary.specs.Parts.{twoF}
 use Rattle.family.specs.Family.{proportion, poissonTerm, devResid}
 use Rattle.family.specs.declared.carried.CarriedFamily.the-variants.{Binomial, Poisson}
-use Rattle.family.proofs.Order.{below-not-from, times-nan}
+use Rattle.base.proofs.Doubles.{times-nan}
+use Rattle.base.proofs.Order.{below-not-from}
 
 not-a-proportion : (y mu w : Float) → proportion y ≡ false → devResid Binomial y mu w ≡ nan
 unfolding devResid

@@ -1,9 +1,8 @@
 -- Values by computation: the sqrt link of -0.0, and the cases that document 01 has run. Assumes nothing.
 use mathlib.Core.Path.{_≡_, refl}
 use lib.Ieee.{neg, add, mul, div, lt, isNan, ofBits}
-use Rattle.base.specs.Number.{bits, zeroF, oneF, epsF, maxF}
+use Rattle.base.specs.Number.{bits, zeroF, oneF, twoF, epsF, maxF}
 use Rattle.root.specs.Sqrt.{sqrtOf}
-use Rattle.elementary.specs.Parts.{twoF}
 use Rattle.family.specs.Link.{linkFun, muEta}
 use Rattle.family.specs.Family.{initializeMu}
 use Rattle.family.specs.declared.carried.CarriedLink.the-variants.{Inverse, Sqrt}

@@ -1,9 +1,8 @@
 -- The families that are carried: variance, deviance of one response, starting mean. Document 01, module 3; `GlmFamily` of family.rs. Assumes nothing.
 use mathlib.Core.Bool.{Bool, true, false, _&&_, cond}
 use lib.Ieee.{Float, nan, lt, le, neg}
-use Rattle.base.specs.Number.{_⊕_, _⊖_, _⊗_, _⊘_, bits, zeroF, oneF, epsF, maxF}
+use Rattle.base.specs.Number.{_⊕_, _⊖_, _⊗_, _⊘_, bits, zeroF, oneF, halfF, twoF, epsF, maxF}
 use Rattle.base.specs.Sum.{addWhere}
-use Rattle.elementary.specs.Parts.{halfF, twoF}
 use Rattle.elementary.specs.Log.{lnOf}
 use Rattle.family.specs.Link.{clampE}
 use Rattle.family.specs.declared.carried.CarriedFamily.{CarriedFamily}

@@ -1,9 +1,8 @@
 -- The links that are carried: predictor of a mean, mean of a predictor, derivative of the mean. Document 01, module 3; `GlmLink` of family.rs. Assumes nothing.
-use mathlib.Core.Bool.{Bool, true, false, cond}
-use lib.Ieee.{Float, nan, inf, fin, neg}
-use Rattle.base.specs.Number.{_⊕_, _⊖_, _⊗_, _⊘_, zeroF, oneF, epsF, maxF, clampF}
+use mathlib.Core.Bool.{cond}
+use lib.Ieee.{Float, neg}
+use Rattle.base.specs.Number.{_⊕_, _⊖_, _⊗_, _⊘_, zeroF, oneF, twoF, epsF, infinite, maxF, clampF}
 use Rattle.root.specs.Sqrt.{sqrtOf}
-use Rattle.elementary.specs.Parts.{twoF}
 use Rattle.elementary.specs.Exp.{expOf}
 use Rattle.elementary.specs.Expm1.{expm1Of}
 use Rattle.elementary.specs.Log.{lnOf}
@@ -36,12 +35,6 @@ linkInv Log eta = expOf eta
 linkInv Identity eta = eta
 linkInv Inverse eta = oneF ⊘ maxF eta epsF
 linkInv Sqrt eta = let e = maxF eta zeroF in e ⊗ e
-
--- `is_infinite`
-unfoldable pub infinite : Float → Bool
-infinite nan = false
-infinite (inf s) = true
-infinite (fin s m e) = false
 
 -- x exp (-x) for x = exp e, and 0 where x is infinite
 unfoldable pub cloglogSlope : Float → Float

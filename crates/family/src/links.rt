@@ -2,8 +2,7 @@
 use crate::carried::CarriedLink;
 use base::EPSILON;
 use base::clamp;
-use base::is_finite;
-use base::is_nan;
+use base::is_infinite;
 use base::max;
 use elementary::exp;
 use elementary::exp_m1;
@@ -11,23 +10,13 @@ use elementary::ln;
 use elementary::ln_1p;
 use root::sqrt;
 ghost use mathlib.Core.Path.{_≡_};
-ghost use Rattle.family.specs.Link.{clampE, infinite, logistic, cloglogSlope, linkFun, linkInv, muEta};
+ghost use Rattle.family.specs.Link.{clampE, logistic, cloglogSlope, linkFun, linkInv, muEta};
 
 // A probability kept off 0 and 1 by E, so that no logarithm of 0 is taken.
 pub fn inside(p: f64) -> f64
     ensures { λ r. ⌜ r ≡ clampE p ⌝ }
 {
     clamp(EPSILON, 1.0 - EPSILON, p)
-}
-
-// Infinite, of either sign.
-fn is_infinite(x: f64) -> bool
-    ensures { λ r. ⌜ r ≡ infinite x ⌝ }
-{
-    if is_finite(x) {
-        return false;
-    }
-    !is_nan(x)
 }
 
 // The mean of the logit link before it is clamped.

@@ -1,15 +1,14 @@
--- Laws of the list functions: what one turn writes or adds, and the two answers. Assumes nothing.
+-- Laws of the list functions: what one turn writes, and the two answers. Assumes nothing.
 use mathlib.Core.Path.{_≡_, refl, sym}
 use mathlib.Core.Bool.{Bool, true, false}
 use mathlib.Core.List.{List, [], _∷_}
 use Prim.Native.Nat.{ℕ, zero, suc, _+_, _<_}
 use native.Mathlib.Nat.{not-suc-le-zero, le-of-suc-le-suc}
-use native.Mathlib.Numerals.{add-one}
 use borrow.Author.Tests.{eqb-true}
 use lib.Dec.{eqb}
 use lib.ListN.{length, getD, set}
 use lib.Ieee.{Float}
-use Rattle.base.specs.Sum.{_!_, addWhere, sumWhere}
+use Rattle.base.specs.Sum.{_!_}
 use Rattle.base.specs.List.{fillTo}
 use Rattle.base.proofs.Fills.{fill-step}
 use Rattle.base.proofs.Sums.{and-true}
@@ -40,8 +39,3 @@ pub entry-within : (xs : List Float) (i : ℕ) (d e : Float) → i < length xs �
 entry-within [] i d e h = absurd (not-suc-le-zero h)
 entry-within (x ∷ xs) zero d e h = refl
 entry-within (x ∷ xs) (suc i) d e h = entry-within xs i d e (le-of-suc-le-suc h)
-
--- ---- one turn of a sum over the indices that a test picks
-pub where-step : (t : ℕ → Bool) (f : ℕ → Float) (k : ℕ) (s : Float) → s ≡ sumWhere k t f → addWhere (t k) s (f k) ≡ sumWhere (k + 1) t f
-unfolding sumWhere
-where-step t f k s e = rw (e, add-one)

@@ -1,15 +1,17 @@
 -- The list functions: each entry of the output by the rule of one number. Document 01, module 3, and number 2 of "Numbers of an answer". Assumes nothing.
 use mathlib.Core.Path.{_≡_}
 use mathlib.Core.List.{List}
-use mathlib.Core.Bool.{Bool, cond}
+use mathlib.Core.Bool.{Bool, _&&_, cond}
 use Prim.Native.Nat.{ℕ}
-use lib.ListN.{getD}
+use lib.Dec.{eqb}
+use lib.ListN.{length, getD}
 use lib.Ieee.{Float}
 use Rattle.base.specs.Number.{oneF}
 use Rattle.base.specs.Sum.{_!_}
 use Rattle.base.specs.List.{fillTo}
 use Rattle.family.specs.Family.{devResid}
 use Rattle.family.specs.declared.carried.CarriedFamily.{CarriedFamily}
+use Rattle.family_lists.specs.Aic.{lengthsAgree}
 use Rattle.family_lists.specs.declared.lists.ListAnswer.{ListAnswer}
 use Rattle.family_lists.specs.declared.lists.ListAnswer.the-variants.{Written, LengthsDiffer}
 
@@ -27,6 +29,10 @@ pub record Listed (agree : Bool) (n : ℕ) (f : ℕ → Float) (before after : L
 unfoldable pub each : (Float → Float) → List Float → ℕ → Float
 each f xs i = f (xs ! i)
 
+-- a list function of one list: f of each entry, where the output is as long as the list
+abbrev pub ListedEach : (Float → Float) → List Float → List Float → List Float → ListAnswer → Type 0
+ListedEach f xs before after r = Listed (eqb (length xs) (length before)) (length xs) (each f xs) before after r
+
 -- weight i; where the weights are absent it is 1
 abbrev pub weightAt : List Float → ℕ → Float
 weightAt w i = getD w i oneF
@@ -34,3 +40,8 @@ weightAt w i = getD w i oneF
 -- the deviance of response i
 unfoldable pub devAt : CarriedFamily → List Float → List Float → List Float → ℕ → Float
 devAt f y mu w i = devResid f (y ! i) (mu ! i) (weightAt w i)
+
+-- the list function `dev_resid`: the deviance of each response, where means, weights and output are as long as the responses, or the weights absent
+abbrev pub ListedDeviances : CarriedFamily → List Float → List Float → List Float → List Float → List Float → ListAnswer → Type 0
+ListedDeviances f y mu w before after r =
+    Listed (lengthsAgree (length y) (length mu) (length w) && eqb (length y) (length before)) (length y) (devAt f y mu w) before after r

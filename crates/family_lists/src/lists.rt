@@ -9,13 +9,9 @@ use family::link_inv;
 use family::mu_eta;
 use family::variance;
 ghost use mathlib.Core.Path.{_≡_};
-ghost use mathlib.Core.Bool.{_&&_};
-ghost use lib.Dec.{eqb};
-ghost use lib.ListN.{length};
 ghost use Rattle.family.specs.Link.{linkFun, linkInv, muEta};
 ghost use Rattle.family.specs.Family.{varianceOf, initializeMu};
-ghost use Rattle.family_lists.specs.Aic.{lengthsAgree};
-ghost use Rattle.family_lists.specs.Lists.{listNumber, Listed, each, weightAt, devAt};
+ghost use Rattle.family_lists.specs.Lists.{listNumber, ListedEach, ListedDeviances, weightAt};
 
 // What became of the output: written whole, or, as the lists differ in length, not touched.
 pub enum ListAnswer {
@@ -35,7 +31,7 @@ pub fn list_number(answer: ListAnswer) -> usize
 
 // The predictor of each mean.
 pub fn link_fun_list(link: CarriedLink, mu: &[f64], out: &mut [f64]) -> ListAnswer
-    ensures { λ r. ⌜ Listed (eqb (length (now (mu .entry))) (length (now (out .entry)))) (length (now (mu .entry))) (each (linkFun link) (now (mu .entry))) (now (out .entry)) (now (out .exit)) r ⌝ }
+    ensures { λ r. ⌜ ListedEach (linkFun link) (now (mu .entry)) (now (out .entry)) (now (out .exit)) r ⌝ }
 {
     if mu.len() != out.len() {
         return ListAnswer::LengthsDiffer;
@@ -50,7 +46,7 @@ pub fn link_fun_list(link: CarriedLink, mu: &[f64], out: &mut [f64]) -> ListAnsw
 
 // The mean of each predictor.
 pub fn link_inv_list(link: CarriedLink, eta: &[f64], out: &mut [f64]) -> ListAnswer
-    ensures { λ r. ⌜ Listed (eqb (length (now (eta .entry))) (length (now (out .entry)))) (length (now (eta .entry))) (each (linkInv link) (now (eta .entry))) (now (out .entry)) (now (out .exit)) r ⌝ }
+    ensures { λ r. ⌜ ListedEach (linkInv link) (now (eta .entry)) (now (out .entry)) (now (out .exit)) r ⌝ }
 {
     if eta.len() != out.len() {
         return ListAnswer::LengthsDiffer;
@@ -65,7 +61,7 @@ pub fn link_inv_list(link: CarriedLink, eta: &[f64], out: &mut [f64]) -> ListAns
 
 // The derivative of the mean at each predictor.
 pub fn mu_eta_list(link: CarriedLink, eta: &[f64], out: &mut [f64]) -> ListAnswer
-    ensures { λ r. ⌜ Listed (eqb (length (now (eta .entry))) (length (now (out .entry)))) (length (now (eta .entry))) (each (muEta link) (now (eta .entry))) (now (out .entry)) (now (out .exit)) r ⌝ }
+    ensures { λ r. ⌜ ListedEach (muEta link) (now (eta .entry)) (now (out .entry)) (now (out .exit)) r ⌝ }
 {
     if eta.len() != out.len() {
         return ListAnswer::LengthsDiffer;
@@ -80,7 +76,7 @@ pub fn mu_eta_list(link: CarriedLink, eta: &[f64], out: &mut [f64]) -> ListAnswe
 
 // The variance at each mean.
 pub fn variance_list(family: CarriedFamily, mu: &[f64], out: &mut [f64]) -> ListAnswer
-    ensures { λ r. ⌜ Listed (eqb (length (now (mu .entry))) (length (now (out .entry)))) (length (now (mu .entry))) (each (varianceOf family) (now (mu .entry))) (now (out .entry)) (now (out .exit)) r ⌝ }
+    ensures { λ r. ⌜ ListedEach (varianceOf family) (now (mu .entry)) (now (out .entry)) (now (out .exit)) r ⌝ }
 {
     if mu.len() != out.len() {
         return ListAnswer::LengthsDiffer;
@@ -95,7 +91,7 @@ pub fn variance_list(family: CarriedFamily, mu: &[f64], out: &mut [f64]) -> List
 
 // The mean that a fit starts from, for each response.
 pub fn initialize_mu_list(family: CarriedFamily, y: &[f64], out: &mut [f64]) -> ListAnswer
-    ensures { λ r. ⌜ Listed (eqb (length (now (y .entry))) (length (now (out .entry)))) (length (now (y .entry))) (each (initializeMu family) (now (y .entry))) (now (out .entry)) (now (out .exit)) r ⌝ }
+    ensures { λ r. ⌜ ListedEach (initializeMu family) (now (y .entry)) (now (out .entry)) (now (out .exit)) r ⌝ }
 {
     if y.len() != out.len() {
         return ListAnswer::LengthsDiffer;
@@ -126,7 +122,7 @@ pub fn dev_resid_list(
     wt: &[f64],
     out: &mut [f64],
 ) -> ListAnswer
-    ensures { λ r. ⌜ Listed (lengthsAgree (length (now (y .entry))) (length (now (mu .entry))) (length (now (wt .entry))) && eqb (length (now (y .entry))) (length (now (out .entry)))) (length (now (y .entry))) (devAt family (now (y .entry)) (now (mu .entry)) (now (wt .entry))) (now (out .entry)) (now (out .exit)) r ⌝ }
+    ensures { λ r. ⌜ ListedDeviances family (now (y .entry)) (now (mu .entry)) (now (wt .entry)) (now (out .entry)) (now (out .exit)) r ⌝ }
 {
     if !lengths_agree(y.len(), mu.len(), wt.len()) {
         return ListAnswer::LengthsDiffer;

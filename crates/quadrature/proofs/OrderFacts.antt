@@ -12,7 +12,7 @@ use Rattle.base.proofs.Sums.{lt-or-ge}
 use Rattle.quadrature.specs.declared.orders.Decline.the-variants.{Effects}
 use Rattle.quadrature.specs.declared.orders.Choice.{Choice}
 use Rattle.quadrature.specs.declared.orders.Choice.the-variants.{Use, Without}
-use Rattle.quadrature.specs.Orders.{sizeOf, wished, withinCap, downFrom, firstWithin, cappedFrom, productFrom, productOrder, jointFrom, jointOrder}
+use Rattle.quadrature.specs.Orders.{sizeOf, wished, withinCap, downFrom, firstWithin, cappedFrom, productCapped, productOrder, jointCapped, jointOrder}
 
 same-order : {o l : Order} → Use o ≡ Use l → o ≡ l
 same-order e = cc
@@ -37,8 +37,8 @@ unfolding cappedFrom
 capped-within cap dims o l e = first-within cap dims (downFrom o) l e
 
 -- one block of k effects, k other than 1: at most 400 points a group
-product-from : (k : ℕ) (l : Order) (c : Choice) → (k ≡ 1 → ⊥) → productFrom k c ≡ Use l → sizeOf l ^ k ≤ 400
-unfolding productFrom
+product-from : (k : ℕ) (l : Order) (c : Choice) → (k ≡ 1 → ⊥) → productCapped k c ≡ Use l → sizeOf l ^ k ≤ 400
+unfolding productCapped
 product-from k l (Without d) n e = absurd (never e)
 product-from k l (Use o) n e = capped-within 400 k o l (rw (ne-eqb k 1 n) at e)
 
@@ -54,8 +54,8 @@ joint-tested q o l false false s t e =
     let n : q ≡ 0 → ⊥ = eqb-false q 0 s in
     ((⊎-elim (λ (z : 0 < q). z) (λ (z : q ≤ 0). absurd (n (omega arith))) (lt-or-ge 0 q), ltb-false 8 q t), capped-within 7000 q o l e)
 
-joint-from : (q : ℕ) (l : Order) (c : Choice) → jointFrom q c ≡ Use l → ((0 < q) × (q ≤ 8)) × (sizeOf l ^ q ≤ 7000)
-unfolding jointFrom
+joint-from : (q : ℕ) (l : Order) (c : Choice) → jointCapped q c ≡ Use l → ((0 < q) × (q ≤ 8)) × (sizeOf l ^ q ≤ 7000)
+unfolding jointCapped
 joint-from q l (Without d) e = absurd (never e)
 joint-from q l (Use o) e = joint-tested q o l (eqb q 0) (ltb 8 q) refl refl e
 

@@ -40,12 +40,12 @@ unfoldable pub withinCap : ℕ → ℕ → ℕ → Bool
 withinCap size dims cap = leb (size ^ dims) cap
 
 -- the next order down, none below 3
-unfoldable pub lowerOf : Order → Lower
-lowerOf Three = Nothing
-lowerOf Five = To Three
-lowerOf Seven = To Five
-lowerOf Nine = To Seven
-lowerOf Eleven = To Nine
+unfoldable pub nextLower : Order → Lower
+nextLower Three = Nothing
+nextLower Five = To Three
+nextLower Seven = To Five
+nextLower Nine = To Seven
+nextLower Eleven = To Nine
 
 -- an order and those below it
 unfoldable pub downFrom : Order → List Order
@@ -65,19 +65,19 @@ unfoldable pub cappedFrom : ℕ → ℕ → Order → Choice
 cappedFrom cap dims o = firstWithin cap dims (downFrom o)
 
 -- product: k = 1 keeps the order, else the cap is 400
-unfoldable pub productFrom : ℕ → Choice → Choice
-productFrom k (Without d) = Without d
-productFrom k (Use o) = cond (eqb k 1) (Use o) (cappedFrom 400 k o)
+unfoldable pub productCapped : ℕ → Choice → Choice
+productCapped k (Without d) = Without d
+productCapped k (Use o) = cond (eqb k 1) (Use o) (cappedFrom 400 k o)
 
 -- `resolve_gh_order_product`
 unfoldable pub productOrder : ℕ → ℕ → Choice
-productOrder w k = productFrom k (wished w)
+productOrder w k = productCapped k (wished w)
 
 -- joint: none for q = 0 or q above 8, else the cap is 7,000
-unfoldable pub jointFrom : ℕ → Choice → Choice
-jointFrom q (Without d) = Without d
-jointFrom q (Use o) = cond (eqb q 0 || ltb 8 q) (Without Effects) (cappedFrom 7000 q o)
+unfoldable pub jointCapped : ℕ → Choice → Choice
+jointCapped q (Without d) = Without d
+jointCapped q (Use o) = cond (eqb q 0 || ltb 8 q) (Without Effects) (cappedFrom 7000 q o)
 
 -- `resolve_gh_order_joint`
 unfoldable pub jointOrder : ℕ → ℕ → Choice
-jointOrder w q = jointFrom q (wished w)
+jointOrder w q = jointCapped q (wished w)

@@ -1,7 +1,7 @@
 // Which rule a quadrature uses: by the wish, and by how many points it may have.
 ghost use mathlib.Core.Path.{_≡_};
 ghost use Prim.Native.Nat.{_≤_};
-ghost use Rattle.quadrature.specs.Orders.{sizeOf, orderOf, wished, withinCap, lowerOf, cappedFrom, productOrder, jointOrder};
+ghost use Rattle.quadrature.specs.Orders.{sizeOf, orderOf, wished, withinCap, nextLower, cappedFrom, productOrder, jointOrder};
 
 // The orders that have a rule.
 pub enum Order {
@@ -120,7 +120,7 @@ fn within_cap(size: usize, dims: usize, cap: usize) -> bool
 
 // The next order down, if there is one.
 fn next_lower(order: Order) -> Lower
-    ensures { λ r. ⌜ r ≡ lowerOf order ⌝ }
+    ensures { λ r. ⌜ r ≡ nextLower order ⌝ }
 {
     match order {
         Order::Three => Lower::Nothing,

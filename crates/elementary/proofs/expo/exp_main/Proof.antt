@@ -1,5 +1,5 @@
 -- `expo::exp_main` meets its contract: the row is the definition's, and each call is the operation of its name.
-use Rattle.elementary.specs.Exp.{tailOf, scaleBits, ended, expMain}
+use Rattle.elementary.specs.Exp.{rowTail, scaleBits, ended, expMain}
 use borrow.Author.Needs.{needs}
 use Rattle.elementary.proofs.expo.exp_main.Statement.{statement}
 use Rattle.elementary.proofs.expo.exp_main.Tie as tie
@@ -35,14 +35,14 @@ scaled-requires : tie.Need-scaled-requires
 scaled-requires c κs = search needs
 
 returns : tie.Need-returns
-unfolding expMain ended tailOf scaleBits
+unfolding expMain ended rowTail scaleBits
 returns c = rw (c .scaled .ensures, c .before .double2 .ensures, c .before .before .before .before .excess .ensures, c .before .before .before .before .before .reduced .ensures, c .before .before .before .before .before .before .double .ensures, c .before .before .before .before .before .before .before .wrapping-add-u64 .ensures, c .before .before .before .before .before .before .before .before .exp-row .ensures, c .before .before .before .before .before .before .before .before .before .pattern .ensures, ← (c .before .before .before .abs .ensures), c .before .before .if1 .taken)
 
 edge-requires : tie.Need-edge-requires
 edge-requires c κs = search needs
 
 returns-2 : tie.Need-returns-2
-unfolding expMain ended tailOf scaleBits
+unfolding expMain ended rowTail scaleBits
 returns-2 c = rw (c .edge .ensures, c .before .before .before .excess .ensures, c .before .before .before .before .reduced .ensures, c .before .before .before .before .before .double .ensures, c .before .before .before .before .before .before .wrapping-add-u64 .ensures, c .before .before .before .before .before .before .before .exp-row .ensures, c .before .before .before .before .before .before .before .before .pattern .ensures, ← (c .before .before .abs .ensures), c .before .if1 .left)
 
 pub exp-main-spec : {M : Type 1} → statement M

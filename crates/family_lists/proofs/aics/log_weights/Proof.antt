@@ -5,7 +5,7 @@ use native.Mathlib.Omega.{arith}
 use lib.ListN.{length}
 use Rattle.base.specs.Sum.{sumWhere}
 use Rattle.family_lists.specs.Aic.{aboveZeroAt, lnAt, logWeights}
-use Rattle.family_lists.proofs.Listing.{where-step}
+use Rattle.base.proofs.Sums.{where-step}
 use Rattle.base.proofs.Loops.{loops}
 use borrow.Author.Needs.{needs}
 use Rattle.family_lists.proofs.aics.log_weights.Statement.{statement}

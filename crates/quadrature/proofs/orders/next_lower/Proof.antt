@@ -1,5 +1,5 @@
 -- `quadrature::next_lower` meets its contract, case by case.
-use Rattle.quadrature.specs.Orders.{lowerOf}
+use Rattle.quadrature.specs.Orders.{nextLower}
 use borrow.Author.Needs.{needs}
 use Rattle.quadrature.proofs.orders.next_lower.Statement.{statement}
 use Rattle.quadrature.proofs.orders.next_lower.Tie as tie
@@ -20,23 +20,23 @@ enum-told-5 : tie.Need-enum-told-5
 enum-told-5 c = search needs
 
 returns : tie.Need-returns
-unfolding lowerOf
+unfolding nextLower
 returns c = rw (c .enum-told .given .1)
 
 returns-2 : tie.Need-returns-2
-unfolding lowerOf
+unfolding nextLower
 returns-2 c = rw (c .enum-told2 .given .1)
 
 returns-3 : tie.Need-returns-3
-unfolding lowerOf
+unfolding nextLower
 returns-3 c = rw (c .enum-told3 .given .1)
 
 returns-4 : tie.Need-returns-4
-unfolding lowerOf
+unfolding nextLower
 returns-4 c = rw (c .enum-told4 .given .1)
 
 returns-5 : tie.Need-returns-5
-unfolding lowerOf
+unfolding nextLower
 returns-5 c = rw (c .enum-told5 .given .1)
 
 pub next-lower-spec : {M : Type 1} → statement M

@@ -1,9 +1,9 @@
--- `family::is_infinite` meets its contract: what is neither finite nor NaN is infinite.
+-- `base::is_infinite` meets its contract: what is neither finite nor NaN is infinite.
 use mathlib.Core.Path.{sym, _∙_}
-use Rattle.family.proofs.Cases.{finite-is-not, infinite-or-nan}
+use Rattle.base.proofs.Doubles.{finite-is-not, infinite-or-nan}
 use borrow.Author.Needs.{needs}
-use Rattle.family.proofs.links.is_infinite.Statement.{statement}
-use Rattle.family.proofs.links.is_infinite.Tie as tie
+use Rattle.base.proofs.number.is_infinite.Statement.{statement}
+use Rattle.base.proofs.number.is_infinite.Tie as tie
 
 is-finite-requires : tie.Need-is-finite-requires
 is-finite-requires c κs = search needs

@@ -1,4 +1,4 @@
--- Laws of single doubles beside those of `base`: order under a minus; sums, quotients and minus that are no NaN; `max` and `clamp`. Assumes nothing.
+-- Laws of the order of doubles: under a minus, of what is below, of `max` and `clamp`. Assumes nothing.
 use mathlib.Core.Path.{_≡_, refl, sym, ap, _∙_}
 use mathlib.Core.Bool.{Bool, true, false, not, _&&_, _||_, Bool·beq, cond}
 use Prim.Native.Nat.{ℕ, _+_, _*_}
@@ -6,12 +6,10 @@ use native.Mathlib.Nat.{add-comm}
 use native.Mathlib.Omega.{arith}
 use borrow.Author.Tests.{eq-eqb, ne-eqb, eqb-true, ltb-true}
 use lib.Dec.{eqb, ltb}
-use lib.IntN.{ℤ, pos}
-use lib.Ieee.{Float, nan, inf, fin, unlike, up, down, below, level, binary64, neg, add, mul, div, lt, eq, le, isNan, ofBits}
-use Rattle.base.specs.Number.{_⊕_, _⊗_, _⊘_, oneF, maxF, clampF}
-use Rattle.base.proofs.Doubles.{by-test, ff, is-nan, not-both, at-most-self}
+use lib.Ieee.{Float, nan, inf, fin, up, down, below, level, neg, lt, eq, le, isNan}
+use Rattle.base.specs.Number.{maxF, clampF}
+use Rattle.base.proofs.Doubles.{by-test, ff, not-both, at-most-self}
 use Rattle.base.proofs.Sums.{and-true}
-use Rattle.elementary.proofs.Rounded.{round-number, add-number}
 
 -- ---- a minus turns the order
 below-turned : (s : Bool) (a : ℕ) (t : Bool) (b : ℕ) → below (not t) b (not s) a ≡ below s a t b
@@ -71,39 +69,6 @@ le-turned x y h = either (lt x y) (eq x y) refl refl h
         or-true false = refl
     either false false p q h = absurd (ff h)
 
--- ---- no NaN
-pub neg-number : (x : Float) → isNan x ≡ false → isNan (neg x) ≡ false
-unfolding isNan neg
-neg-number nan h = absurd (ff (sym h))
-neg-number (inf s) h = refl
-neg-number (fin s m e) h = refl
-
-pub one-plus-number : (x : Float) → isNan x ≡ false → isNan (oneF ⊕ x) ≡ false
-unfolding isNan add ofBits
-one-plus-number nan h = absurd (ff (sym h))
-one-plus-number (inf s) h = refl
-one-plus-number (fin s m e) h = add-number binary64 false 1 (pos 0) s m e
-
-over-number : (s : Bool) (m : ℕ) (e : ℤ) (t : Bool) (n : ℕ) (d : ℤ) → eqb m 0 ≡ false → isNan (div binary64 (fin s m e) (fin t n d)) ≡ false
-unfolding isNan div
-over-number s m e t n d h =
-    by-test (λ z. isNan z ≡ false) (eqb n 0) (λ _. rw h) (λ _. round-number binary64 (unlike s t) (m * up e * down d) (n * up d * down e))
-
-pub one-over-number : (x : Float) → isNan x ≡ false → isNan (oneF ⊘ x) ≡ false
-unfolding isNan div ofBits
-one-over-number nan h = absurd (ff (sym h))
-one-over-number (inf s) h = refl
-one-over-number (fin s m e) h = over-number false 1 (pos 0) s m e refl
-
--- a function that gives a NaN for NaN only gives a number for a number
-pub number-of : (f : Float → Float) → ((x : Float) → f x ≡ nan → x ≡ nan) → (x : Float) → isNan x ≡ false → isNan (f x) ≡ false
-unfolding isNan
-number-of f only x h = by-case (isNan (f x)) refl
-  where
-    by-case : (b : Bool) → isNan (f x) ≡ b → isNan (f x) ≡ false
-    by-case true e = absurd (ff (sym h ∙ ap isNan (only x (sym (is-nan (f x) e)))))
-    by-case false e = e
-
 -- ---- `max` is at least its second argument, also where the first is a NaN
 pub max-from : (a b : Float) → isNan b ≡ false → le b (maxF a b) ≡ true
 unfolding maxF le
@@ -155,10 +120,3 @@ below-not-equal (fin s m e) (fin t n d) h = below-not-level s (m * up e * down d
 pub below-not-from : (x y : Float) → lt x y ≡ true → le y x ≡ false
 unfolding le
 below-not-from x y h = rw (not-both x y h, below-not-equal x y h)
-
--- ---- a product with a NaN is one
-pub times-nan : (x : Float) → x ⊗ nan ≡ nan
-unfolding mul
-times-nan nan = refl
-times-nan (inf s) = refl
-times-nan (fin s m e) = refl
