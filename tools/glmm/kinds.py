@@ -233,9 +233,14 @@ def no_residual(r):
 
 
 def in_vain(r):
-    """No step is accepted: a start without a logarithm, or residuals whose squares overflow."""
+    """No step is accepted: a start without a logarithm, residuals whose squares overflow, or (inverse link) a predictor that stays below zero."""
     about = description(r, r.choice([("gaussian", "log"), ("gaussian", "identity"), ("poisson", "log"), ("gaussian", "inverse")]), r.randint(2, 5), 1, some_blocks(r, 4))
-    about["y"][0] = {"log": -1.0, "identity": 1e200, "inverse": 1e-200}[about["link"]]
+    if about["link"] == "inverse":
+        about["offset"] = [-9.0] + [0.0] * (len(about["y"]) - 1)
+        about["x"][0] = [0.0]
+        about["zt"] = [[entry for entry in row if entry[0] > 0] for row in about["zt"]]
+    else:
+        about["y"][0] = -1.0 if about["link"] == "log" else 1e200
     return about
 
 
