@@ -1,6 +1,6 @@
 """Damaged jobs: a list that depends on nothing but this file. Each has the name of what was done to it."""
 import random
-from form import job_bytes, packed
+from form import job_bytes
 from kinds import exact
 
 CASE_J = {"family": "poisson", "link": "log", "limit": 0, "blocks": [{"m": 1, "k": 1}], "theta": [1], "y": [2], "x": [[1]], "zt": [[[0, 1]]]}
@@ -47,17 +47,20 @@ def pairs(name, data):
             yield f"{name}-pair-{family}-{link}", with_field(with_field(data, 4, 2, family), 6, 3, link)
 
 
+def row_places(about):
+    """Bytes where the count of a row of Z' stands, and where an entry's column does."""
+    at, counts, columns = len(job_bytes({**about, "zt": []})), [], []
+    for row in about["zt"]:
+        counts.append(at)
+        columns += [at + 2 + 10 * e for e in range(len(row))]
+        at += 2 + 10 * len(row)
+    return counts, columns
+
+
 def two_byte_places(about):
     """Bytes where a field of two bytes begins, with the number of its spare bits: blocks, counts of rows, columns."""
-    places = [(6 + 2 * i, 5) for i in range(len(about["blocks"]))]
-    at = len(job_bytes({**about, "zt": []}))
-    for row in about["zt"]:
-        places.append((at, 3))
-        at += 2
-        for _ in row:
-            places.append((at, 3))
-            at += 10
-    return places
+    counts, columns = row_places(about)
+    return [(6 + 2 * i, 5) for i in range(len(about["blocks"]))] + [(at, 3) for at in sorted(counts + columns)]
 
 
 def spare_bits(name, about):
@@ -72,7 +75,7 @@ def spare_bits(name, about):
 def counts_and_columns(name, about):
     """Counts of rows and columns that are too high, and columns that do not rise."""
     data = job_bytes(about)
-    for at, spare in two_byte_places(about)[len(about["blocks"]):]:
+    for at, _ in two_byte_places(about)[len(about["blocks"]):]:
         for value in (0, 1, 2, 3, 100, 8191):
             yield f"{name}-index-{at}-{value}", with_field(data, 8 * at, 13, value)
 
@@ -89,19 +92,15 @@ def block_sizes(name, about):
 def double_places(about):
     """Bytes where a double begins."""
     start, rows = 6 + 2 * len(about["blocks"]), len(job_bytes({**about, "zt": []}))
-    places = list(range(start, rows, 8))
-    for at, _ in two_byte_places(about)[len(about["blocks"]):]:
-        places.append(at + 2)
-    return places
+    return [*range(start, rows, 8), *(at + 2 for at in row_places(about)[1])]
 
 
 def not_finite(name, about):
-    """NaN and infinity in each place. (Two bytes behind a row's count stands a column; there it is another damage.)"""
+    """NaN and infinity in each place."""
     data = job_bytes(about)
     for at in double_places(about):
         for pattern in NOT_FINITE:
-            if at + 8 <= len(data):
-                yield f"{name}-number-{at}-{pattern}", data[:at] + bytes.fromhex(pattern) + data[at + 8:]
+            yield f"{name}-number-{at}-{pattern}", data[:at] + bytes.fromhex(pattern) + data[at + 8:]
 
 
 def two_faults(name, about):

@@ -19,7 +19,6 @@ import json, math, struct
 FAMILIES = ["binomial", "poisson", "gaussian", "gamma"]
 LINKS = ["logit", "probit", "cloglog", "log", "identity", "inverse", "sqrt"]
 NOT_GIVEN = 1023
-LONGEST = 65536
 
 
 def number_bytes(value):

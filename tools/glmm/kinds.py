@@ -173,6 +173,16 @@ def joint(r):
     return about
 
 
+def strong(r):
+    """Large effects u: few groups that lie far apart, theta below 1. Here a sum of squares tells its order."""
+    about = description(r, r.choice(PAIRS[2:6]), r.randint(5, 9), 1, r.choice([[{"m": 2, "k": 1}, {"m": 1, "k": 2}], [{"m": 3, "k": 1}, {"m": 2, "k": 1}], [{"m": 2, "k": 2}]]), 0.2)
+    low = r.choice(about["zt"])
+    for i, _ in low:
+        about["y"][i] += float(r.randint(30, 300))
+    about["theta"] = [v * 0.4 for v in about["theta"]]
+    return {**about, "n_agq": r.choice([2, 3, 5, 7])}
+
+
 def full_joint(r):
     """Eight effects in two blocks: 6,561 points."""
     about = description(r, r.choice(PAIRS[:5]), r.randint(3, 5), 1, [{"m": 3, "k": 2}, {"m": 2, "k": 1}])
@@ -233,9 +243,14 @@ def no_residual(r):
 
 
 def in_vain(r):
-    """No step is accepted: a start without a logarithm, or residuals whose squares overflow."""
+    """No step is accepted: a start without a logarithm, residuals whose squares overflow, or (inverse link) a predictor that stays below zero."""
     about = description(r, r.choice([("gaussian", "log"), ("gaussian", "identity"), ("poisson", "log"), ("gaussian", "inverse")]), r.randint(2, 5), 1, some_blocks(r, 4))
-    about["y"][0] = {"log": -1.0, "identity": 1e200, "inverse": 1e-200}[about["link"]]
+    if about["link"] == "inverse":
+        about["offset"] = [-9.0] + [0.0] * (len(about["y"]) - 1)
+        about["x"][0] = [0.0]
+        about["zt"] = [[entry for entry in row if entry[0] > 0] for row in about["zt"]]
+    else:
+        about["y"][0] = -1.0 if about["link"] == "log" else 1e200
     return about
 
 
@@ -386,7 +401,7 @@ def not_carried(r, about):
     about["family"], about["link"] = r.choice([("binomial", "probit"), ("gamma", "inverse"), ("gamma", "identity"), ("gamma", "log")])
 
 
-KINDS = {plain: 24, middle: 6, scalar: 8, product: 8, joint: 6, weights: 5, thetas: 5, stored_zeros: 5, limits: 3, dispersion: 6, halved: 4, overshot: 1, far: 3, least: 3, wide: 2,
+KINDS = {plain: 24, middle: 6, scalar: 8, product: 8, joint: 6, strong: 4, weights: 5, thetas: 5, stored_zeros: 5, limits: 3, dispersion: 6, halved: 4, overshot: 1, far: 3, least: 3, wide: 2,
          singular: 2, in_vain: 1, pivots: 3, coupled: 4, later_group: 1, second_block: 1, out_of_range: 3, extremes: 3, no_residual: 1, refused: 3, large: 1, full_joint: 1}
 
 
