@@ -10,6 +10,7 @@ use Rattle.elementary.specs.Log.{lnOf}
 use Rattle.family.specs.Family.{tenthF, usesDispersion}
 use Rattle.family_lists.specs.Lists.{devAt}
 use Rattle.family_lists.specs.Aic.{aicOf}
+use Rattle.family.specs.declared.carried.CarriedFamily.{CarriedFamily}
 use Rattle.rule.specs.Constant.{tolF}
 use Rattle.rule.specs.Given.{Given, qOf, nOf}
 use Rattle.rule.specs.Solve.{Solved}
@@ -24,12 +25,12 @@ unfoldable pub deviancesOf : Given → List Float → List Float
 deviancesOf G mu = build (devAt (G .family) (G .y) mu (G .weights)) (nOf G)
 
 -- their sum
-unfoldable pub devianceSum : Given → List Float → Float
-devianceSum G devs = sumTo (nOf G) (entryOf devs)
+unfoldable pub devianceSum : ℕ → List Float → Float
+devianceSum n devs = sumTo n (entryOf devs)
 
 -- the fit term: the deviance sum, with dispersion `aic` - 2
-unfoldable pub fitTerm : Given → List Float → Float → Float
-fitTerm G mu dev = cond (usesDispersion (G .family)) (aicOf (G .family) (G .y) mu (G .weights) dev ⊖ twoF) dev
+unfoldable pub fitTerm : CarriedFamily → List Float → List Float → List Float → Float → Float
+fitTerm family y mu weights dev = cond (usesDispersion family) (aicOf family y mu weights dev ⊖ twoF) dev
 
 -- ln|d_i|
 unfoldable pub logPivotAt : ℕ → List Float → ℕ → Float
@@ -76,11 +77,11 @@ modeFit G k s m devs devSum fit =
 
 -- with the deviance sum
 unfoldable pub modeSum : Given → ℕ → Solved → Move → List Float → Float → Mode
-modeSum G k s m devs devSum = modeFit G k s m devs devSum (fitTerm G (m .mu) devSum)
+modeSum G k s m devs devSum = modeFit G k s m devs devSum (fitTerm (G .family) (G .y) (m .mu) (G .weights) devSum)
 
 -- with the deviances
 unfoldable pub modeDevs : Given → ℕ → Solved → Move → List Float → Mode
-modeDevs G k s m devs = modeSum G k s m devs (devianceSum G devs)
+modeDevs G k s m devs = modeSum G k s m devs (devianceSum (nOf G) devs)
 
 -- the stop after k iterations, with the solve s and the accepted move m
 unfoldable pub modeOf : Given → ℕ → Solved → Move → Mode
