@@ -2,20 +2,6 @@
 // What stands above a diagonal is NaN in the matrix and 9 in the buffer: the first is not read, the second stays.
 use factor::Factored;
 ghost use Prim.Native.Nat.{_*_, _≤_, _<_};
-ghost use lib.ListN.{length};
-
-// The first n numbers, behind a word.
-fn put_list(word: &[u8], xs: &[f64], n: usize)
-    requires { ⌜ n ≤ length (now xs) ⌝ }
-{
-    text::put_word(word);
-    let mut i = 0;
-    while i < n {
-        text::put_double(xs[i]);
-        i += 1;
-    }
-    text::end_line();
-}
 
 // How a factorisation ended: -, or the pivot that failed.
 fn put_end(end: Factored) {
@@ -59,10 +45,10 @@ fn with_ldl(l: &[f64; 16], s: usize)
 {
     let mut x = [1.0, -2.0, 0.3, 3.0];
     factor::ldl_solve(l, s, &mut x);
-    put_list(b"solution", &x, 4);
+    text::put_list(b"solution", &x, 4);
     let mut inverse = [9.0; 16];
     factor::ldl_inverse(l, s, &mut inverse);
-    put_list(b"inverse", &inverse, 16);
+    text::put_list(b"inverse", &inverse, 16);
 }
 
 // A solution, the inverse and v with the Cholesky factor l, whatever its end.
@@ -71,10 +57,10 @@ fn with_cholesky(l: &[f64; 16], s: usize)
 {
     let mut x = [1.0, -2.0, 0.3, 3.0];
     factor::cholesky_solve(l, s, &mut x);
-    put_list(b"solution", &x, 4);
+    text::put_list(b"solution", &x, 4);
     let mut columns = [9.0; 16];
     factor::cholesky_inverse(l, s, &mut columns);
-    put_list(b"columns", &columns, 16);
+    text::put_list(b"columns", &columns, 16);
     put_v(&columns, s);
 }
 
@@ -85,7 +71,7 @@ fn by_ldl(a: &[f64; 16], s: usize)
     let end = factor::ldl(a, s, &mut l);
     text::put_word(b"ldl");
     put_end(end);
-    put_list(b"factor", &l, 16);
+    text::put_list(b"factor", &l, 16);
     with_ldl(&l, s);
 }
 
@@ -97,14 +83,14 @@ fn by_cholesky(a: &[f64; 16], s: usize)
     let end = factor::cholesky(&mut l, s);
     text::put_word(b"cholesky");
     put_end(end);
-    put_list(b"factor", &l, 16);
+    text::put_list(b"factor", &l, 16);
     with_cholesky(&l, s);
 }
 
 fn both(a: &[f64; 16], s: usize)
     requires { ⌜ (s ≤ 4) × (s * s ≤ 16) ⌝ }
 {
-    put_list(b"matrix", a, 16);
+    text::put_list(b"matrix", a, 16);
     by_ldl(a, s);
     by_cholesky(a, s);
 }

@@ -4,19 +4,6 @@ ghost use Prim.Native.Nat.{_≤_};
 ghost use lib.ListN.{length};
 ghost use Rattle.base.specs.Sparse.{Rows};
 
-// The first n numbers, behind a word.
-fn put_list(word: &[u8], xs: &[f64], n: usize)
-    requires { ⌜ n ≤ length (now xs) ⌝ }
-{
-    text::put_word(word);
-    let mut i = 0;
-    while i < n {
-        text::put_double(xs[i]);
-        i += 1;
-    }
-    text::end_line();
-}
-
 // X of three rows and two columns.
 fn x_beta() {
     let mut out = [9.0; 4];
@@ -27,13 +14,13 @@ fn x_beta() {
         2,
         &mut out,
     );
-    put_list(b"x_beta", &out, 4);
+    text::put_list(b"x_beta", &out, 4);
 }
 
 fn products() {
     let mut out = [9.0; 4];
     linear::products(&[1.8, 0.1, -0.0], &[0.7, 3.0, 1e16], 3, &mut out);
-    put_list(b"products", &out, 4);
+    text::put_list(b"products", &out, 4);
 }
 
 // Column a of X times the weights, and the row of X'WX that it makes: the two rows differ in their association.
@@ -43,7 +30,7 @@ fn cross_row(a: usize)
     let x = [0.9, 2.4, -2.3, -0.2, -1.5, 0.3];
     let mut xw = [9.0; 4];
     linear::xw_column(&x, &[1.8, 0.1, 0.7], 3, 2, a, &mut xw);
-    put_list(b"xw", &xw, 4);
+    text::put_list(b"xw", &xw, 4);
     text::put_word(b"cross");
     text::put_double(linear::column_dot(&xw, &x, 3, 2, 0));
     text::put_double(linear::column_dot(&xw, &x, 3, 2, 1));
@@ -61,7 +48,7 @@ fn effects() {
         2,
         &mut out,
     );
-    put_list(b"effects", &out, 4);
+    text::put_list(b"effects", &out, 4);
 }
 
 // The unsolved columns stand from 1 on and the normal matrix from 8 on: its entry above the diagonal stays.
@@ -89,7 +76,7 @@ fn normal() {
     linear::normal_row(&x, &xw, &solved, 3, 2, 3, 0, 1, 8, &mut t);
     linear::xw_column(&x, &w, 3, 2, 1, &mut xw);
     linear::normal_row(&x, &xw, &solved, 3, 2, 3, 1, 4, 10, &mut t);
-    put_list(b"normal", &t, 13);
+    text::put_list(b"normal", &t, 13);
 }
 
 fn side(starts: &[usize], columns: &[usize], values: &[f64])
@@ -105,7 +92,7 @@ fn side(starts: &[usize], columns: &[usize], values: &[f64])
         &[1.0, 0.7, 3.0, 1.0, 0.3],
         &mut out,
     );
-    put_list(b"zt_times", &out, 6);
+    text::put_list(b"zt_times", &out, 6);
 }
 
 fn square(starts: &[usize], columns: &[usize], values: &[f64])
@@ -121,7 +108,7 @@ fn square(starts: &[usize], columns: &[usize], values: &[f64])
         &[1.8, 0.1, 0.7, 1.3, 0.3],
         &mut out,
     );
-    put_list(b"ztwz", &out, 26);
+    text::put_list(b"ztwz", &out, 26);
 }
 
 fn summed(starts: &[usize], columns: &[usize], values: &[f64])
@@ -137,7 +124,7 @@ fn summed(starts: &[usize], columns: &[usize], values: &[f64])
         &[0.3, 5.0, 1.1, 1.7, 0.7],
         &mut out,
     );
-    put_list(b"z_times", &out, 6);
+    text::put_list(b"z_times", &out, 6);
 }
 
 // Five rows of Z' over five observations: 1 3 4, none, 0 2 3 4, 1 3 4, 0 2. Some rows meet, some do not.

@@ -4,7 +4,8 @@ mod specials;
 pub use specials::SPECIALS;
 pub use specials::special;
 ghost use mathlib.Core.Path.{_≡_};
-ghost use Prim.Native.Nat.{_<_};
+ghost use Prim.Native.Nat.{_<_, _≤_};
+ghost use lib.ListN.{length};
 ghost use Rattle.text.specs.Hex.{hexDigit, hexDigits};
 
 // The digit d as a byte.
@@ -63,4 +64,17 @@ pub fn put_test(t: bool) {
 // The end of a line.
 pub fn end_line() {
     io::write_all(1, b"\n");
+}
+
+// The first n numbers, behind a word, on a line of their own.
+pub fn put_list(word: &[u8], xs: &[f64], n: usize)
+    requires { ⌜ n ≤ length (now xs) ⌝ }
+{
+    put_word(word);
+    let mut i = 0;
+    while i < n {
+        put_double(xs[i]);
+        i += 1;
+    }
+    end_line();
 }

@@ -1,8 +1,8 @@
--- `cases_linear::put_list` is safe and ends: each turn counts one on towards n.
+-- `text::put_list` is safe and ends: each turn counts one on towards n.
 use Prim.Native.Nat.{_≤_, _-_}
 use borrow.Author.Needs.{needs}
-use Rattle.cases_linear.proofs.put_list.Statement.{statement}
-use Rattle.cases_linear.proofs.put_list.Tie as tie
+use Rattle.text.proofs.put_list.Statement.{statement}
+use Rattle.text.proofs.put_list.Tie as tie
 
 abbrev Inv-loop : tie.InvT-loop
 Inv-loop word xs n i₀ i = i ≤ n
