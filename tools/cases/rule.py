@@ -11,7 +11,7 @@ sys.path.insert(0, str(ROOT / "tools" / "glmm"))
 from form import from_groups, job_bytes
 
 CRATES = ["base", "root", "elementary", "model", "family", "family_lists", "factor", "lambda", "linear", "stored", "rule"]
-IEEE = "add sub mul div neg lt le eq ne ofBits toBits ofInt toUnsigned round".split()
+IEEE = "add sub mul div neg lt le eq ne isNan ofBits toBits ofInt toUnsigned round".split()
 VECTORS = "beta se z u b mu eta residual v".split()
 JOBS = json.loads((ROOT / "crates" / "rule_cases" / "jobs.json").read_text())
 
