@@ -12,7 +12,7 @@ use Rattle.base.specs.Sum.{_!_, _!!_, addWhere, sumWhere}
 use Rattle.base.specs.List.{zeroAt, fillTo}
 use Rattle.base.specs.Sparse.{Rising, Rows, Sparse, stored}
 use Rattle.base.proofs.Sums.{lt-or-ge}
-use Rattle.base.proofs.Fills.{fill-none, fill-step, fill-in, fill-past, fill-is, length-fill}
+use Rattle.base.proofs.Fills.{fill-none, fill-step, fill-in, fill-past, fill-is, fill-over, length-fill}
 use Rattle.base.proofs.SparseRows.{stored-entry, value-entry}
 use Rattle.stored.specs.Stored.{effectTerm, zTimesAt, addedAt}
 use Rattle.stored.proofs.Parted.{Parted, parted-none, passed, between}
@@ -23,13 +23,6 @@ fill-on k m f v l h kept =
     fill-is m f v (fillTo k f v) h (length-fill k f v)
     (λ i g. ⊎-elim (λ (a : i < k). fill-in k f v (omega arith) i a) (λ (a : k ≤ i). fill-past k f v i a ∙ sym (kept i a g)) (lt-or-ge i k))
     (λ i g. fill-past k f v i (omega arith))
-
--- what was filled before is gone
-fill-over : (n : ℕ) (f g : ℕ → Float) (v : List Float) → n ≤ length v → fillTo n f (fillTo n g v) ≡ fillTo n f v
-fill-over n f g v h =
-    fill-is n f v (fillTo n f (fillTo n g v)) h (length-fill n f (fillTo n g v) ∙ length-fill n g v)
-    (λ i l. fill-in n f (fillTo n g v) (omega (arith, length-fill n g v)) i l)
-    (λ i l. fill-past n f (fillTo n g v) i l ∙ fill-past n g v i l)
 
 -- ---- within row a: the cursor stands at k, v is the list before the row and w the list now
 pub record RowAdded (Z : Sparse) (b : List Float) (n a : ℕ) (v : List Float) (k : ℕ) (w : List Float) : Type 0 where
