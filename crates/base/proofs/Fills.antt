@@ -80,6 +80,30 @@ unfolding fillAt
 fillat-cong off zero f g b h = refl
 fillat-cong off (suc n) f g b h = rw (fillat-cong off n f g b (λ i l. h i (omega arith)), h n (omega arith)) refl
 
+-- two stores at two places, in either order
+swap-stores : (l : List Float) (i j : ℕ) (x y : Float) → (i ≡ j → ⊥) → set (set l i x) j y ≡ set (set l j y) i x
+swap-stores [] i j x y h = refl
+swap-stores (z ∷ l) zero zero x y h = absurd (h refl)
+swap-stores (z ∷ l) zero (suc j) x y h = refl
+swap-stores (z ∷ l) (suc i) zero x y h = refl
+swap-stores (z ∷ l) (suc i) (suc j) x y h = ap (λ (k : List Float). z ∷ k) (swap-stores l i j x y (λ e. h (ap suc e)))
+
+-- a store at a place before the filled ones can come first
+pub fillat-before : (off n : ℕ) (f : ℕ → Float) (b : List Float) (k : ℕ) (x : Float) → k < off → set (fillAt off n f b) k x ≡ fillAt off n f (set b k x)
+unfolding fillAt
+fillat-before off zero f b k x l = refl
+fillat-before off (suc n) f b k x l =
+    swap-stores (fillAt off n f b) (off + n) k (f n) x (λ e. omega arith) ∙ ap (λ (s : List Float). set s (off + n) (f n)) (fillat-before off n f b k x l)
+
+-- one entry more of two rows that one loop fills, the row at c behind the row at a
+pub fillat-both : (a c : ℕ) (f g : ℕ → Float) (b : List Float) (i : ℕ) (s : List Float) (x y : Float) → a + i < c → x ≡ f i → y ≡ g i → s ≡ fillAt c i g (fillAt a i f b)
+    → set (set s (a + i) x) (c + i) y ≡ fillAt c (i + 1) g (fillAt a (i + 1) f b)
+fillat-both a c f g b i s x y l p q e =
+    fillat-two (rw (e, fillat-before c i g (fillAt a i f b) (a + i) x l, p, fillat-step a f b i (fillAt a i f b) refl))
+  where
+    fillat-two : set s (a + i) x ≡ fillAt c i g (fillAt a (i + 1) f b) → set (set s (a + i) x) (c + i) y ≡ fillAt c (i + 1) g (fillAt a (i + 1) f b)
+    fillat-two h = rw q (fillat-step c g (fillAt a (i + 1) f b) i (set s (a + i) x) h)
+
 -- ---- filled from the front: the same from 0 on
 fill-at : (n : ℕ) (f : ℕ → Float) (b : List Float) → fillTo n f b ≡ fillAt 0 n f b
 unfolding fillTo fillAt
