@@ -1,0 +1,2 @@
+-- Laws of the tries of one iteration. Assumes nothing.
+pub mod Turns

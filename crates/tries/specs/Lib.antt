@@ -1,0 +1,1 @@
+-- The tries of one iteration, in the rule's words. Assumes nothing.
