@@ -1,0 +1,2 @@
+-- The laws that the proofs of a solve cite. Assumes nothing.
+pub mod Steps

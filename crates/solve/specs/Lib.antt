@@ -1,0 +1,2 @@
+-- What one solve of an iteration is given, and what its parts leave. Assumes nothing.
+pub mod Ready
