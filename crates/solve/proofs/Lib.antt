@@ -1,0 +1,4 @@
+-- The laws that the proofs of a solve cite. Assumes nothing.
+pub mod Fronts
+pub mod Steps
+pub mod FactoredSystem

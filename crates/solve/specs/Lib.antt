@@ -1,0 +1,3 @@
+-- What one solve of an iteration is given, and what its parts leave. Assumes nothing.
+pub mod Ready
+pub mod System
