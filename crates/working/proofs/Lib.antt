@@ -1,2 +1,3 @@
--- The laws that the proofs of this crate cite. Assumes nothing.
+-- The laws that the proofs of this crate cite, and that each contract leaves one answer. Assumes nothing.
 pub mod Entries
+pub mod Unique
