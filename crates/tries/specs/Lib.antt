@@ -1,1 +1,2 @@
 -- The tries of one iteration, in the rule's words. Assumes nothing.
+pub mod Told
