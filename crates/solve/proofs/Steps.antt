@@ -5,9 +5,9 @@ use Prim.Native.Nat.{ℕ, _+_, _-_, _≤_}
 use native.Mathlib.Omega.{arith}
 use lib.ListN.{length}
 use lib.Ieee.{Float}
-use Rattle.base.specs.List.{build, fillTo}
+use Rattle.base.specs.List.{build, fillTo, entryOf}
 use Rattle.base.specs.Sparse.{Sparse}
-use Rattle.base.proofs.Fills.{fill-build, length-fill}
+use Rattle.base.proofs.Fills.{build-is, fill-build, length-fill}
 use Rattle.stored.specs.Stored.{ztTimesAt}
 use Rattle.model.specs.Shape.{effectsOf}
 use Rattle.model.specs.declared.sizes.Shape.{Shape}
@@ -45,3 +45,7 @@ solved-made n q b e shape theta zt v l m ys zs f eb h ly y lz z p offset x F sam
     let z' : zs ≡ ldlSolve q F (sideOf (designOf n p shape theta offset x zt) v) =
     z ∙ ap (ldlSolve q l) (part-is b q e (putMid b (e - b) m ys) eb ∙ w .row' ∙ y p offset x) ∙ ldl-solve-same q l F same' (sideOf (designOf n p shape theta offset x zt) v) in
     rw (← f) (record { row' = w' .row' ∙ z'; only = only-trans (w .only) (w' .only) })
+
+-- a list copied whole
+pub copied : (n : ℕ) (v b : List Float) → length v ≡ n → length b ≡ n → fillTo n (entryOf v) b ≡ v
+copied n v b l h = fill-build n (entryOf v) b h ∙ sym (build-is (entryOf v) n v l (λ i m. refl))

@@ -1,7 +1,10 @@
 // One solve of an iteration over the work slices, step by step as the rule has it.
+mod normals;
 mod sides;
 mod systems;
 
+pub use normals::dot_less;
+pub use normals::solved_copy;
 pub use sides::side;
 pub use sides::solve_side;
 pub use systems::factor_system;
