@@ -1,4 +1,4 @@
--- -- `cases_working::main` is safe: an offset for each observation, and none.
+-- `cases_working::main` is safe: an offset for each observation, and none.
 use mathlib.Core.Path.{refl}
 use mathlib.Core.Logic.{inl, inr}
 use native.Mathlib.Omega.{arith}

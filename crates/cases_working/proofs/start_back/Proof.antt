@@ -1,4 +1,4 @@
--- -- `cases_working::start_back` is safe: the two rows are apart.
+-- `cases_working::start_back` is safe: the two rows are apart.
 use mathlib.Core.Logic.{inr}
 use native.Mathlib.Omega.{arith}
 use borrow.Author.Needs.{needs}

@@ -1,4 +1,4 @@
--- -- `cases_working::start_eta` is safe: the two rows are apart.
+-- `cases_working::start_eta` is safe: the two rows are apart.
 use mathlib.Core.Logic.{inl}
 use native.Mathlib.Omega.{arith}
 use borrow.Author.Needs.{needs}
