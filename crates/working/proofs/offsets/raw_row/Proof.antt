@@ -1,12 +1,11 @@
--- -- `working::raw_row` meets its contract: before turn i the first i places are written, and entry i of Zb is as it was lent.
-use Rattle.working.proofs.Entries.{raw-entry}
+-- `working::raw_row` meets its contract: before turn i the first i places are written, and entry i of Zb is as it was lent.
+use Rattle.working.proofs.Entries.{raw-entry, optional-at}
 use mathlib.Core.Path.{_≡_}
 use Prim.Native.Nat.{_≤_, _-_}
 use lib.ListN.{length, length-set}
 use Rattle.base.specs.List.{fillTo}
 use Rattle.base.proofs.Fills.{fill-none, fill-step, fill-end}
 use Rattle.rule.specs.Solve.{rawAt}
-use Rattle.working.proofs.Entries.{optional-at}
 use native.Mathlib.Omega.{arith}
 use Rattle.working.proofs.offsets.raw_row.Statement.{statement}
 use Rattle.working.proofs.offsets.raw_row.Tie as tie

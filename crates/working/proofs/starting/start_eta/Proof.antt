@@ -1,4 +1,4 @@
--- -- `working::start_eta` meets its contract: before turn i the first i places of the row are written, and the means are as they were lent.
+-- `working::start_eta` meets its contract: before turn i the first i places of the row are written, and the means are as they were lent.
 use mathlib.Core.Path.{_≡_}
 use Prim.Native.Nat.{_≤_, _-_}
 use lib.ListN.{length, length-set}

@@ -1,4 +1,4 @@
--- -- `working::deviance_sum` meets its contract: before turn i the sum is that of the first i deviances.
+-- `working::deviance_sum` meets its contract: before turn i the sum is that of the first i deviances.
 use mathlib.Core.Path.{_≡_}
 use Prim.Native.Nat.{_≤_, _-_}
 use Rattle.base.specs.Sum.{sumTo}

@@ -1,4 +1,4 @@
--- -- `working::log_pivots` meets its contract: before turn i the sum is that of the first i logarithms.
+-- `working::log_pivots` meets its contract: before turn i the sum is that of the first i logarithms.
 use mathlib.Core.Path.{_≡_}
 use Prim.Native.Nat.{_≤_, _-_}
 use Rattle.base.specs.Sum.{sumTo}

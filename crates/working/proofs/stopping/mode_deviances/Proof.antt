@@ -1,4 +1,4 @@
--- -- `working::mode_deviances` meets its contract: before turn i the first i places of the row are written, and the means are as they were lent.
+-- `working::mode_deviances` meets its contract: before turn i the first i places of the row are written, and the means are as they were lent.
 use mathlib.Core.Path.{_≡_}
 use Prim.Native.Nat.{_≤_, _-_}
 use lib.ListN.{length, length-set}

@@ -1,7 +1,6 @@
--- -- `working::working_rows` meets its contract: before turn i the first i places of both rows are written, the row of z over that of w.
-use mathlib.Core.Path.{refl}
+-- `working::working_rows` meets its contract: before turn i the first i places of both rows are written, the row of z over that of w.
+use mathlib.Core.Path.{refl, _≡_}
 use Rattle.working.proofs.Entries.{both-end}
-use mathlib.Core.Path.{_≡_}
 use Prim.Native.Nat.{_≤_, _-_}
 use lib.ListN.{length, length-set}
 use Rattle.base.specs.List.{fillAt}

@@ -1,0 +1,58 @@
+-- `cases_working::put_list` is safe and ends: each turn counts one on towards n.
+use Prim.Native.Nat.{_≤_, _-_}
+use borrow.Author.Needs.{needs}
+use Rattle.cases_working.proofs.put_list.Statement.{statement}
+use Rattle.cases_working.proofs.put_list.Tie as tie
+
+abbrev Inv-loop : tie.InvT-loop
+Inv-loop word xs n i₀ i = i ≤ n
+
+abbrev μ-loop : tie.MeasureT-loop
+μ-loop word xs n i₀ i = n - i
+
+put-word-requires : tie.Need-put-word-requires Inv-loop μ-loop
+put-word-requires c κs = search needs
+
+loop-holds : tie.Need-loop-holds Inv-loop μ-loop
+loop-holds c = search needs
+
+mul-put-double : tie.Need-mul-put-double Inv-loop μ-loop
+mul-put-double c = search needs
+
+shared-slice-read-put-double : tie.Need-shared-slice-read-put-double Inv-loop μ-loop
+shared-slice-read-put-double c = search needs
+
+put-double-requires : tie.Need-put-double-requires Inv-loop μ-loop
+put-double-requires c κs = search needs
+
+add-i : tie.Need-add-i Inv-loop μ-loop
+add-i c = search needs
+
+loop-less : tie.Need-loop-less Inv-loop μ-loop
+loop-less c = search needs
+
+loop-again : tie.Need-loop-again Inv-loop μ-loop
+loop-again c = search needs
+
+end-line-requires : tie.Need-end-line-requires Inv-loop μ-loop
+end-line-requires c κs = search needs
+
+returns : tie.Need-returns Inv-loop μ-loop
+returns c = search needs
+
+pub put-list-spec : {M : Type 1} → statement M
+put-list-spec =
+    tie.close
+    (tie.spec
+    Inv-loop
+    μ-loop
+    put-word-requires
+    loop-holds
+    mul-put-double
+    shared-slice-read-put-double
+    put-double-requires
+    add-i
+    loop-less
+    loop-again
+    end-line-requires
+    returns)

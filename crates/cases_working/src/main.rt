@@ -1,0 +1,223 @@
+// Runs the rows of `working` on special and ordinary values and prints every bit.
+// Each buffer is longer than what is written and holds 9 before: the rest stays.
+use family::CarriedFamily;
+use family::CarriedLink;
+ghost use Prim.Native.Nat.{_≤_};
+ghost use lib.ListN.{length};
+ghost use Rattle.working.specs.Optional.{Optional};
+
+// The first n numbers, behind a word.
+fn put_list(word: &[u8], xs: &[f64], n: usize)
+    requires { ⌜ n ≤ length (now xs) ⌝ }
+{
+    text::put_word(word);
+    let mut i = 0;
+    while i < n {
+        text::put_double(xs[i]);
+        i += 1;
+    }
+    text::end_line();
+}
+
+// w from 1 on and z from 14 on. Predictors and means do not belong together, so that each is seen where it stands.
+fn working_rows(family: CarriedFamily, link: CarriedLink, phi: f64, weights: &[f64]) {
+    let y = [
+        0.0,
+        1.0,
+        0.25,
+        3.0,
+        -2.0,
+        1e300,
+        0.7,
+        0.1,
+        1.0,
+        5.0,
+        0.0,
+        0.0 / 0.0,
+    ];
+    let eta = [
+        0.3,
+        -1.2,
+        40.0,
+        -800.0,
+        0.0,
+        -0.0,
+        1e-9,
+        2.0,
+        0.0 / 0.0,
+        1.0 / 0.0,
+        -1.0 / 0.0,
+        1e200,
+    ];
+    let mu = [
+        0.6,
+        0.2,
+        1.0,
+        0.0,
+        0.5,
+        -3.0,
+        1e300,
+        2.0,
+        0.1,
+        0.0 / 0.0,
+        1.0 / 0.0,
+        1e-17,
+    ];
+    let mut t = [9.0; 27];
+    working::working_rows(family, link, phi, &y, weights, &eta, &mu, 12, 1, 14, &mut t);
+    put_list(b"rows", &t, 27);
+}
+
+// Every link and family; a dispersion of 1, others, and two below E.
+fn all_working_rows() {
+    let weights = [
+        1.0,
+        0.3,
+        2.0,
+        0.0,
+        -1.5,
+        0.7,
+        1e-300,
+        3.0,
+        0.1,
+        1.0,
+        0.9,
+        1e300,
+    ];
+    working_rows(CarriedFamily::Binomial, CarriedLink::Logit, 1.0, &weights);
+    working_rows(CarriedFamily::Binomial, CarriedLink::Cloglog, 1.0, &[]);
+    working_rows(CarriedFamily::Poisson, CarriedLink::Log, 1.0, &weights);
+    working_rows(
+        CarriedFamily::Gaussian,
+        CarriedLink::Identity,
+        0.37,
+        &weights,
+    );
+    working_rows(CarriedFamily::Gaussian, CarriedLink::Inverse, 1e-20, &[]);
+    working_rows(CarriedFamily::Poisson, CarriedLink::Sqrt, -2.5, &weights);
+}
+
+fn targets(offset: &[f64])
+    requires { ⌜ Optional 5 (now offset) ⌝ }
+{
+    let mut out = [9.0; 6];
+    working::targets(offset, &[0.3, -0.0, 1e16, 0.7, 1.0 / 0.0], 5, &mut out);
+    put_list(b"targets", &out, 6);
+}
+
+// X of five rows and two columns; out holds Zb.
+fn raw_row(offset: &[f64])
+    requires { ⌜ Optional 5 (now offset) ⌝ }
+{
+    let x = [1.0, 1e16, 0.1, -1e16, 0.7, 3.0, 1.0, 0.2, 1.0, -0.0];
+    let mut out = [1.0, 1e16, -1e16, 0.1, -0.3, 9.0];
+    working::raw_row(offset, &x, &[0.3, 1.0], 5, 2, &mut out);
+    put_list(b"raw", &out, 6);
+}
+
+// The means stand from 1 on, the predictor from 7 on.
+fn start_eta(link: CarriedLink, offset: &[f64])
+    requires { ⌜ Optional 5 (now offset) ⌝ }
+{
+    let mut rows = [
+        9.0,
+        0.25,
+        0.75,
+        0.1,
+        3.6,
+        0.0,
+        9.0,
+        9.0,
+        9.0,
+        9.0,
+        9.0,
+        9.0,
+        9.0,
+    ];
+    working::start_eta(link, offset, 5, 1, 7, &mut rows);
+    put_list(b"start", &rows, 13);
+}
+
+// The other way round.
+fn start_back(offset: &[f64])
+    requires { ⌜ Optional 5 (now offset) ⌝ }
+{
+    let mut rows = [
+        9.0,
+        9.0,
+        9.0,
+        9.0,
+        9.0,
+        9.0,
+        9.0,
+        0.25,
+        -0.75,
+        0.1,
+        3.6,
+        1e300,
+        9.0,
+    ];
+    working::start_eta(CarriedLink::Log, offset, 5, 7, 1, &mut rows);
+    put_list(b"back", &rows, 13);
+}
+
+fn with_offset(offset: &[f64])
+    requires { ⌜ Optional 5 (now offset) ⌝ }
+{
+    targets(offset);
+    raw_row(offset);
+    start_eta(CarriedLink::Logit, offset);
+    start_eta(CarriedLink::Cloglog, offset);
+    start_eta(CarriedLink::Log, offset);
+    start_eta(CarriedLink::Identity, offset);
+    start_eta(CarriedLink::Inverse, offset);
+    start_eta(CarriedLink::Sqrt, offset);
+    start_back(offset);
+}
+
+fn start_means(family: CarriedFamily) {
+    let mut out = [9.0; 6];
+    working::start_means(family, &[0.0, 1.0, 0.3, -0.0, 1e16], 5, &mut out);
+    put_list(b"means", &out, 6);
+}
+
+// The means stand from 1 on, the deviances from 6 on; then their sum and the fit term.
+fn deviances(family: CarriedFamily, weights: &[f64]) {
+    let y = [0.0, 1.0, 0.3, 0.9];
+    let mut rows = [9.0, 0.4, 0.6, 0.3, 1.5, 9.0, 9.0, 9.0, 9.0, 9.0, 9.0];
+    working::mode_deviances(family, &y, weights, 4, 1, 6, &mut rows);
+    put_list(b"deviances", &rows, 11);
+    let sum = working::deviance_sum(&rows[6..10], 4);
+    text::put_word(b"fit");
+    text::put_double(sum);
+    text::put_double(working::fit_term(family, &y, &rows[1..5], weights, sum));
+    text::end_line();
+}
+
+fn by_family(family: CarriedFamily) {
+    start_means(family);
+    deviances(family, &[]);
+    deviances(family, &[1.0, 0.3, 0.0, -2.0]);
+}
+
+// Factors of three rows: pivots of both signs, and one that is zero.
+fn log_pivots() {
+    text::put_word(b"pivots");
+    text::put_double(working::log_pivots(
+        &[0.3, 9.0, 9.0, 0.5, -7.1, 9.0, 0.2, 0.1, 1e-300, 9.0],
+        3,
+    ));
+    text::put_double(working::log_pivots(&[2.0, 9.0, 9.0, 0.5, -0.0, 9.0, 0.2, 0.1, 3.0], 3));
+    text::put_double(working::log_pivots(&[], 0));
+    text::end_line();
+}
+
+fn main() {
+    all_working_rows();
+    with_offset(&[0.1, -0.2, 1.0, 1e16, -0.7]);
+    with_offset(&[]);
+    by_family(CarriedFamily::Binomial);
+    by_family(CarriedFamily::Poisson);
+    by_family(CarriedFamily::Gaussian);
+    log_pivots();
+}
