@@ -3,3 +3,4 @@ pub mod Turns
 pub mod Both
 pub mod Tried
 pub mod Counted
+pub mod Unique
