@@ -1,12 +1,11 @@
 -- The normal matrix's factor and β in parts of the work slices. Assumes nothing.
 use mathlib.Core.Path.{_≡_, refl, ap, _∙_}
 use mathlib.Core.List.{List}
-use Prim.Native.Nat.{ℕ, _+_, _-_, _*_, _<_, _≤_}
+use Prim.Native.Nat.{ℕ, _+_, _-_, _*_, _≤_}
 use native.Mathlib.Omega.{arith}
 use lib.ListN.{length}
 use lib.Ieee.{Float}
 use borrow.Rule.Slice.PartMut.{putMid, midOf, mid-len}
-use Rattle.base.specs.Sum.{_!_}
 use Rattle.base.specs.List.{at}
 use Rattle.base.specs.InPlace.{fillBy}
 use Rattle.base.specs.Rows.{row, Wrote}
@@ -15,10 +14,9 @@ use Rattle.factor.specs.Factor.{choleskyRule, choleskyOf, CholeskyLeaves}
 use Rattle.factor.specs.Substitution.{choleskySolve}
 use Rattle.factor.specs.Triangle.{SameBelow, reach}
 use Rattle.factor.specs.declared.pivots.Factored.{Factored}
-use Rattle.factor.specs.declared.pivots.Factored.the-variants.{Done}
 use Rattle.factor.proofs.CholeskyTextbook.{cholesky-lower, cholesky-end-same}
 use Rattle.factor.proofs.Solved.{cholesky-solve-same}
-use Rattle.solve.specs.Root.{RootLeaves, RootOf, SolvedBeta}
+use Rattle.solve.specs.Root.{RootOf, SolvedBeta}
 use Rattle.solve.proofs.Fronts.{part-is}
 
 pub root-made : (b p e : ℕ) (t ys : List Float) (r : Factored) → e ≡ b + p * p → e ≤ length t → length ys ≡ length (midOf b (e - b) t)
@@ -33,8 +31,8 @@ root-made b p e t ys r eb h l d N n ab =
     record {
       end = d' .end ∙ cholesky-end-same p (row b (p * p) t) N (choleskyOf p (row b (p * p) t)) (choleskyOf p N) ab same;
       lower = λ q i j a c.
-      let x : ys ≡ fillBy (choleskyRule p) (p * p) (row b (p * p) t) = d' .out ∙ rw q refl in
-      ap (λ (z : List Float). at p z i j) (w .row' ∙ x) ∙ same i j a c;
+          let x : ys ≡ fillBy (choleskyRule p) (p * p) (row b (p * p) t) = d' .out ∙ rw q refl in
+          ap (λ (z : List Float). at p z i j) (w .row' ∙ x) ∙ same i j a c;
       frame = w .only;
     }
 

@@ -2,3 +2,4 @@
 pub mod Ready
 pub mod System
 pub mod Root
+pub mod Effects

@@ -1,6 +1,5 @@
 -- `solve::factor_normal` meets its contract: the part that is lent holds N's lower triangle, which alone is read.
 use mathlib.Core.Path.{refl}
-use native.Mathlib.Omega.{arith}
 use Rattle.solve.proofs.SolvedBeta.{root-made}
 use borrow.Author.Needs.{needs}
 use Rattle.solve.proofs.betas.factor_normal.Statement.{statement}

@@ -1,6 +1,5 @@
 -- `solve::solve_beta` meets its contract: the part that is lent holds the right side.
 use mathlib.Core.Path.{refl}
-use native.Mathlib.Omega.{arith}
 use Rattle.solve.proofs.SolvedBeta.{beta-made}
 use borrow.Author.Needs.{needs}
 use Rattle.solve.proofs.betas.solve_beta.Statement.{statement}
