@@ -20,13 +20,12 @@ use Rattle.model.specs.Shape.{effectsOf}
 use Rattle.model.specs.declared.sizes.Shape.{Shape}
 use Rattle.lambda.specs.Product.{rightColumnAt, systemAt}
 use Rattle.factor.specs.Factor.{ldlRule, ldlOf, ldlEnd, ldlPasses, LdlLeaves}
-use Rattle.factor.specs.Triangle.{SameBelow, reach, firstBad}
+use Rattle.factor.specs.Triangle.{SameBelow, reach}
 use Rattle.factor.specs.declared.pivots.Factored.{Factored}
 use Rattle.factor.specs.declared.pivots.Factored.the-variants.{Done, Bad}
 use Rattle.factor.proofs.PivotTests.{FirstBad, first-bad}
 use Rattle.factor.proofs.RowByRow.{by-rest}
 use Rattle.factor.proofs.LdlTextbook.{ldl-lower, ldl-end-same}
-use Rattle.rule.specs.Given.{Design, qOf}
 use Rattle.rule.specs.Solve.{ztwzOf, rightColumns, systemOf, factorOf}
 use Rattle.solve.specs.Ready.{designOf, Whatever}
 use Rattle.solve.specs.System.{SystemLeaves}

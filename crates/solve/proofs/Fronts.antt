@@ -1,15 +1,15 @@
 -- A square that a loop wrote at the front of a work slice, and the front as it is lent. Assumes nothing.
-use mathlib.Core.Path.{_≡_, refl, ap, _∙_}
+use mathlib.Core.Path.{_≡_, _∙_}
 use mathlib.Core.List.{List}
 use mathlib.Core.Logic.{⊎-elim}
 use Prim.Native.Nat.{ℕ, _+_, _-_, _*_, _/_, _%_, _<_, _≤_}
-use native.Mathlib.Nat.{div-add-mod', mod-lt, div-lt-iff-lt-mul, zero-add}
+use native.Mathlib.Nat.{div-add-mod', mod-lt, div-lt-iff-lt-mul}
 use native.Mathlib.Omega.{arith}
 use lib.ListN.{length, take, drop}
 use lib.Ieee.{Float}
 use Rattle.base.specs.Sum.{_!_}
 use Rattle.base.specs.List.{matrix, gridTo}
-use Rattle.base.specs.Rows.{row, Only, Wrote}
+use Rattle.base.specs.Rows.{row, Wrote}
 use Rattle.base.proofs.Fills.{columns, grid-in, grid-past, length-grid}
 use Rattle.base.proofs.Rows.{part-row, row-build}
 

@@ -2,3 +2,5 @@
 pub mod Fronts
 pub mod Steps
 pub mod FactoredSystem
+pub mod Parts
+pub mod SolvedBeta

@@ -12,7 +12,6 @@ use Rattle.stored.specs.Stored.{ztTimesAt}
 use Rattle.model.specs.Shape.{effectsOf}
 use Rattle.model.specs.declared.sizes.Shape.{Shape}
 use Rattle.lambda.specs.Product.{lambdaTransposedAt}
-use Rattle.rule.specs.Given.{Design}
 use Rattle.rule.specs.Solve.{ztTimes, sideOf}
 use Rattle.base.specs.Rows.{Wrote}
 use Rattle.base.proofs.Rows.{part-wrote, only-trans}

@@ -1,7 +1,7 @@
 -- What `factor_system` leaves. Document 01, "The inner fit": A and its factor, and end 10. Assumes nothing.
 use mathlib.Core.Path.{_≡_}
 use mathlib.Core.List.{List}
-use Prim.Native.Nat.{ℕ, _*_}
+use Prim.Native.Nat.{_*_}
 use lib.Ieee.{Float}
 use Rattle.base.specs.Rows.{row, Only, Wrote}
 use Rattle.factor.specs.Factor.{ldlEnd}
