@@ -10,7 +10,7 @@ use lib.ListN.{length, set, replicate, length-set}
 use lib.Seq.{getD-set-same, getD-set-other, ext-getD}
 use lib.Ieee.{Float, nan}
 use Rattle.base.specs.Sum.{_!_}
-use Rattle.base.specs.List.{build, matrix, at, fillTo, fillAt, gridTo}
+use Rattle.base.specs.List.{build, entryOf, matrix, at, fillTo, fillAt, gridTo}
 use Rattle.base.proofs.Sums.{lt-or-ge, last-or-before}
 
 -- ---- built lists
@@ -149,6 +149,10 @@ fill-over n f g b h =
 pub fill-build : (n : ℕ) (f : ℕ → Float) (b : List Float) → length b ≡ n → fillTo n f b ≡ build f n
 fill-build n f b h = build-is f n (fillTo n f b) (length-fill n f b ∙ h) (λ i l. fill-in n f b (omega arith) i l)
 
+-- a list copied whole
+pub copied : (n : ℕ) (v b : List Float) → length v ≡ n → length b ≡ n → fillTo n (entryOf v) b ≡ v
+copied n v b l h = fill-build n (entryOf v) b h ∙ sym (build-is (entryOf v) n v l (λ i m. refl))
+
 -- ---- rows of a matrix
 -- row i of n rows of p entries ends within n * p
 pub row-fits : (i n p : ℕ) → i < n → i * p + p ≤ n * p
@@ -215,33 +219,25 @@ pub columns : (r c t : ℕ) → t < r * c → 0 < c
 columns r zero t l = absurd (not-suc-le-zero (rw mul-zero at l))
 columns r (suc c) t l = omega arith
 
+-- the entries of a matrix by their places
+pub by-place : (r c : ℕ) (f : ℕ → ℕ → Float) (w : List Float) → ((i j : ℕ) → i < r → j < c → at c w i j ≡ f i j) → (t : ℕ) → t < r * c → w ! t ≡ f (t / c) (t % c)
+by-place r c f w inside t l =
+    let some : 0 < c = columns r c t l in
+    let whole : t / c * c + t % c ≡ t = div-add-mod' t c in
+    let e : w ! (t / c * c + t % c) ≡ f (t / c) (t % c) = inside (t / c) (t % c) (div-lt-iff-lt-mul some .1 l) (mod-lt t some) in
+    rw whole at e
+
+pub grid-place : (r c : ℕ) (f : ℕ → ℕ → Float) (b : List Float) → r * c ≤ length b → (t : ℕ) → t < r * c → gridTo r c f b ! t ≡ f (t / c) (t % c)
+grid-place r c f b h = by-place r c f (gridTo r c f b) (grid-in r c f b h)
+
 -- a list with the grid's entries in the grid, and b's behind it, is the grid
 pub grid-is : (r c : ℕ) (f : ℕ → ℕ → Float) (b w : List Float) → r * c ≤ length b → length w ≡ length b → ((i j : ℕ) → i < r → j < c → at c w i j ≡ f i j) → ((t : ℕ) → r * c ≤ t → w ! t ≡ b ! t) → w ≡ gridTo r c f b
 grid-is r c f b w h e inside past =
     ext-getD nan w (gridTo r c f b) (e ∙ sym (length-grid r c f b))
-    (λ t l. ⊎-elim (λ (m : t < r * c). entry t m) (λ (m : r * c ≤ t). past t m ∙ sym (grid-past r c f b t m)) (lt-or-ge t (r * c)))
-  where
-    entry : (t : ℕ) → t < r * c → w ! t ≡ gridTo r c f b ! t
-    entry t l =
-        let some : 0 < c = columns r c t l in
-        let whole : t / c * c + t % c ≡ t = div-add-mod' t c in
-        let row : t / c < r = div-lt-iff-lt-mul some .1 l in
-        let d : t % c < c = mod-lt t some in
-        let q : w ! (t / c * c + t % c) ≡ gridTo r c f b ! (t / c * c + t % c) =
-        inside (t / c) (t % c) row d ∙ sym (grid-in r c f b h (t / c) (t % c) row d) in
-        rw whole at q
+    (λ t l. ⊎-elim (λ (m : t < r * c). by-place r c f w inside t m ∙ sym (grid-place r c f b h t m)) (λ (m : r * c ≤ t). past t m ∙ sym (grid-past r c f b t m)) (lt-or-ge t (r * c)))
 
 -- a slice that is filled whole by rows
 pub grid-matrix : (r c : ℕ) (f : ℕ → ℕ → Float) (b : List Float) → length b ≡ r * c → gridTo r c f b ≡ matrix r c f
 unfolding matrix
 grid-matrix r c f b h =
-    build-is (λ t. f (t / c) (t % c)) (r * c) (gridTo r c f b) (length-grid r c f b ∙ h) (λ t l. entry t l)
-  where
-    entry : (t : ℕ) → t < r * c → gridTo r c f b ! t ≡ f (t / c) (t % c)
-    entry t l =
-        let some : 0 < c = columns r c t l in
-        let whole : t / c * c + t % c ≡ t = div-add-mod' t c in
-        let row : t / c < r = div-lt-iff-lt-mul some .1 l in
-        let e : gridTo r c f b ! (t / c * c + t % c) ≡ f (t / c) (t % c) =
-        grid-in r c f b (omega arith) (t / c) (t % c) row (mod-lt t some) in
-        rw whole at e
+    build-is (λ t. f (t / c) (t % c)) (r * c) (gridTo r c f b) (length-grid r c f b ∙ h) (λ t l. grid-place r c f b (omega arith) t l)

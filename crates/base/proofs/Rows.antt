@@ -2,17 +2,17 @@
 use mathlib.Core.Path.{_≡_, refl, sym, ap, _∙_}
 use mathlib.Core.List.{List, _++_}
 use mathlib.Core.Logic.{inl, inr, ⊎-elim}
-use Prim.Native.Nat.{ℕ, _+_, _-_, _≤_, _<_}
+use Prim.Native.Nat.{ℕ, _+_, _-_, _*_, _/_, _%_, _≤_, _<_}
 use native.Mathlib.Omega.{arith}
 use borrow.Rule.Slice.PartMut.{putMid, midOf, same-len-mid, mid-len}
 use lib.ListN.{length, take, drop, length-take, length-drop, List·getD-append}
 use lib.Seq.{take-all, getD-take, getD-drop, getD-append-add, length-take-le, take-at, drop-at, ext-getD}
 use lib.Ieee.{Float, nan}
 use Rattle.base.specs.Sum.{_!_}
-use Rattle.base.specs.List.{build, fillAt}
+use Rattle.base.specs.List.{build, matrix, fillTo, fillAt, gridTo}
 use Rattle.base.specs.Rows.{row, Out, Apart, Only, Wrote}
 use Rattle.base.proofs.Sums.{lt-or-ge}
-use Rattle.base.proofs.Fills.{build-is, length-fillat, fillat-end, fillat-in, fillat-below, fillat-above}
+use Rattle.base.proofs.Fills.{build-is, length-fillat, fillat-end, fillat-in, fillat-below, fillat-above, fill-build, length-grid, grid-past, grid-place}
 
 -- ---- a row's entries
 module _ (b n : ℕ) (w : List Float) (fits : b + n ≤ length w) where
@@ -31,6 +31,21 @@ module _ (b n : ℕ) (w : List Float) (fits : b + n ≤ length w) where
 pub part-row : (b n : ℕ) (w : List Float) → take (b + n - b) (drop b w) ≡ row b n w
 unfolding row
 part-row b n w = let e : b + n - b ≡ n = omega arith in rw e
+
+pub part-is : (b n e : ℕ) (w : List Float) → e ≡ b + n → take (e - b) (drop b w) ≡ row b n w
+part-is b n e w q = rw q (part-row b n w)
+
+-- the part from 0 on is the front
+pub front-is : (n : ℕ) (w : List Float) → take (n - 0) (drop 0 w) ≡ row 0 n w
+front-is n w = part-is 0 n n w (omega arith)
+
+-- entry t of the part from o on
+pub part-at : (o m t : ℕ) (xs : List Float) → t < m → take m (drop o xs) ! t ≡ xs ! (o + t)
+part-at o m t xs l = getD-take m (drop o xs) t nan l ∙ getD-drop o xs t nan
+
+-- the part from o on holds what stands behind o
+pub part-long : (o n : ℕ) (xs : List Float) → o + n ≤ length xs → n ≤ length (take (length xs - o) (drop o xs))
+part-long o n xs h = simp (length-take, length-drop) (omega arith)
 
 -- the row of the whole list
 pub row-whole : (n : ℕ) (w : List Float) → length w ≡ n → row 0 n w ≡ w
@@ -141,3 +156,20 @@ part-wrote a k e xs ys q h l =
         kept = λ i o. ⊎-elim (λ b. put-below a k xs ys i (omega arith) b) (λ b. put-above a k xs ys i (omega arith) l b) o;
       };
     })
+
+-- a part that came back filled
+pub filled-part : (b n e : ℕ) (f : ℕ → Float) (w ys : List Float) → e ≡ b + n → e ≤ length w → length ys ≡ length (midOf b (e - b) w) → ys ≡ fillTo n f (midOf b (e - b) w)
+    → Wrote b n (build f n) w (putMid b (e - b) w ys)
+filled-part b n e f w ys eb h l y =
+    let k : length (midOf b (e - b) w) ≡ n = mid-len b e w h ∙ omega arith in
+    let v : Wrote b n ys w (putMid b (e - b) w ys) = part-wrote b n e w ys eb h (l ∙ k) in
+    record { row' = v .row' ∙ y ∙ fill-build n f (midOf b (e - b) w) k; only = v .only }
+
+-- a square at the front that a loop wrote row by row: the grid is the matrix, and nothing else has changed
+pub grid-wrote : (r c : ℕ) (f : ℕ → ℕ → Float) (b : List Float) → r * c ≤ length b → Wrote 0 (r * c) (matrix r c f) b (gridTo r c f b)
+unfolding matrix
+grid-wrote r c f b h =
+    record {
+      row' = row-build 0 (r * c) (gridTo r c f b) (omega (arith, length-grid r c f b)) (λ t. f (t / c) (t % c)) (λ t l. let z : 0 + t ≡ t = omega arith in rw z (grid-place r c f b h t l));
+      only = record { len = length-grid r c f b; kept = λ j o. ⊎-elim (λ a. absurd (omega arith)) (λ a. grid-past r c f b j (omega arith)) o };
+    }

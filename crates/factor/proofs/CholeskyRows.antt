@@ -5,8 +5,8 @@ use mathlib.Core.Bool.{Bool, true, false, not}
 use Prim.Native.Nat.{ℕ, _+_, _*_, _<_, _≤_}
 use native.Mathlib.Omega.{arith}
 use lib.ListN.{length, set, take, drop}
-use lib.Seq.{getD-take, getD-drop}
-use lib.Ieee.{Float, nan}
+use Rattle.base.proofs.Rows.{part-at}
+use lib.Ieee.{Float}
 use borrow.Author.Tests.{not-true, not-false}
 use Rattle.base.specs.Number.{_⊖_, _⊘_}
 use Rattle.base.specs.Sum.{_!_, sumTo, productFrom}
@@ -26,7 +26,7 @@ pub rows-product : (s i j io jo n m : ℕ) (X : List Float) (z : Float) → z �
     → z ≡ rowsDot s (λ k. X ! k) i j n
 unfolding rowsDot
 rows-product s i j io jo n m X z q e e' h =
-    q ∙ sum-cong n _ _ (λ k l. rw (e, e', getD-take m (drop (j * s) X) k nan (omega arith), getD-drop (j * s) X k nan) refl)
+    q ∙ sum-cong n _ _ (λ k l. rw (e, e', part-at (j * s) m k X (omega arith)) refl)
 
 cholesky-rule-at : (s i j : ℕ) (x : ℕ → Float) (a : Float) → j < s → choleskyRule s (i * s + j) x a ≡ triangle i j (choleskyBelow s i j x a) (sqrtOf (choleskyPivot s i x a)) a
 unfolding choleskyRule

@@ -7,13 +7,13 @@ use Prim.Native.Nat.{ℕ, _+_, _-_, _*_, _<_, _≤_}
 use native.Mathlib.Omega.{arith}
 use borrow.Author.Tests.{le-leb, lt-leb, lt-ltb, le-ltb}
 use lib.Dec.{eqb}
-use lib.ListN.{length, set, take, drop, length-take, length-drop}
-use lib.Seq.{getD-take, getD-drop}
-use lib.Ieee.{Float, nan}
+use lib.ListN.{length, set, take, drop}
+use lib.Ieee.{Float}
 use Rattle.base.specs.Number.{_⊕_, _⊗_, oneF}
 use Rattle.base.specs.Sum.{_!_, sumTo, addWhere, sumWhere, productFrom}
 use Rattle.base.specs.List.{zeroAt, at, fillTo, fillAt}
 use Rattle.base.proofs.Sums.{lt-or-ge, sum-cong, where-take, where-skip, where-stretch}
+use Rattle.base.proofs.Rows.{part-at}
 use Rattle.base.proofs.Fills.{fillat-cong, fillat-step, length-fillat, fillat-below, fillat-above, fillat-in, length-fill, fill-past, fill-in, fill-is, fill-over}
 use Rattle.model.specs.Shape.{effectsOf, InRange}
 use Rattle.model.specs.declared.sizes.Shape.{Shape}
@@ -48,14 +48,6 @@ column-sum s j f r l =
     where-stretch (λ i. isEntry s i j) f (effectsOf s) j (columnOf s j .count) (column-rows s j r l) (λ k m. entry-above s k j m) (λ k m. entry-in s j k m) (λ k m n. entry-past s k j m)
 
 -- ---- what the loops sum
--- entry t of the part from o on
-part-at : (o m t : ℕ) (xs : List Float) → t < m → take m (drop o xs) ! t ≡ xs ! (o + t)
-part-at o m t xs l = getD-take m (drop o xs) t nan l ∙ getD-drop o xs t nan
-
--- the part from o on holds what stands behind o
-pub part-long : (o n : ℕ) (xs : List Float) → o + n ≤ length xs → n ≤ length (take (length xs - o) (drop o xs))
-part-long o n xs h = simp (length-take, length-drop) (omega arith)
-
 -- the sum for entry j of Λ'v, whose entries from j on still stand
 pub transposed-dot : (s : Shape) (theta v X : List Float) (j m : ℕ) (z : Float) → InRange s → j < effectsOf s
     → z ≡ sumTo (columnOf s j .count) (productFrom theta (columnOf s j .first) (take m (drop j X))) → X ≡ fillTo j (lambdaTransposedAt s theta v) v → columnOf s j .count ≤ m

@@ -18,7 +18,7 @@ use Rattle.model.proofs.Tests.{picked-few}
 use Rattle.model.proofs.Shapes.{effects-small}
 
 -- the tries of one solve
-tries-few : (link : Link) → triesCap link ≤ 100
+pub tries-few : (link : Link) → triesCap link ≤ 100
 unfolding triesCap
 tries-few link = picked-few (isInverse link) (omega arith) (omega arith)
 

@@ -1,5 +1,5 @@
 -- The caps of an inner fit: at most L solves, at most 25 tries a solve and with the inverse link 100, no point, and one fit. Assumes nothing.
-use mathlib.Core.Path.{_≡_, refl, ap}
+use mathlib.Core.Path.{_≡_, refl}
 use mathlib.Core.Bool.{Bool, true, false}
 use mathlib.Core.List.{List, [], _∷_, _++_}
 use Prim.Native.Nat.{ℕ, zero, suc, _+_, _*_, _≤_}
@@ -9,8 +9,7 @@ use lib.Ieee.{Float}
 use Rattle.base.specs.Number.{_⊗_, oneF, halfF}
 use Rattle.model.specs.Account.{AtMost}
 use Rattle.model.specs.Caps.{triesCap, innerCapOf}
-use Rattle.model.specs.Items.{Item, aFit, aSolve, aTry, isFit, isSolve, isTry, isPoint, countOf, tally}
-use Rattle.model.specs.declared.counts.Account.{Account}
+use Rattle.model.specs.Items.{Item, aSolve, aTry, isFit, isSolve, isTry, isPoint, countOf, tally}
 use Rattle.model.proofs.Tallies.{count-append}
 use Rattle.family.specs.Carried.{linkOf}
 use Rattle.rule.specs.Given.{Given}

@@ -12,7 +12,7 @@ use Rattle.model.specs.declared.ends.End.the-variants.{NoStop}
 use Rattle.model.proofs.Tallies.{count-append}
 use Rattle.rule.specs.Given.{Given}
 use Rattle.rule.specs.Solve.{Solved, Solve, solved, unsolved, solveOf}
-use Rattle.rule.specs.Try.{Move, Search, foundMove, noMove, triesOf, trialOf}
+use Rattle.rule.specs.Try.{Search, foundMove, noMove, triesOf, trialOf}
 use Rattle.rule.specs.Stop.{Mode, modeOf, stops}
 use Rattle.rule.specs.Run.{failed, Outcome, State, itemsBefore, failedAfter, afterStop, moved, afterSearch, afterSolve, runFrom, startAt, runOf}
 

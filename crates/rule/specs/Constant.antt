@@ -5,7 +5,3 @@ use Rattle.base.specs.Number.{bits}
 -- 1e-8, the tolerance of the stop test
 abbrev pub tolF : Float
 tolF = bits 0x3e45_798e_e230_8c3a
-
--- `f64::MAX`, PWRSS before the first iteration
-abbrev pub hugeF : Float
-hugeF = bits 0x7fef_ffff_ffff_ffff

@@ -4,6 +4,7 @@ use mathlib.Core.List.{List, [], _∷_, _++_}
 use mathlib.Core.Bool.{Bool, true, false}
 use Prim.Native.Nat.{ℕ, zero, suc, _+_}
 use lib.Ieee.{Float}
+use Rattle.base.specs.Number.{hugeF}
 use Rattle.base.specs.Sum.{_!_}
 use Rattle.base.specs.List.{build}
 use Rattle.model.specs.Items.{Item, aFit, aSolve}
@@ -13,7 +14,6 @@ use Rattle.family.specs.Link.{linkFun}
 use Rattle.family.specs.Family.{initializeMu}
 use Rattle.family.specs.declared.carried.CarriedFamily.{CarriedFamily}
 use Rattle.family.specs.declared.carried.CarriedLink.{CarriedLink}
-use Rattle.rule.specs.Constant.{hugeF}
 use Rattle.rule.specs.Given.{Given, nOf, plusOffset}
 use Rattle.rule.specs.Solve.{Solved, Solve, solved, unsolved, solveOf}
 use Rattle.rule.specs.Try.{Move, Search, foundMove, noMove, triesOf, trialOf}

@@ -4,7 +4,7 @@ use mathlib.Core.Bool.{Bool, cond}
 use Prim.Native.Nat.{ℕ}
 use lib.Ieee.{Float, lt}
 use Rattle.base.specs.Number.{_⊕_, _⊖_, _⊘_, twoF, absF}
-use Rattle.base.specs.Sum.{_!_, sumTo, dotOf}
+use Rattle.base.specs.Sum.{sumTo, dotOf}
 use Rattle.base.specs.List.{build, at, entryOf}
 use Rattle.elementary.specs.Log.{lnOf}
 use Rattle.family.specs.Family.{tenthF, usesDispersion}

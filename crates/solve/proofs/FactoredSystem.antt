@@ -29,7 +29,7 @@ use Rattle.factor.proofs.LdlTextbook.{ldl-lower, ldl-end-same}
 use Rattle.rule.specs.Solve.{ztwzOf, rightColumns, systemOf, factorOf}
 use Rattle.solve.specs.Ready.{designOf, Whatever}
 use Rattle.solve.specs.System.{SystemLeaves}
-use Rattle.solve.proofs.Fronts.{grid-wrote}
+use Rattle.base.proofs.Rows.{grid-wrote}
 
 -- a factorisation writes within its square
 reach-fits : (s : ℕ) (F : List Float) (r : Factored) → r ≡ ldlEnd s F → reach s r ≤ s * s

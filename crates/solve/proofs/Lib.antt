@@ -1,6 +1,4 @@
 -- The laws that the proofs of a solve cite. Assumes nothing.
-pub mod Fronts
 pub mod Steps
 pub mod FactoredSystem
-pub mod Parts
 pub mod SolvedBeta

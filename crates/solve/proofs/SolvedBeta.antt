@@ -17,7 +17,7 @@ use Rattle.factor.specs.declared.pivots.Factored.{Factored}
 use Rattle.factor.proofs.CholeskyTextbook.{cholesky-lower, cholesky-end-same}
 use Rattle.factor.proofs.Solved.{cholesky-solve-same}
 use Rattle.solve.specs.Root.{RootOf, SolvedBeta}
-use Rattle.solve.proofs.Fronts.{part-is}
+use Rattle.base.proofs.Rows.{part-is}
 
 pub root-made : (b p e : ℕ) (t ys : List Float) (r : Factored) → e ≡ b + p * p → e ≤ length t → length ys ≡ length (midOf b (e - b) t)
     → CholeskyLeaves p (midOf b (e - b) t) r ys → RootOf b p t (putMid b (e - b) t ys) r

@@ -1,6 +1,7 @@
 -- What the calls of a solve leave, put together. Assumes nothing.
 use mathlib.Core.Path.{_≡_, refl, sym, ap, _∙_}
 use mathlib.Core.List.{List}
+use mathlib.Core.Logic.{inl}
 use Prim.Native.Nat.{ℕ, _+_, _-_, _≤_}
 use native.Mathlib.Omega.{arith}
 use lib.ListN.{length}
@@ -11,16 +12,16 @@ use Rattle.base.proofs.Fills.{build-is, fill-build, length-fill}
 use Rattle.stored.specs.Stored.{ztTimesAt}
 use Rattle.model.specs.Shape.{effectsOf}
 use Rattle.model.specs.declared.sizes.Shape.{Shape}
-use Rattle.lambda.specs.Product.{lambdaTransposedAt}
+use Rattle.lambda.specs.Product.{lambdaTimesAt, lambdaTransposedAt}
 use Rattle.rule.specs.Solve.{ztTimes, sideOf}
 use Rattle.base.specs.Rows.{Wrote}
-use Rattle.base.proofs.Rows.{part-wrote, only-trans}
+use Rattle.base.proofs.Rows.{part-is, part-wrote, only-row, only-wide, only-trans}
 use Rattle.factor.specs.Substitution.{ldlSolve}
 use Rattle.factor.specs.Triangle.{SameBelow}
 use Rattle.factor.proofs.Solved.{ldl-solve-same}
 use borrow.Rule.Slice.PartMut.{putMid, midOf, mid-len}
+use Rattle.solve.specs.Effects.{EffectsLeft}
 use Rattle.solve.specs.Ready.{designOf, Whatever, IsSide, SolvedSide}
-use Rattle.solve.proofs.Fronts.{part-is}
 
 -- Z'v, then Λ' over it
 pub side-made : (n q : ℕ) (shape : Shape) (theta : List Float) (zt : Sparse) (v before mid after : List Float) → q ≡ effectsOf shape → length before ≡ q
@@ -45,6 +46,12 @@ solved-made n q b e shape theta zt v l m ys zs f eb h ly y lz z p offset x F sam
     z ∙ ap (ldlSolve q l) (part-is b q e (putMid b (e - b) m ys) eb ∙ w .row' ∙ y p offset x) ∙ ldl-solve-same q l F same' (sideOf (designOf n p shape theta offset x zt) v) in
     rw (← f) (record { row' = w' .row' ∙ z'; only = only-trans (w .only) (w' .only) })
 
--- a list copied whole
-pub copied : (n : ℕ) (v b : List Float) → length v ≡ n → length b ≡ n → fillTo n (entryOf v) b ≡ v
-copied n v b l h = fill-build n (entryOf v) b h ∙ sym (build-is (entryOf v) n v l (λ i m. refl))
+-- u and b = Λu, in two parts one behind the other
+pub effects-made : (shape : Shape) (theta : List Float) (at q : ℕ) (u m m' m'' : List Float) → length u ≡ q → at + q + q ≤ length m → Wrote at q (build (entryOf u) q) m m'
+    → Wrote (at + q) q (build (lambdaTimesAt shape theta u) q) m' m'' → EffectsLeft shape theta at q u m m''
+effects-made shape theta at q u m m' m'' l h w w' =
+    record {
+      first = only-row at q (at + q) q (inl (omega arith)) (omega (arith, w .only .len)) (w' .only) ∙ w .row' ∙ sym (build-is (entryOf u) q u l (λ i k. refl));
+      second = w' .row';
+      frame = only-trans (only-wide at q at (q + q) (omega arith) (omega arith) (w .only)) (only-wide (at + q) q at (q + q) (omega arith) (omega arith) (w' .only));
+    }

@@ -6,11 +6,9 @@ use native.Mathlib.Omega.{arith}
 use lib.Ieee.{Float}
 use Rattle.base.specs.Number.{_⊗_, oneF, halfF}
 use Rattle.base.specs.Rows.{row}
-use Rattle.model.specs.Names.{isInverse}
 use Rattle.model.specs.Caps.{triesCap}
+use Rattle.model.proofs.Caps.{tries-few}
 use Rattle.model.specs.Items.{Fate, aTry, isTry, countOf}
-use Rattle.model.specs.declared.names.Link.{Link}
-use Rattle.model.proofs.Tests.{picked-few}
 use Rattle.family.specs.Carried.{linkOf}
 use Rattle.family.specs.declared.carried.CarriedLink.{CarriedLink}
 use Rattle.rule.specs.Try.{Trial, refused, tryOf, Search, foundMove, noMove, itemBefore, afterTry, triesFrom, triesOf}
@@ -19,11 +17,6 @@ use Rattle.tries.specs.declared.search.Try.{Try}
 use Rattle.tries.specs.declared.search.Try.the-variants.{Accepted}
 use Rattle.tries.specs.declared.search.TriesEnd.the-variants.{Moved, NoMove}
 use Rattle.tries.proofs.Both.{both-row, both-trans, both-none}
-
--- the cap is small
-pub cap-few : (l : Link) → triesCap l ≤ 100
-unfolding triesCap
-cap-few l = picked-few (isInverse l) (omega arith) (omega arith)
 
 -- ---- counts
 -- a search after k tries that were refused
@@ -66,7 +59,7 @@ module _ (T : Trial) (next mu cap : ℕ) (v : List Float) where
   starts h =
       let e : cap - 0 ≡ cap = omega arith in
       record {
-        capped = omega (arith, cap-few (linkOf (T .link)));
+        capped = omega (arith, tries-few (linkOf (T .link)));
         few = omega arith;
         only = both-none next mu (T .n) v;
         same = later-none (briefly (triesFrom T (cap - 0) oneF)) ∙ rw (e, h);

@@ -1,9 +1,10 @@
 -- `lambda::lambda_transposed` meets its contract: before column j the first j entries are done, and those that its sum needs still stand.
-use Rattle.lambda.proofs.Entries.{part-long, transposed-dot}
+use Rattle.lambda.proofs.Entries.{transposed-dot}
 use mathlib.Core.Path.{_≡_}
 use Prim.Native.Nat.{_-_, _≤_}
 use lib.ListN.{length, length-set}
 use native.Mathlib.Omega.{arith}
+use Rattle.base.proofs.Rows.{part-long}
 use Rattle.base.specs.List.{fillTo}
 use Rattle.base.proofs.Fills.{fill-step}
 use Rattle.model.proofs.Shapes.{in-range}

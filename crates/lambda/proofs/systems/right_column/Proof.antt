@@ -1,10 +1,11 @@
 -- `lambda::right_column` meets its contract: before row a the first a entries of the column are the sums over Λ's column.
-use Rattle.lambda.proofs.Entries.{right-end, part-long, rightBy, right-dot}
+use Rattle.lambda.proofs.Entries.{right-end, rightBy, right-dot}
 use mathlib.Core.Path.{refl, _≡_}
 use Rattle.base.proofs.Fills.{fillat-none, fillat-step}
 use Prim.Native.Nat.{_+_, _-_, _≤_}
 use lib.ListN.{length, length-set}
 use native.Mathlib.Omega.{arith}
+use Rattle.base.proofs.Rows.{part-long}
 use Rattle.base.specs.List.{fillAt}
 use Rattle.model.proofs.Shapes.{in-range}
 use Rattle.lambda.proofs.ColumnPlaces.{column-rows, column-theta}

@@ -1,10 +1,11 @@
 -- `lambda::system_row` meets its contract: before column c the first c entries of the row are the sums over Λ's column, with 1 more on the diagonal.
-use Rattle.lambda.proofs.Entries.{system-end, part-long, systemBy, system-dot}
+use Rattle.lambda.proofs.Entries.{system-end, systemBy, system-dot}
 use mathlib.Core.Path.{refl, _≡_}
 use Rattle.base.proofs.Fills.{fillat-none, fillat-step}
 use Prim.Native.Nat.{_+_, _-_, _≤_}
 use lib.ListN.{length, length-set}
 use native.Mathlib.Omega.{arith}
+use Rattle.base.proofs.Rows.{part-long}
 use Rattle.base.specs.List.{fillAt}
 use Rattle.model.proofs.Shapes.{in-range}
 use Rattle.lambda.proofs.ColumnPlaces.{column-rows, column-theta}

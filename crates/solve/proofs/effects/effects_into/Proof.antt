@@ -2,8 +2,9 @@
 use mathlib.Core.Path.{refl}
 use native.Mathlib.Omega.{arith}
 use Rattle.base.proofs.Rows.{row-length}
-use Rattle.solve.proofs.Fronts.{part-is}
-use Rattle.solve.proofs.Parts.{filled-part, effects-made}
+use Rattle.base.proofs.Rows.{part-is}
+use Rattle.base.proofs.Rows.{filled-part}
+use Rattle.solve.proofs.Steps.{effects-made}
 use borrow.Author.Needs.{needs}
 use Rattle.solve.proofs.effects.effects_into.Statement.{statement}
 use Rattle.solve.proofs.effects.effects_into.Tie as tie

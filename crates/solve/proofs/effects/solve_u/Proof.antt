@@ -1,7 +1,7 @@
 -- `solve::solve_u` meets its contract: the part is filled from three rows of m.
 use mathlib.Core.Path.{refl}
-use Rattle.solve.proofs.Fronts.{part-is}
-use Rattle.solve.proofs.Parts.{filled-part}
+use Rattle.base.proofs.Rows.{part-is}
+use Rattle.base.proofs.Rows.{filled-part}
 use borrow.Author.Needs.{needs}
 use Rattle.solve.proofs.effects.solve_u.Statement.{statement}
 use Rattle.solve.proofs.effects.solve_u.Tie as tie

@@ -1,6 +1,6 @@
 -- `solve::solved_copy` meets its contract: a copy, solved in place.
 use mathlib.Core.Path.{refl}
-use Rattle.solve.proofs.Steps.{copied}
+use Rattle.base.proofs.Fills.{copied}
 use borrow.Author.Needs.{needs}
 use Rattle.solve.proofs.normals.solved_copy.Statement.{statement}
 use Rattle.solve.proofs.normals.solved_copy.Tie as tie

@@ -1,7 +1,7 @@
 -- `solve::factor_system` meets its contract: each call leaves the matrix that the next one reads.
 use mathlib.Core.Path.{refl}
 use native.Mathlib.Omega.{arith}
-use Rattle.solve.proofs.Fronts.{part-is, front-is}
+use Rattle.base.proofs.Rows.{part-is, front-is}
 use Rattle.solve.proofs.FactoredSystem.{system-made}
 use borrow.Author.Needs.{needs}
 use Rattle.solve.proofs.systems.factor_system.Statement.{statement}
