@@ -1,5 +1,9 @@
 -- That the layout is sound: the pieces of each work slice follow each other, and the last ends within the length that document 01 names, "Numbers of an answer", number 7. Assumes nothing.
+use mathlib.Core.List.{List}
 use Prim.Native.Nat.{ℕ, _+_, _*_, _≤_}
+use lib.ListN.{length}
+use lib.Ieee.{Float}
+use Rattle.model.specs.Settings.{Sizes}
 use Rattle.layout.specs.WorkRows.{firstEtaRow, secondEtaRow, muRow, rawRow, xbetaRow, devianceRow, pointRow, markRow, weightedRow, columnRow, workingRow, rowsLength}
 use Rattle.layout.specs.WorkMatrices.{systemPlace, inversePlace, solvedPlace, rootInversePlace, rightPlace, wyPlace, uPlace, bPlace, trialUPlace, trialBPlace, pointPlace, columnPlace, betaPlace, logWeightsPlace, matricesLength}
 use Rattle.layout.specs.WorkTerms.{factorPlace, wPlace, zPlace, unsolvedPlace, normalPlace, sparePlace, termsLength}
@@ -51,3 +55,10 @@ pub record LaidOut (n p q : ℕ) : Type 0 where
   pub rows : RowsLaid n
   pub matrices : MatricesLaid p q
   pub terms : TermsLaid n p q
+
+-- sizes in range, and work slices as long as number 7 asks
+pub record Lent (n p q : ℕ) (rows matrices terms : List Float) : Type 0 where
+  pub sizes : Sizes n p q
+  pub rows-long : rowsLength n ≤ length rows
+  pub matrices-long : matricesLength p q ≤ length matrices
+  pub terms-long : termsLength ≤ length terms
