@@ -1,8 +1,12 @@
 -- The layout is sound at every size in range: what each function that lends a piece of a work slice asks. Assumes nothing.
+use mathlib.Core.Path.{_≡_}
+use mathlib.Core.List.{List}
 use Prim.Native.Nat.{ℕ}
+use lib.ListN.{length}
+use lib.Ieee.{Float}
 use native.Mathlib.Omega.{arith}
 use Rattle.model.specs.Settings.{Sizes}
-use Rattle.layout.specs.Layout.{RowsLaid, MatricesLaid, TermsLaid, LaidOut}
+use Rattle.layout.specs.Layout.{RowsLaid, MatricesLaid, TermsLaid, LaidOut, Lent}
 use Rattle.layout.proofs.Bounds.{products}
 
 rows-laid : {n p q : ℕ} → Sizes n p q → RowsLaid n
@@ -55,3 +59,7 @@ terms-laid z =
 
 pub laid-out : {n p q : ℕ} → Sizes n p q → LaidOut n p q
 laid-out z = record { rows = rows-laid z; matrices = matrices-laid z; terms = terms-laid z }
+
+-- slices of the same lengths are as good
+pub lent-kept : {n p q : ℕ} {r m t r' m' t' : List Float} → Lent n p q r m t → length r' ≡ length r → length m' ≡ length m → length t' ≡ length t → Lent n p q r' m' t'
+lent-kept l er em et = record { sizes = l .sizes; rows-long = rw er (l .rows-long); matrices-long = rw em (l .matrices-long); terms-long = rw et (l .terms-long) }
