@@ -1,29 +1,29 @@
--- -- `stages::holder` meets its contract, branch by branch.
+-- `stages::holder` meets its contract, branch by branch.
 use Rattle.stages.proofs.HeldRows.{held-first, held-second}
-use borrow.Author.Needs.{needs}
+use native.Mathlib.Omega.{arith}
 use Rattle.stages.proofs.holders.holder.Statement.{statement}
 use Rattle.stages.proofs.holders.holder.Tie as tie
 
 sub-result : tie.Need-sub-result
-sub-result c = search needs
+sub-result c = omega arith
 
 part-result-start : tie.Need-part-result-start
-part-result-start c = search needs
+part-result-start c = omega arith
 
 part-result-end : tie.Need-part-result-end
-part-result-end c = search needs
+part-result-end c = omega arith
 
 returns : tie.Need-returns
 returns c = rw (c .before .if1 .taken) (held-second (c .before .before .args .n) (c .before .before .args .first .now) (c .before .before .args .second .now) (c .before .before .pre .1))
 
 sub-result-2 : tie.Need-sub-result-2
-sub-result-2 c = search needs
+sub-result-2 c = omega arith
 
 part-result-start-2 : tie.Need-part-result-start-2
-part-result-start-2 c = search needs
+part-result-start-2 c = omega arith
 
 part-result-end-2 : tie.Need-part-result-end-2
-part-result-end-2 c = search needs
+part-result-end-2 c = omega arith
 
 returns-2 : tie.Need-returns-2
 returns-2 c = rw (c .before .if1 .left) (held-first (c .before .before .args .n) (c .before .before .args .first .now) (c .before .before .args .second .now) (c .before .before .pre .0))

@@ -1,40 +1,39 @@
--- -- `stages::deviances_into` meets its contract: the row that is written is the part that is summed.
+-- `stages::deviances_into` meets its contract: the row that is written is the part that is summed.
 use native.Mathlib.Omega.{arith}
 use mathlib.Core.Logic.{inl}
 use Rattle.stages.proofs.AtTheStop.{deviances-made}
-use borrow.Author.Needs.{needs}
 use Rattle.stages.proofs.stops.deviances_into.Statement.{statement}
 use Rattle.stages.proofs.stops.deviances_into.Tie as tie
 
 mu-row-requires : tie.Need-mu-row-requires
-mu-row-requires c κs = search needs
+mu-row-requires c κs = omega arith
 
 deviance-row-requires : tie.Need-deviance-row-requires
-deviance-row-requires c κs = search needs
+deviance-row-requires c κs = omega arith
 
 point-row-requires : tie.Need-point-row-requires
-point-row-requires c κs = search needs
+point-row-requires c κs = omega arith
 
 mode-deviances-requires : tie.Need-mode-deviances-requires
 mode-deviances-requires c κs = (omega arith, inl (omega arith), omega arith, omega arith)
 
 mul-deviance-sum : tie.Need-mul-deviance-sum
-mul-deviance-sum c = search needs
+mul-deviance-sum c = omega arith
 
 sub-deviance-sum : tie.Need-sub-deviance-sum
-sub-deviance-sum c = search needs
+sub-deviance-sum c = omega arith
 
 part-deviance-sum-start : tie.Need-part-deviance-sum-start
-part-deviance-sum-start c = search needs
+part-deviance-sum-start c = omega arith
 
 part-deviance-sum-end : tie.Need-part-deviance-sum-end
-part-deviance-sum-end c = search needs
+part-deviance-sum-end c = omega arith
 
 deviance-sum-requires : tie.Need-deviance-sum-requires
-deviance-sum-requires c κs = search needs
+deviance-sum-requires c κs = omega arith
 
 same-length : tie.Need-same-length
-same-length c = search needs
+same-length c = omega arith
 
 returns : tie.Need-returns
 returns c =

@@ -1,29 +1,29 @@
--- -- `stages::fit_at` meets its contract: the part that is lent is the row of the means.
+-- `stages::fit_at` meets its contract: the part that is lent is the row of the means.
+use native.Mathlib.Omega.{arith}
 use Rattle.stages.proofs.AtTheStop.{fit-made}
-use borrow.Author.Needs.{needs}
 use Rattle.stages.proofs.stops.fit_at.Statement.{statement}
 use Rattle.stages.proofs.stops.fit_at.Tie as tie
 
 mu-row-requires : tie.Need-mu-row-requires
-mu-row-requires c κs = search needs
+mu-row-requires c κs = omega arith
 
 raw-row-requires : tie.Need-raw-row-requires
-raw-row-requires c κs = search needs
+raw-row-requires c κs = omega arith
 
 mul-fit-term : tie.Need-mul-fit-term
-mul-fit-term c = search needs
+mul-fit-term c = omega arith
 
 sub-fit-term : tie.Need-sub-fit-term
-sub-fit-term c = search needs
+sub-fit-term c = omega arith
 
 part-fit-term-start : tie.Need-part-fit-term-start
-part-fit-term-start c = search needs
+part-fit-term-start c = omega arith
 
 part-fit-term-end : tie.Need-part-fit-term-end
-part-fit-term-end c = search needs
+part-fit-term-end c = omega arith
 
 fit-term-requires : tie.Need-fit-term-requires
-fit-term-requires c κs = search needs
+fit-term-requires c κs = omega arith
 
 returns : tie.Need-returns
 returns c =

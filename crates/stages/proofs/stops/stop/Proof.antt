@@ -1,26 +1,26 @@
--- -- `stages::stop` meets its contract: each call leaves what the next one reads, and the means are as they were lent.
+-- `stages::stop` meets its contract: each call leaves what the next one reads, and the means are as they were lent.
+use native.Mathlib.Omega.{arith}
 use Rattle.stages.proofs.AtTheStop.{stop-made}
-use borrow.Author.Needs.{needs}
 use Rattle.stages.proofs.stops.stop.Statement.{statement}
 use Rattle.stages.proofs.stops.stop.Tie as tie
 
 deviances-into-requires : tie.Need-deviances-into-requires
-deviances-into-requires c κs = search needs
+deviances-into-requires c κs = omega arith
 
 fit-at-requires : tie.Need-fit-at-requires
-fit-at-requires c κs = search needs
+fit-at-requires c κs = omega arith
 
 laplace-at-requires : tie.Need-laplace-at-requires
-laplace-at-requires c κs = search needs
+laplace-at-requires c κs = omega arith
 
 root-inverse-requires : tie.Need-root-inverse-requires
-root-inverse-requires c κs = search needs
+root-inverse-requires c κs = omega arith
 
 same-length : tie.Need-same-length
-same-length c = search needs
+same-length c = omega arith
 
 same-length-2 : tie.Need-same-length-2
-same-length-2 c = search needs
+same-length-2 c = omega arith
 
 returns : tie.Need-returns
 returns c =

@@ -1,4 +1,4 @@
--- -- `stages::targets_into` meets its contract: before turn i the first i places of both rows are written, that of z - offset over the other.
+-- `stages::targets_into` meets its contract: before turn i the first i places of both rows are written, that of z - offset over the other.
 use mathlib.Core.Path.{_≡_, refl}
 use Prim.Native.Nat.{_≤_, _-_}
 use lib.ListN.{length, length-set}
