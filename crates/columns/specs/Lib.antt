@@ -1,0 +1,2 @@
+-- What the columns of X leave in the work slices. Assumes nothing.
+pub mod Columns
