@@ -3,3 +3,5 @@ pub mod RootFound
 pub mod RawMade
 pub mod SidesMade
 pub mod SolveMade
+pub mod StepMade
+pub mod IterationMade

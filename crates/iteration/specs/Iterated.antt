@@ -1,0 +1,77 @@
+-- What one iteration answers and leaves. Document 01, "The inner fit": the solve of an iteration, and its tries. Assumes nothing.
+use mathlib.Core.Path.{_≡_}
+use mathlib.Core.List.{List}
+use Prim.Native.Nat.{ℕ, _*_, _≤_}
+use lib.ListN.{length}
+use lib.Ieee.{Float}
+use Rattle.base.specs.Rows.{row, Only}
+use Rattle.base.specs.Sparse.{Sparse}
+use Rattle.family.specs.declared.carried.CarriedFamily.{CarriedFamily}
+use Rattle.family.specs.declared.carried.CarriedLink.{CarriedLink}
+use Rattle.layout.specs.Layout.{Lent}
+use Rattle.layout.specs.WorkRows.{muRow, rowsLength}
+use Rattle.layout.specs.WorkMatrices.{matricesLength}
+use Rattle.layout.specs.WorkTerms.{termsLength}
+use Rattle.model.specs.Items.{Item, countOf, isTry}
+use Rattle.model.specs.declared.sizes.Shape.{Shape}
+use Rattle.rule.specs.Given.{Design, Given, nOf, qOf}
+use Rattle.rule.specs.Solve.{Solved, solved, unsolved, solveOf}
+use Rattle.rule.specs.Try.{foundMove, noMove, triesOf, trialOf}
+use Rattle.solve.specs.Ready.{Ready}
+use Rattle.working.specs.Optional.{Optional}
+use Rattle.iteration.specs.Held.{HeldSolved}
+use Rattle.iteration.specs.declared.iterates.Iteration.{Iteration}
+use Rattle.iteration.specs.declared.iterates.Iteration.the-variants.{Unsolvable, Stuck, Moved}
+
+-- ---- what is given
+
+-- the lists are as long as the sizes say, Z' is in order, and the work slices have room
+pub record Asked (n p q : ℕ) (shape : Shape) (theta : List Float) (starts columns : List ℕ) (values offset x y r m t : List Float) : Type 0 where
+  pub ready : Ready shape theta starts columns values q n
+  pub lent : Lent n p q r m t
+  pub offset-fits : Optional n offset
+  pub x-long : n * p ≤ length x
+  pub y-long : n ≤ length y
+
+-- what is given of the responses, with a design
+abbrev pub givenOf : CarriedFamily → CarriedLink → (y weights : List Float) → Design → Given
+givenOf family link y weights D = record { family = family; link = link; y = y; weights = weights; design = D }
+
+-- ---- what an iteration answers
+
+-- the solve v of the predictor eta with the means mu, and k tries, none of them accepted
+pub record StuckAfter (G : Given) (phi : Float) (eta mu : List Float) (k : ℕ) : Type 0 where
+  pub v : Solved
+  pub items : List Item
+  pub solve : solveOf G phi eta mu ≡ solved v
+  pub tries : triesOf (trialOf G v eta) ≡ noMove items
+  pub count : countOf isTry items ≡ k
+
+-- the solve v, which the work slices hold, and k tries, the last accepted: its predictor in the row at next, its means in theirs
+pub record MovedAfter (G : Given) (phi : Float) (eta mu : List Float) (next : ℕ) (rows matrices terms : List Float) (pwrss : Float) (k : ℕ) : Type 0 where
+  pub v : Solved
+  pub items : List Item
+  pub solve : solveOf G phi eta mu ≡ solved v
+  pub tries : triesOf (trialOf G v eta) ≡ foundMove (record { eta = row next (nOf G) rows; mu = row (muRow (nOf G)) (nOf G) rows; pwrss = pwrss }) items
+  pub count : countOf isTry items ≡ k
+  pub held : HeldSolved (G .design) v rows matrices terms
+
+-- each answer in the rule's words
+abbrev pub IterationTold : Iteration → Given → Float → (eta mu : List Float) → ℕ → (rows matrices terms : List Float) → Type 0
+IterationTold (Unsolvable e) G phi eta mu next r m t = solveOf G phi eta mu ≡ unsolved e
+IterationTold (Stuck k) G phi eta mu next r m t = StuckAfter G phi eta mu k
+IterationTold (Moved pwrss k) G phi eta mu next r m t = MovedAfter G phi eta mu next r m t pwrss k
+
+-- how many tries it made
+abbrev pub triesMade : Iteration → ℕ
+triesMade (Unsolvable e) = 0
+triesMade (Stuck k) = k
+triesMade (Moved pwrss k) = k
+
+-- an iteration tells what the rule's would, and changes nothing behind the named lengths
+pub record IterationLeft (G : Given) (phi : Float) (eta mu : List Float) (next : ℕ) (r r' m m' t t' : List Float) (a : Iteration) : Type 0 where
+  pub told : IterationTold a G phi eta mu next r' m' t'
+  pub few : triesMade a ≤ 100
+  pub rows-only : Only 0 (rowsLength (nOf G)) r r'
+  pub matrices-only : Only 0 (matricesLength (G .design .p) (qOf (G .design))) m m'
+  pub terms-only : Only 0 termsLength t t'
