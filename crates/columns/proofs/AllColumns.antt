@@ -2,23 +2,23 @@
 use mathlib.Core.Path.{_≡_, refl, sym, ap, _∙_}
 use mathlib.Core.List.{List}
 use mathlib.Core.Logic.{_⊎_, inl, inr, ⊎-elim}
-use Prim.Native.Nat.{ℕ, suc, _+_, _*_, _<_, _≤_}
+use Prim.Native.Nat.{ℕ, _+_, _*_, _<_, _≤_}
 use native.Mathlib.Nat.{mul-comm, not-suc-le-zero}
 use native.Mathlib.Omega.{arith}
 use lib.ListN.{length}
 use lib.Ieee.{Float}
 use Rattle.base.specs.Sum.{_!_}
-use Rattle.base.specs.List.{build, at}
+use Rattle.base.specs.List.{at}
 use Rattle.base.specs.Rows.{row, Only}
 use Rattle.base.specs.Sparse.{Sparse}
 use Rattle.base.proofs.Sums.{lt-or-ge}
 use Rattle.base.proofs.Fills.{row-fits, build-at, matrix-at}
-use Rattle.base.proofs.Rows.{row-at, row-length, row-build, only-none, only-trans, only-wide, only-row}
+use Rattle.base.proofs.Rows.{row-at, row-length, row-build, only-none, only-trans, only-row}
 use Rattle.model.specs.Shape.{effectsOf}
 use Rattle.model.specs.declared.sizes.Shape.{Shape}
 use Rattle.layout.specs.Layout.{Lent, LaidOut}
 use Rattle.layout.specs.WorkRows.{columnRow, workingRow}
-use Rattle.layout.specs.WorkMatrices.{systemPlace, solvedPlace, wyPlace, betaPlace, matricesLength}
+use Rattle.layout.specs.WorkMatrices.{systemPlace, solvedPlace, wyPlace, betaPlace}
 use Rattle.layout.specs.WorkTerms.{factorPlace, wPlace, unsolvedPlace, normalPlace}
 use Rattle.layout.proofs.LaidOut.{laid-out}
 use Rattle.factor.specs.Triangle.{SameBelow}

@@ -1,5 +1,5 @@
 -- What the five steps of one column leave, put together. Assumes nothing.
-use mathlib.Core.Path.{_≡_, refl, sym, ap, _∙_}
+use mathlib.Core.Path.{_≡_, refl, ap, _∙_}
 use mathlib.Core.List.{List}
 use mathlib.Core.Logic.{inl, inr}
 use Prim.Native.Nat.{ℕ, _+_, _*_, _^_, _<_, _≤_}
@@ -9,7 +9,7 @@ use lib.ListN.{length, set}
 use lib.Seq.{getD-set-same}
 use lib.Ieee.{Float, nan}
 use Rattle.base.specs.Number.{_⊖_}
-use Rattle.base.specs.Sum.{_!_, dotOf}
+use Rattle.base.specs.Sum.{dotOf}
 use Rattle.base.specs.List.{build}
 use Rattle.base.specs.Rows.{row, Only, Wrote}
 use Rattle.base.specs.Sparse.{Sparse}
@@ -31,7 +31,7 @@ use Rattle.rule.specs.Given.{Design}
 use Rattle.rule.specs.Working.{weightedColumn}
 use Rattle.rule.specs.Solve.{sideOf, unsolvedColumn, solvedColumn, normalEntry, normalSideAt}
 use Rattle.solve.specs.Ready.{designOf, Whatever}
-use Rattle.columns.specs.Columns.{WroteSide, ColumnLeft, ColumnOf}
+use Rattle.columns.specs.Columns.{WroteSide, ColumnOf}
 use Rattle.columns.proofs.Laws.{set-only, two-of}
 
 -- the pieces of column a lie within those of all columns, and these within the work slices

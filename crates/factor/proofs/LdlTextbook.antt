@@ -11,8 +11,10 @@ use lib.Ieee.{Float}
 use Rattle.base.specs.Sum.{_!_}
 use Rattle.base.specs.List.{at}
 use Rattle.base.specs.InPlace.{fillBy}
+use Rattle.base.specs.Rows.{Only}
 use Rattle.base.proofs.Sums.{sum-cong}
 use Rattle.base.proofs.Fills.{row-fits}
+use Rattle.base.proofs.InPlace.{length-by}
 use Rattle.factor.specs.Triangle.{cell, SameBelow, usable, reach}
 use Rattle.factor.specs.Factor.{ldlTerm, ldlSum, ldlPivot, ldlBelow, ldlRule, ldlOf, ldlPasses, ldlEnd, LdlLeaves}
 use Rattle.factor.specs.Textbook.{LdlTextbook, KeptAbove}
@@ -123,3 +125,22 @@ ldl-lower s A B b c h k ab = ldl-fixes s A B (ldlOf s A b) (ldlOf s B c) ab (ldl
 pub ldl-end-same : (s : ℕ) (F G : List Float) → SameBelow s F G → ldlEnd s F ≡ ldlEnd s G
 unfolding ldlEnd ldlPasses
 ldl-end-same s F G h = first-cong (ldlPasses s F) (ldlPasses s G) s (λ k l. ap usable (h k k l (omega arith)))
+
+-- a factorisation writes within its square
+reach-fits : (s : ℕ) (F : List Float) (r : Factored) → r ≡ ldlEnd s F → reach s r ≤ s * s
+unfolding reach ldlEnd
+reach-fits s F Done e = omega arith
+reach-fits s F (Bad i) e =
+    let f : FirstBad (ldlPasses s F) s i = first-bad (ldlPasses s F) s i e in
+    let l : i < s = f .below in
+    omega (arith, row-fits i s s l)
+
+-- and leaves the rest of its slice
+pub ldl-only : (s : ℕ) (A b X : List Float) (r : Factored) → LdlLeaves s A b r X → Only 0 (s * s) b X
+ldl-only s A b X r d =
+    let h : reach s r ≤ s * s = reach-fits s (ldlOf s A b) r (d .end) in
+    rw (d .out)
+    (record {
+      len = length-by (ldlRule s A) (reach s r) b;
+      kept = λ j o. by-rest (ldlRule s A) (reach s r) b j (⊎-elim (λ a. absurd (omega arith)) (λ a. omega arith) o);
+    })

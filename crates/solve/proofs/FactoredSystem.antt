@@ -1,8 +1,7 @@
 -- A and its factor, from what the four calls leave. Assumes nothing.
 use mathlib.Core.Path.{_≡_, refl, sym, ap, _∙_}
 use mathlib.Core.List.{List}
-use mathlib.Core.Logic.{⊎-elim}
-use Prim.Native.Nat.{ℕ, _+_, _*_, _<_, _≤_}
+use Prim.Native.Nat.{ℕ, _+_, _*_, _≤_}
 use native.Mathlib.Nat.{zero-add}
 use native.Mathlib.Omega.{arith}
 use lib.ListN.{length}
@@ -11,7 +10,7 @@ use Rattle.base.specs.Sum.{_!_}
 use Rattle.base.specs.List.{build, zeroAt, matrix, at, gridTo}
 use Rattle.base.specs.Sparse.{Sparse}
 use Rattle.base.specs.InPlace.{fillBy}
-use Rattle.base.specs.Rows.{row, Only, Wrote}
+use Rattle.base.specs.Rows.{row, Wrote}
 use Rattle.base.proofs.Fills.{build-length, row-fits, length-grid}
 use Rattle.base.proofs.InPlace.{length-by}
 use Rattle.base.proofs.Rows.{row-at, only-trans}
@@ -19,35 +18,15 @@ use Rattle.stored.specs.Stored.{ztwzAt}
 use Rattle.model.specs.Shape.{effectsOf}
 use Rattle.model.specs.declared.sizes.Shape.{Shape}
 use Rattle.lambda.specs.Product.{rightColumnAt, systemAt}
-use Rattle.factor.specs.Factor.{ldlRule, ldlOf, ldlEnd, ldlPasses, LdlLeaves}
+use Rattle.factor.specs.Factor.{ldlRule, ldlOf, LdlLeaves}
 use Rattle.factor.specs.Triangle.{SameBelow, reach}
 use Rattle.factor.specs.declared.pivots.Factored.{Factored}
-use Rattle.factor.specs.declared.pivots.Factored.the-variants.{Done, Bad}
-use Rattle.factor.proofs.PivotTests.{FirstBad, first-bad}
-use Rattle.factor.proofs.RowByRow.{by-rest}
-use Rattle.factor.proofs.LdlTextbook.{ldl-lower, ldl-end-same}
+use Rattle.factor.specs.declared.pivots.Factored.the-variants.{Done}
+use Rattle.factor.proofs.LdlTextbook.{ldl-lower, ldl-end-same, ldl-only}
 use Rattle.rule.specs.Solve.{ztwzOf, rightColumns, systemOf, factorOf}
 use Rattle.solve.specs.Ready.{designOf, Whatever}
 use Rattle.solve.specs.System.{SystemLeaves}
 use Rattle.base.proofs.Rows.{grid-wrote}
-
--- a factorisation writes within its square
-reach-fits : (s : ℕ) (F : List Float) (r : Factored) → r ≡ ldlEnd s F → reach s r ≤ s * s
-unfolding reach ldlEnd
-reach-fits s F Done e = omega arith
-reach-fits s F (Bad i) e =
-    let f : FirstBad (ldlPasses s F) s i = first-bad (ldlPasses s F) s i e in
-    let l : i < s = f .below in
-    omega (arith, row-fits i s s l)
-
-ldl-only : (s : ℕ) (A b X : List Float) (r : Factored) → LdlLeaves s A b r X → Only 0 (s * s) b X
-ldl-only s A b X r d =
-    let h : reach s r ≤ s * s = reach-fits s (ldlOf s A b) r (d .end) in
-    rw (d .out)
-    (record {
-      len = length-by (ldlRule s A) (reach s r) b;
-      kept = λ j o. by-rest (ldlRule s A) (reach s r) b j (⊎-elim (λ a. absurd (omega arith)) (λ a. omega arith) o);
-    })
 
 -- with one factor found, the front of the slice has its lower triangle
 front-lower : (s : ℕ) (A b X F : List Float) (r : Factored) → s * s ≤ length b → LdlLeaves s A b r X → SameBelow s (ldlOf s A b) F → r ≡ Done
