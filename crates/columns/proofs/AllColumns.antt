@@ -27,7 +27,8 @@ use Rattle.rule.specs.Solve.{unsolvedColumn, solvedColumnAt, solvedColumns, nor
 use Rattle.rule.specs.Working.{weightedColumn}
 use Rattle.solve.specs.Ready.{designOf}
 use Rattle.columns.specs.Columns.{OnlyTwo, ColumnLeft, ColumnOf, ColumnsLeft, ColumnsOf}
-use Rattle.columns.proofs.Laws.{normal-same, matrix-is, two-row, lent-kept}
+use Rattle.layout.proofs.LaidOut.{lent-kept}
+use Rattle.columns.proofs.Laws.{normal-same, matrix-is, two-row}
 use Rattle.columns.proofs.OneColumn.{Within, within}
 
 -- the columns below a stand as they will at the end

@@ -17,7 +17,6 @@ use Rattle.base.proofs.Sums.{sum-cong}
 use Rattle.base.proofs.Fills.{build-is, by-place}
 use Rattle.base.proofs.Rows.{row-at, row-length, part-wrote}
 use Rattle.model.specs.declared.sizes.Shape.{Shape}
-use Rattle.layout.specs.Layout.{Lent}
 use Rattle.linear.specs.Product.{columnDot, mixedTerm, normalAt}
 use Rattle.rule.specs.Solve.{sideOf}
 use Rattle.solve.specs.Ready.{designOf, Whatever, IsSide}
@@ -59,11 +58,6 @@ two-row d i b n c k {v} {w} s s' h p =
   where
     hw : d + i ≤ length w
     hw = omega (arith, p .len)
-
--- slices of the same lengths are lent as well
-pub lent-kept : {n p q : ℕ} {r r' m m' t t' : List Float} → Lent n p q r m t → length r' ≡ length r → length m' ≡ length m → length t' ≡ length t → Lent n p q r' m' t'
-lent-kept h er em et =
-    record { sizes = h .sizes; rows-long = omega (arith, h .rows-long); matrices-long = omega (arith, h .matrices-long); terms-long = omega (arith, h .terms-long) }
 
 -- ---- a part that was lent once
 pub part-made : (b n e : ℕ) (f w ys : List Float) → e ≡ b + n → e ≤ length w → length ys ≡ length (midOf b (e - b) w) → ys ≡ f → Wrote b n f w (putMid b (e - b) w ys)

@@ -12,7 +12,7 @@ use Rattle.base.specs.Sparse.{Sparse}
 use Rattle.base.proofs.Rows.{only-row, only-wide, only-trans}
 use Rattle.layout.specs.Layout.{Lent}
 use Rattle.layout.specs.WorkRows.{muRow, rawRow, weightedRow, rowsLength}
-use Rattle.layout.specs.WorkMatrices.{uPlace, matricesLength}
+use Rattle.layout.specs.WorkMatrices.{uPlace}
 use Rattle.layout.specs.WorkTerms.{wPlace, zPlace, termsLength}
 use Rattle.layout.proofs.LaidOut.{laid-out}
 use Rattle.model.specs.Items.{Item, countOf, isTry}
@@ -83,7 +83,7 @@ told-none (foundMove m is) k e = let z : _≡_ {A = ℕ} 0 1 = cc in absurd (ome
 told-none (noMove is) k e = record { items = is; is = refl; count = sym (ap countIn e) }
 
 -- ---- rows before the raw predictor
-eta-before : (n : ℕ) (second : Bool) → etaRow n second + n ≤ muRow n
+pub eta-before : (n : ℕ) (second : Bool) → etaRow n second + n ≤ muRow n
 unfolding etaRow
 eta-before n false = omega arith
 eta-before n true = omega arith

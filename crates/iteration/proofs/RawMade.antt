@@ -1,20 +1,19 @@
 -- u, b and the raw predictor, at the places of the layout. Assumes nothing.
-use mathlib.Core.Path.{_≡_, refl, sym, ap, _∙_}
+use mathlib.Core.Path.{_≡_, refl, _∙_}
 use mathlib.Core.List.{List}
-use mathlib.Core.Logic.{inl, inr}
+use mathlib.Core.Logic.{inr}
 use Prim.Native.Nat.{ℕ, _+_, _-_, _*_, _≤_}
 use native.Mathlib.Omega.{arith}
 use lib.ListN.{length, take, drop, length-take, length-drop}
 use borrow.Rule.Slice.PartMut.{putMid, midOf}
 use lib.Ieee.{Float}
 use Rattle.base.specs.List.{build, fillTo}
-use Rattle.base.specs.Rows.{row, Only, Wrote}
+use Rattle.base.specs.Rows.{row, Wrote}
 use Rattle.base.specs.Sparse.{Sparse}
 use Rattle.base.proofs.Rows.{part-is, filled-part, only-row, only-trans}
 use Rattle.linear.specs.Product.{effectAt}
 use Rattle.lambda.specs.Product.{lambdaTimesAt}
 use Rattle.stored.specs.Stored.{zTimesAt}
-use Rattle.model.specs.Settings.{Sizes}
 use Rattle.model.specs.Shape.{effectsOf}
 use Rattle.model.specs.declared.sizes.Shape.{Shape}
 use Rattle.layout.specs.Layout.{Lent}
@@ -22,7 +21,6 @@ use Rattle.layout.specs.WorkRows.{rawRow}
 use Rattle.layout.specs.WorkMatrices.{solvedPlace, wyPlace, uPlace, bPlace, betaPlace}
 use Rattle.layout.specs.WorkTerms.{sparePlace}
 use Rattle.layout.proofs.LaidOut.{laid-out}
-use Rattle.rule.specs.Given.{Design}
 use Rattle.rule.specs.Solve.{rawAt, effectsAfter, bOf, zTimes, rawOf}
 use Rattle.solve.specs.Ready.{designOf}
 use Rattle.solve.specs.Effects.{EffectsLeft}

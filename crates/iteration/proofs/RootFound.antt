@@ -1,20 +1,19 @@
 -- The normal matrix's factor and β, at the places of the layout. Assumes nothing.
-use mathlib.Core.Path.{_≡_, refl, sym, _∙_}
+use mathlib.Core.Path.{_≡_, sym, _∙_}
 use mathlib.Core.List.{List}
 use Prim.Native.Nat.{ℕ, _+_, _-_, _*_}
 use native.Mathlib.Omega.{arith}
 use lib.ListN.{take, drop}
 use lib.Ieee.{Float}
-use Rattle.base.specs.Rows.{row, Only, Wrote}
+use Rattle.base.specs.Rows.{row, Wrote}
 use Rattle.base.proofs.Rows.{part-is, only-none}
 use Rattle.factor.specs.Factor.{choleskyOf}
-use Rattle.factor.specs.Triangle.{SameBelow}
 use Rattle.factor.specs.declared.pivots.Factored.{Factored}
 use Rattle.factor.specs.declared.pivots.Factored.the-variants.{Done, Bad}
 use Rattle.layout.specs.WorkMatrices.{betaPlace}
 use Rattle.layout.specs.WorkTerms.{normalPlace}
 use Rattle.solve.specs.Root.{RootOf, RootLeaves, SolvedBeta}
-use Rattle.iteration.specs.Solving.{RootLeft, RootSolved}
+use Rattle.iteration.specs.Solving.{RootSolved}
 
 -- without a factor β's right side is as it was
 pub root-failed : (n p q normal i : ℕ) (m t t' : List Float) (r : Factored) → normal ≡ normalPlace n p q → r ≡ Bad i → RootOf normal p t t' r → RootSolved n p q m m t t' (Bad i)

@@ -1,12 +1,12 @@
 -- The right sides: wy, and the columns after it. Assumes nothing.
-use mathlib.Core.Path.{_≡_, refl, ap, _∙_}
+use mathlib.Core.Path.{_≡_, ap, _∙_}
 use mathlib.Core.List.{List}
 use mathlib.Core.Logic.{inl}
 use Prim.Native.Nat.{ℕ, _+_, _-_, _*_}
 use native.Mathlib.Omega.{arith}
 use lib.ListN.{take, drop}
 use lib.Ieee.{Float}
-use Rattle.base.specs.Rows.{row, Only, Wrote}
+use Rattle.base.specs.Rows.{row, Wrote}
 use Rattle.base.specs.Sparse.{Sparse}
 use Rattle.base.proofs.Rows.{part-is, front-is, only-row, only-wide, only-trans}
 use Rattle.factor.specs.Substitution.{ldlSolve}

@@ -1,5 +1,5 @@
 -- A solve from its parts: what each later part leaves of what the earlier ones wrote, and the rule's cases. Assumes nothing.
-use mathlib.Core.Path.{_≡_, refl, sym, ap, _∙_}
+use mathlib.Core.Path.{_≡_, refl, _∙_}
 use mathlib.Core.List.{List}
 use mathlib.Core.Logic.{inl, inr}
 use Prim.Native.Nat.{ℕ, _+_, _*_, _≤_}
@@ -7,15 +7,14 @@ use native.Mathlib.Nat.{mul-comm}
 use native.Mathlib.Omega.{arith}
 use lib.ListN.{length}
 use lib.Ieee.{Float}
-use Rattle.base.specs.Rows.{row, Only, Wrote}
+use Rattle.base.specs.Rows.{row, Only}
 use Rattle.base.specs.Sparse.{Sparse}
 use Rattle.base.proofs.Fills.{matrix-length}
 use Rattle.base.proofs.Rows.{only-none, only-row, only-wide, only-trans}
 use Rattle.factor.specs.Factor.{choleskyOf}
-use Rattle.factor.specs.Triangle.{SameBelow}
 use Rattle.factor.specs.declared.pivots.Factored.{Factored}
 use Rattle.factor.specs.declared.pivots.Factored.the-variants.{Done, Bad}
-use Rattle.layout.specs.Layout.{Lent, MatricesLaid, TermsLaid, RowsLaid}
+use Rattle.layout.specs.Layout.{Lent, MatricesLaid, TermsLaid}
 use Rattle.layout.specs.WorkRows.{rawRow, weightedRow, columnRow, workingRow}
 use Rattle.layout.specs.WorkMatrices.{systemPlace, solvedPlace, wyPlace, uPlace, betaPlace, matricesLength}
 use Rattle.layout.specs.WorkTerms.{factorPlace, wPlace, zPlace, unsolvedPlace, normalPlace, sparePlace, termsLength}
@@ -25,10 +24,10 @@ use Rattle.model.specs.declared.sizes.Shape.{Shape}
 use Rattle.model.specs.declared.ends.End.the-variants.{SystemPivot, NormalPivot}
 use Rattle.rule.specs.Given.{Design, qOf}
 use Rattle.rule.specs.Working.{targets, weightedTargets}
-use Rattle.rule.specs.Solve.{Solve, Solved, solved, unsolved, Reduced, reducedOf, found, foundBeta, foundWith, solveWorking, solveSystem, solveFactor, afterFactor, solveReduced, solveNormal, solveRoot, afterRoot, systemOf, factorOf, wyOf, solvedColumns, normalEntry, normalOf, normalSide, betaOf, effectsAfter, bOf, rawOf}
+use Rattle.rule.specs.Solve.{solved, unsolved, Reduced, reducedOf, found, foundBeta, foundWith, solveWorking, solveSystem, solveFactor, afterFactor, solveReduced, solveNormal, solveRoot, afterRoot, systemOf, factorOf, wyOf, solvedColumns, normalEntry, normalOf, betaOf}
 use Rattle.solve.specs.Ready.{designOf, Whatever}
 use Rattle.solve.specs.System.{SystemLeaves}
-use Rattle.iteration.specs.Held.{Prepared, HeldSolved}
+use Rattle.iteration.specs.Held.{Prepared}
 use Rattle.iteration.specs.Solving.{SidesLeft, SidesOf, RootLeft, RootSolved, RawLeft, SolveLeft, SolvesWorking}
 use Rattle.iteration.specs.declared.solving.Solving.the-variants.{Found, Unsolved}
 

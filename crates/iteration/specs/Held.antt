@@ -1,7 +1,7 @@
 -- What the work slices hold of a solve. Document 01, "The inner fit". Assumes nothing.
 use mathlib.Core.Path.{_≡_}
 use mathlib.Core.List.{List}
-use Prim.Native.Nat.{ℕ, _*_}
+use Prim.Native.Nat.{_*_}
 use lib.Ieee.{Float}
 use Rattle.base.specs.Rows.{row}
 use Rattle.factor.specs.Triangle.{SameBelow}

@@ -5,7 +5,6 @@ use Prim.Native.Nat.{ℕ, _*_, _≤_}
 use lib.ListN.{length}
 use lib.Ieee.{Float}
 use Rattle.base.specs.Rows.{row, Only}
-use Rattle.base.specs.Sparse.{Sparse}
 use Rattle.family.specs.declared.carried.CarriedFamily.{CarriedFamily}
 use Rattle.family.specs.declared.carried.CarriedLink.{CarriedLink}
 use Rattle.layout.specs.Layout.{Lent}

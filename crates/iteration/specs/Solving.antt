@@ -16,7 +16,6 @@ use Rattle.layout.specs.WorkMatrices.{systemPlace, solvedPlace, wyPlace, uPlace
 use Rattle.layout.specs.WorkTerms.{factorPlace, wPlace, unsolvedPlace, normalPlace, sparePlace, termsLength}
 use Rattle.rule.specs.Given.{Design, qOf}
 use Rattle.model.specs.declared.sizes.Shape.{Shape}
-use Rattle.model.specs.declared.ends.End.{End}
 use Rattle.rule.specs.Solve.{Solve, solved, unsolved, sideOf, solvedColumns, normalOf, normalSide, effectsAfter, bOf, rawOf, solveWorking}
 use Rattle.solve.specs.Ready.{designOf}
 use Rattle.iteration.specs.Held.{Prepared, HeldSolved}

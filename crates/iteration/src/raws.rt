@@ -10,7 +10,6 @@ use model::Shape;
 use solve::effects_into;
 use solve::solve_u;
 use solve::zb_into;
-ghost use mathlib.Core.Path.{_≡_};
 ghost use Prim.Native.Nat.{_*_, _≤_};
 ghost use lib.ListN.{length};
 ghost use Rattle.base.specs.Rows.{row};

@@ -20,16 +20,16 @@ use Rattle.rule.specs.Run.{Outcome, State, itemsBefore, failedAfter, aft
 
 -- ---- the tries of one solve
 -- the items of a search
-abbrev itemsIn : Search → List Item
+abbrev pub itemsIn : Search → List Item
 itemsIn (foundMove m is) = is
 itemsIn (noMove is) = is
 
 -- f items at most, and every one a try
-record Tries (f : ℕ) (is : List Item) : Type 0 where
-  fits : countOf isFit is ≡ 0
-  solves : countOf isSolve is ≡ 0
-  tries : countOf isTry is ≤ f
-  points : countOf isPoint is ≡ 0
+pub record Tries (f : ℕ) (is : List Item) : Type 0 where
+  pub fits : countOf isFit is ≡ 0
+  pub solves : countOf isSolve is ≡ 0
+  pub tries : countOf isTry is ≤ f
+  pub points : countOf isPoint is ≡ 0
 
 no-tries : Tries 0 []
 unfolding countOf
@@ -51,7 +51,7 @@ unfolding triesFrom
 tries-from T zero step = no-tries
 tries-from T (suc f) step = tries-few f (tryOf T step) (triesFrom T f) step (λ st. tries-from T f st)
 
-tries-of : (T : Trial) → Tries (triesCap (linkOf (T .link))) (itemsIn (triesOf T))
+pub tries-of : (T : Trial) → Tries (triesCap (linkOf (T .link))) (itemsIn (triesOf T))
 unfolding triesOf
 tries-of T = tries-from T (triesCap (linkOf (T .link))) oneF
 

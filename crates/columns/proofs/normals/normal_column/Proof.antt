@@ -1,6 +1,6 @@
 -- `columns::normal_column` meets its contract: five steps, each of which reads what an earlier one wrote and changes one piece.
 use mathlib.Core.Path.{refl, _∙_}
-use Rattle.columns.proofs.Laws.{lent-kept}
+use Rattle.layout.proofs.LaidOut.{lent-kept}
 use Rattle.columns.proofs.OneColumn.{within, few, placed, column-placed}
 use borrow.Author.Needs.{needs}
 use Rattle.columns.proofs.normals.normal_column.Statement.{statement}

@@ -4,7 +4,7 @@ use Prim.Native.Nat.{_≤_, _-_}
 use native.Mathlib.Omega.{arith}
 use lib.ListN.{length}
 use Rattle.stored.specs.Stored.{sparse}
-use Rattle.columns.proofs.Laws.{lent-kept}
+use Rattle.layout.proofs.LaidOut.{lent-kept}
 use Rattle.columns.proofs.AllColumns.{ColumnsUpTo, columns-none, columns-turn, columns-end}
 use Rattle.columns.proofs.normals.normal_columns.Statement.{statement}
 use Rattle.columns.proofs.normals.normal_columns.Tie as tie

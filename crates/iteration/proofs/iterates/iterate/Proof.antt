@@ -1,6 +1,5 @@
 -- `iteration::iterate` meets its contract: weights, solve and tries are each the rule's.
 use mathlib.Core.Path.{refl, _∙_}
-use native.Mathlib.Omega.{arith}
 use Rattle.layout.proofs.LaidOut.{lent-kept}
 use Rattle.iteration.proofs.IterationMade.{iterate-unsolvable, iterate-stuck, iterate-moved}
 use borrow.Author.Needs.{needs}

@@ -1,11 +1,10 @@
 -- `iteration::raw_into` meets its contract: each call reads what the one before it left.
 use Rattle.layout.proofs.Inside.{row-few, beta-few}
 use Rattle.iteration.proofs.RawMade.{part-has, raw-row-wrote, raw-laid}
-use Rattle.layout.proofs.Inside.{wy-in, solved-in, beta-in, spare-in, u-in, b-in, raw-in}
+use Rattle.layout.proofs.Inside.{wy-in, solved-in, beta-in, spare-in, raw-in}
 use native.Mathlib.Omega.{arith}
 use mathlib.Core.Path.{refl, _∙_}
 use Rattle.layout.proofs.LaidOut.{laid-out}
-use Rattle.iteration.proofs.RawMade.{raw-made}
 use borrow.Author.Needs.{needs}
 use Rattle.iteration.proofs.raws.raw_into.Statement.{statement}
 use Rattle.iteration.proofs.raws.raw_into.Tie as tie

@@ -2,8 +2,7 @@
 use Rattle.layout.proofs.LaidOut.{lent-kept}
 use mathlib.Core.Path.{refl, _∙_}
 use native.Mathlib.Omega.{arith}
-use Rattle.layout.proofs.Inside.{row-few, weighted-in, factor-in, wy-in}
-use Rattle.iteration.proofs.RawMade.{part-has}
+use Rattle.layout.proofs.Inside.{row-few, factor-in}
 use Rattle.iteration.proofs.SidesMade.{sides-made}
 use borrow.Author.Needs.{needs}
 use Rattle.iteration.proofs.sides.right_sides.Statement.{statement}
