@@ -1,0 +1,62 @@
+-- Laws of lists of counts, of lists laid over the front of another, and of lists joined. Assumes nothing.
+use mathlib.Core.Path.{_≡_, refl, sym, ap, _∙_}
+use mathlib.Core.List.{List, [], _∷_, _++_}
+use Prim.Native.Nat.{ℕ, zero, suc, _+_, _<_, _≤_}
+use native.Mathlib.Nat.{not-suc-le-zero, le-of-suc-le-suc}
+use native.Mathlib.Numerals.{add-one}
+use native.Mathlib.Omega.{arith}
+use lib.ListN.{length, set, drop, getD, length-append, length-drop, List·getD-append}
+use lib.Seq.{drop-cons, set-append-seam, append-snoc}
+use Rattle.base.specs.Sum.{_!!_}
+use Rattle.job.specs.Lists.{counts, laid}
+
+-- ---- lists of counts
+pub counts-length : (f : ℕ → ℕ) (n : ℕ) → length (counts f n) ≡ n
+unfolding counts
+counts-length f zero = refl
+counts-length f (suc n) = ap suc (counts-length (λ i. f (suc i)) n)
+
+pub counts-at : (f : ℕ → ℕ) (n i : ℕ) → i < n → counts f n !! i ≡ f i
+unfolding counts
+counts-at f zero i h = absurd (not-suc-le-zero h)
+counts-at f (suc n) zero h = refl
+counts-at f (suc n) (suc i) h = counts-at (λ i. f (suc i)) n i (le-of-suc-le-suc h)
+
+-- one more
+pub counts-more : (f : ℕ → ℕ) (n : ℕ) → counts f (suc n) ≡ counts f n ++ (f n ∷ [])
+unfolding counts
+counts-more f zero = refl
+counts-more f (suc n) = ap (λ (l : List ℕ). f 0 ∷ l) (counts-more (λ i. f (suc i)) n)
+
+-- ---- a list over the front of another
+module _ {A : Type 0} where
+  pub laid-none : (b : List A) → b ≡ laid [] b
+  unfolding laid
+  laid-none b = refl
+
+  pub laid-length : (xs b : List A) → length xs ≤ length b → length (laid xs b) ≡ length b
+  unfolding laid
+  laid-length xs b h = length-append xs (drop (length xs) b) ∙ rw length-drop (omega arith)
+
+  pub laid-at : (xs b : List A) (i : ℕ) (d : A) → i < length xs → getD (laid xs b) i d ≡ getD xs i d
+  unfolding laid
+  laid-at xs b i d h = List·getD-append xs (drop (length xs) b) d i h
+
+  -- one more entry is stored behind the front
+  pub laid-more : (xs b : List A) (i : ℕ) (x : A) → length xs ≡ i → i < length b → set (laid xs b) i x ≡ laid (xs ++ (x ∷ [])) b
+  unfolding laid
+  laid-more xs b i x e h =
+      let rest : drop (length xs) b ≡ getD b (length xs) x ∷ drop (suc (length xs)) b = drop-cons b (length xs) x (rw e h) in
+      let long : length (xs ++ (x ∷ [])) ≡ suc (length xs) = length-append xs (x ∷ []) ∙ omega arith in
+      rw (← e, rest, long) (set-append-seam xs (getD b (length xs) x) (drop (suc (length xs)) b) x ∙ sym (append-snoc xs x (drop (suc (length xs)) b)))
+
+-- one turn of a loop that stores the counts from the front on
+pub counts-step : (f : ℕ → ℕ) (b w : List ℕ) (i x : ℕ) → x ≡ f i → i < length b → w ≡ laid (counts f i) b → set w i x ≡ laid (counts f (i + 1)) b
+counts-step f b w i x h l e = rw (e, h, add-one, counts-more f i) (laid-more (counts f i) b i (f i) (counts-length f i) l)
+
+pub counts-end : (f : ℕ → ℕ) (b w : List ℕ) (i n : ℕ) → w ≡ laid (counts f i) b → i ≡ n → w ≡ laid (counts f n) b
+counts-end f b w i n e q = rw (← q) e
+
+pub counts-none : (f : ℕ → ℕ) (b : List ℕ) → b ≡ laid (counts f 0) b
+unfolding counts
+counts-none f b = laid-none b
