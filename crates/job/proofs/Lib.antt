@@ -2,3 +2,7 @@
 pub mod ListLaws
 pub mod FaultLaws
 pub mod SizeLaws
+pub mod RowLaws
+pub mod ByteLaws
+pub mod Written
+pub mod JobCases

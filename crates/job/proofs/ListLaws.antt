@@ -1,14 +1,16 @@
 -- Laws of lists of counts, of lists laid over the front of another, and of lists joined. Assumes nothing.
 use mathlib.Core.Path.{_≡_, refl, sym, ap, _∙_}
 use mathlib.Core.List.{List, [], _∷_, _++_}
+use mathlib.Core.Logic.{⊎-elim}
 use Prim.Native.Nat.{ℕ, zero, suc, _+_, _<_, _≤_}
 use native.Mathlib.Nat.{not-suc-le-zero, le-of-suc-le-suc}
 use native.Mathlib.Numerals.{add-one}
 use native.Mathlib.Omega.{arith}
 use lib.ListN.{length, set, drop, getD, length-append, length-drop, List·getD-append}
-use lib.Seq.{drop-cons, set-append-seam, append-snoc}
+use lib.Seq.{drop-cons, set-append-seam, append-snoc, getD-append-add}
 use Rattle.base.specs.Sum.{_!!_}
-use Rattle.job.specs.Lists.{counts, laid}
+use Rattle.base.proofs.Sums.{last-or-before}
+use Rattle.job.specs.Lists.{counts, joinTo, laid}
 
 -- ---- lists of counts
 pub counts-length : (f : ℕ → ℕ) (n : ℕ) → length (counts f n) ≡ n
@@ -60,3 +62,23 @@ counts-end f b w i n e q = rw (← q) e
 pub counts-none : (f : ℕ → ℕ) (b : List ℕ) → b ≡ laid (counts f 0) b
 unfolding counts
 counts-none f b = laid-none b
+
+-- ---- lists joined
+module _ {A : Type 0} (f : ℕ → List A) where
+  -- list r lies behind those before it
+  join-long : (n r : ℕ) → r < n → length (joinTo r f) + length (f r) ≤ length (joinTo n f)
+  unfolding joinTo
+  join-long zero r l = absurd (not-suc-le-zero l)
+  join-long (suc n) r l =
+      let e : length (joinTo n f ++ f n) ≡ length (joinTo n f) + length (f n) = length-append (joinTo n f) (f n) in
+      ⊎-elim (λ (q : r ≡ n). rw q (omega arith)) (λ (m : r < n). let h = join-long n r m in omega arith) (last-or-before l)
+
+  -- entry j of list r
+  pub join-at : (n r j : ℕ) (d : A) → r < n → j < length (f r) → getD (joinTo n f) (length (joinTo r f) + j) d ≡ getD (f r) j d
+  unfolding joinTo
+  join-at zero r j d l h = absurd (not-suc-le-zero l)
+  join-at (suc n) r j d l h =
+      ⊎-elim
+      (λ (q : r ≡ n). rw q (getD-append-add (joinTo n f) (f n) j d))
+      (λ (m : r < n). List·getD-append (joinTo n f) (f n) d (length (joinTo r f) + j) (omega (arith, join-long n r m)) ∙ join-at n r j d m h)
+      (last-or-before l)

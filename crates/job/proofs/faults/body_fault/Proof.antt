@@ -1,4 +1,4 @@
--- `job::body_fault` meets its contract. Assumes nothing.
+-- `job::body_fault` meets its contract: the blocks' fault comes first, and sound blocks are there. Assumes nothing.
 use mathlib.Core.Bool.{true, false}
 use mathlib.Core.Path.{_≡_, sym, _∙_}
 use native.Mathlib.Omega.{arith}

@@ -1,4 +1,4 @@
--- `job::entry_fault` meets its contract. Assumes nothing.
+-- `job::entry_fault` meets its contract: the pair's fault comes first, and then the double can only be cut short. Assumes nothing.
 use Prim.Native.Nat.{_+_, _*_}
 use mathlib.Core.Bool.{true, false}
 use borrow.Author.Tests.{not-true, not-false}

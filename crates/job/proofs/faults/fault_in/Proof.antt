@@ -1,4 +1,4 @@
--- `job::fault_in` meets its contract. Assumes nothing.
+-- `job::fault_in` meets its contract: the length is demanded first, then the header, and a sound header is there. Assumes nothing.
 use mathlib.Core.Bool.{true, false}
 use mathlib.Core.Path.{_≡_, sym, _∙_}
 use lib.ListN.{length}

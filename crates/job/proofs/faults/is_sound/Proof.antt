@@ -1,4 +1,4 @@
--- `job::is_sound` meets its contract. Assumes nothing.
+-- `job::is_sound` meets its contract: its two arms are the definition's cases. Assumes nothing.
 use borrow.Author.Needs.{needs}
 use Rattle.job.specs.Faults.{isSound}
 use Rattle.job.proofs.faults.is_sound.Statement.{statement}

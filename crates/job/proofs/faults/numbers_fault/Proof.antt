@@ -1,4 +1,4 @@
--- `job::numbers_fault` meets its contract. Assumes nothing.
+-- `job::numbers_fault` meets its contract: the sizes are demanded first, then that the doubles are there, then the rows. Assumes nothing.
 use Prim.Native.Nat.{_*_}
 use mathlib.Core.Bool.{true}
 use mathlib.Core.Path.{_≡_, sym, ap, _∙_}

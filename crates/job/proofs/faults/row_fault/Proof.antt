@@ -1,4 +1,4 @@
--- `job::row_fault` meets its contract. Assumes nothing.
+-- `job::row_fault` meets its contract: the count's fault comes first, and a sound count says how many entries follow. Assumes nothing.
 use mathlib.Core.Bool.{true, false}
 use mathlib.Core.Path.{_≡_, sym, _∙_}
 use native.Mathlib.Omega.{arith}
