@@ -5,7 +5,8 @@ use mathlib.Core.List.{List}
 use Prim.Native.Nat.{ℕ}
 use lib.Dec.{leb}
 use lib.Ieee.{Float}
-use lib.ListN.{length}
+use lib.ListN.{length, replicate}
+use Rattle.model.specs.declared.sizes.Shape.{Shape}
 use Rattle.job.specs.declared.faults.Fault.{Fault}
 use Rattle.job.specs.declared.faults.Fault.the-variants.{Sound, At}
 use Rattle.job.specs.Lists.{laid}
@@ -72,3 +73,8 @@ leftBy (At r c) j b = b
 pub record ReadDone (s : List ℕ) (before : Lent) (r : Reading) (after : Lent) : Type 0 where
   pub says : r ≡ readingBy (readFault s before) (jobOf s)
   pub leaves : after ≡ leftBy (readFault s before) (jobOf s) before
+
+-- the blocks of a job, none of one that is refused
+unfoldable pub shapeBy : Fault → Shape → Shape
+shapeBy Sound h = h
+shapeBy (At r b) h = record { count = 0; m = replicate 8 0; k = replicate 8 0 }

@@ -5,3 +5,4 @@ mod whole;
 pub use whole::Header;
 pub use whole::Reading;
 pub use whole::read_job;
+pub use whole::read_shape;

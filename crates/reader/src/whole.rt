@@ -8,13 +8,14 @@ use model::Limit;
 use model::Link;
 use model::LinkFound;
 use model::Settings;
+use model::Shape;
 ghost use mathlib.Core.Path.{_≡_};
 ghost use mathlib.Core.Bool.{true};
 ghost use Rattle.model.specs.Names.{familyCoded, linkCoded};
-ghost use Rattle.job.specs.Format.{rowsIn, startOf};
+ghost use Rattle.job.specs.Format.{rowsIn, startOf, shapeOf};
 ghost use Rattle.job.specs.Faults.{isSound, faultOf};
 ghost use Rattle.job.specs.Job.{familyFrom, linkFrom, limitFrom, jobOf};
-ghost use Rattle.reader.specs.Reading.{lent, roomy, headerOf, filled, ReadDone};
+ghost use Rattle.reader.specs.Reading.{lent, roomy, headerOf, filled, ReadDone, shapeBy};
 
 // What is told of an accepted job beside its lists: the plain numbers of the call, and the lengths of theta, weights and offset.
 pub struct Header {
@@ -194,5 +195,19 @@ pub fn read_job(
             let header = header_in(s, entries);
             Reading::Accepted(header)
         }
+    }
+}
+
+// The blocks of a job, which an answer cannot hold; none where the job is refused.
+pub fn read_shape(s: &[u8]) -> Shape
+    ensures { λ r. ⌜ r ≡ shapeBy (faultOf (now (s .entry))) (shapeOf (now (s .entry))) ⌝ }
+{
+    match job::fault_in(s) {
+        Fault::At(_, _) => Shape {
+            count: 0,
+            m: [0; 8],
+            k: [0; 8],
+        },
+        Fault::Sound => job::shape_in(s),
     }
 }
