@@ -1,13 +1,13 @@
 -- Laws of lists of counts, of lists laid over the front of another, and of lists joined. Assumes nothing.
 use mathlib.Core.Path.{_≡_, refl, sym, ap, _∙_}
-use mathlib.Core.List.{List, [], _∷_, _++_}
+use mathlib.Core.List.{List, [], _∷_, _++_, append-nil}
 use mathlib.Core.Logic.{⊎-elim}
 use Prim.Native.Nat.{ℕ, zero, suc, _+_, _<_, _≤_}
 use native.Mathlib.Nat.{not-suc-le-zero, le-of-suc-le-suc}
 use native.Mathlib.Numerals.{add-one}
 use native.Mathlib.Omega.{arith}
-use lib.ListN.{length, set, drop, getD, length-append, length-drop, List·getD-append}
-use lib.Seq.{drop-cons, set-append-seam, append-snoc, getD-append-add}
+use lib.ListN.{length, set, take, drop, getD, length-append, length-drop, take-append-drop, List·getD-append}
+use lib.Seq.{drop-cons, drop-drop, set-append-seam, append-snoc, getD-append-add, length-take-le, take-at, drop-at}
 use Rattle.base.specs.Sum.{_!!_}
 use Rattle.base.proofs.Sums.{last-or-before}
 use Rattle.job.specs.Lists.{counts, joinTo, laid}
@@ -51,6 +51,29 @@ module _ {A : Type 0} where
       let rest : drop (length xs) b ≡ getD b (length xs) x ∷ drop (suc (length xs)) b = drop-cons b (length xs) x (rw e h) in
       let long : length (xs ++ (x ∷ [])) ≡ suc (length xs) = length-append xs (x ∷ []) ∙ omega arith in
       rw (← e, rest, long) (set-append-seam xs (getD b (length xs) x) (drop (suc (length xs)) b) x ∙ sym (append-snoc xs x (drop (suc (length xs)) b)))
+
+-- ---- what is laid behind the first e
+module _ {A : Type 0} where
+  laid-front : (e : ℕ) (b : List A) → e ≤ length b → laid (take e b) b ≡ b
+  unfolding laid
+  laid-front e b l = rw (length-take-le e b l) (take-append-drop e b)
+
+  pub behind-none : (e : ℕ) (b : List A) → e ≤ length b → b ≡ laid (take e b ++ []) b
+  behind-none e b l = rw (append-nil (take e b)) (sym (laid-front e b l))
+
+  pub behind-length : (e n : ℕ) (ys b : List A) → length ys ≡ n → e + n ≤ length b → length (laid (take e b ++ ys) b) ≡ length b
+  behind-length e n ys b l h =
+      laid-length (take e b ++ ys) b (omega (arith, length-append (take e b) ys, length-take-le e b (omega arith)))
+
+  -- a list laid behind the front of what was laid before
+  pub laid-on : (xs ys b w : List A) (e : ℕ) → length xs ≡ e → w ≡ laid xs b → laid (take e w ++ ys) w ≡ laid (xs ++ ys) b
+  unfolding laid
+  laid-on xs ys b w e l h =
+      let front : take e w ≡ xs = rw h (take-at xs (drop (length xs) b) e l) in
+      let back : drop (length (xs ++ ys)) w ≡ drop (length (xs ++ ys)) b =
+      rw (h, length-append xs ys)
+      (sym (drop-drop (length ys) (length xs) (xs ++ drop (length xs) b)) ∙ ap (drop (length ys)) (drop-at xs (drop (length xs) b) (length xs) refl) ∙ drop-drop (length ys) (length xs) b) in
+      rw (front, back)
 
 -- one turn of a loop that stores the counts from the front on
 pub counts-step : (f : ℕ → ℕ) (b w : List ℕ) (i x : ℕ) → x ≡ f i → i < length b → w ≡ laid (counts f i) b → set w i x ≡ laid (counts f (i + 1)) b

@@ -11,7 +11,7 @@ use Rattle.job.specs.Lists.{counts, joinTo, laid}
 use Rattle.job.specs.Format.{short, rowAt, startOf, columnIn, valueIn}
 use Rattle.job.specs.Job.{columnsOf, valuesOf}
 use Rattle.job.proofs.RowLaws.{row-next, start-next, row-before, row-starts, columns-before, values-before}
-use Rattle.reader.proofs.Laying.{laid-on}
+use Rattle.job.proofs.ListLaws.{laid-on}
 
 -- row r of q rows, which begins at byte at after e entries, lies in the job, and its entries in the lent lists
 pub row-fits : (s : List ℕ) (r q at e : ℕ) → length s ≤ 65536 → rowAt s q ≤ length s → r < q → at ≡ rowAt s r → e ≡ startOf s r

@@ -8,7 +8,8 @@ use borrow.Author.Needs.{needs}
 use Rattle.base.specs.List.{build}
 use Rattle.job.specs.Lists.{counts, laid}
 use Rattle.job.specs.Format.{columnIn, valueIn}
-use Rattle.reader.proofs.Laying.{behind-none, counts-behind, build-behind}
+use Rattle.job.proofs.ListLaws.{behind-none}
+use Rattle.reader.proofs.Laying.{counts-behind, build-behind}
 use Rattle.reader.proofs.lists.read_row.Statement.{statement}
 use Rattle.reader.proofs.lists.read_row.Tie as tie
 

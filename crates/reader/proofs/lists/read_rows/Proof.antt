@@ -11,8 +11,7 @@ use Rattle.base.proofs.Fills.{build-length}
 use Rattle.job.specs.Lists.{counts, joinTo, laid}
 use Rattle.job.specs.Format.{short, rowAt, startOf, columnIn, valueIn}
 use Rattle.job.specs.Job.{columnsOf, valuesOf}
-use Rattle.job.proofs.ListLaws.{counts-none, counts-step, counts-length}
-use Rattle.reader.proofs.Laying.{behind-length}
+use Rattle.job.proofs.ListLaws.{counts-none, counts-step, counts-length, behind-length}
 use Rattle.reader.proofs.RowReads.{row-fits, at-step, e-step, columns-step, values-step, join-none}
 use Rattle.reader.proofs.lists.read_rows.Statement.{statement}
 use Rattle.reader.proofs.lists.read_rows.Tie as tie
