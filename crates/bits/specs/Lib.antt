@@ -1,0 +1,2 @@
+-- The bits of a job's bytes. Assumes nothing.
+pub mod Bits

@@ -1,0 +1,81 @@
+// Bits of a byte slice, most significant first: what stands at a position, and the record that holds the slice and a position.
+// The record's three functions are thin: `take` leaves the work to `bits_at`, and `read` has plain parameters, for its callers.
+ghost use mathlib.Core.Path.{_≡_};
+ghost use Prim.Native.Nat.{_*_, _<_, _^_};
+ghost use lib.ListN.{length};
+ghost use Rattle.bits.specs.Bits.{bitOf, bitsOf, doubleOf, Inside};
+
+// A job's bytes, and how many of its bits were passed.
+pub struct BitReader<'a> {
+    pub src: &'a [u8],
+    pub at: usize,
+}
+
+fn wide(x: u8) -> u64
+    ensures { λ r. ⌜ r ≡ x ⌝ }
+{
+    x as u64
+}
+
+// Bit p of the slice.
+fn bit_at(s: &[u8], p: usize) -> u64
+    requires { ⌜ p < length (now s) * 8 ⌝ }
+    ensures { λ r. ⌜ r ≡ bitOf (now (s .entry)) p ⌝ }
+{
+    let b = wide(s[p / 8]);
+    (b >> (7 - p % 8)) % 2
+}
+
+// The number that `width` bits from `at` on make.
+fn bits_at(s: &[u8], at: usize, width: usize) -> u64
+    requires { ⌜ Inside 64 (now s) at width ⌝ }
+    ensures { λ r. ⌜ r ≡ bitsOf (now (s .entry)) at width ⌝ }
+{
+    let mut v: u64 = 0;
+    let mut i = 0;
+    while i < width {
+        let b = bit_at(s, at + i);
+        v = v * 2 + b;
+        i += 1;
+    }
+    v
+}
+
+// A reader of these bytes that stands at bit `at`.
+pub fn new<'a>(src: &'a [u8], at: usize) -> BitReader<'a>
+    ensures { λ r. ⌜ (r .src ≡ src .entry) × (r .at ≡ at) ⌝ }
+{
+    BitReader { src, at }
+}
+
+// The number that the next `width` bits make.
+pub fn take<'a>(r: BitReader<'a>, width: usize) -> u64
+    requires { ⌜ Inside 64 (now (r .src)) (r .at) width ⌝ }
+    ensures { λ t. ⌜ t ≡ bitsOf (now (r .entry .src)) (r .entry .at) width ⌝ }
+{
+    bits_at(r.src, r.at, width)
+}
+
+// The same from a slice and a position.
+pub fn read(s: &[u8], at: usize, width: usize) -> u64
+    requires { ⌜ Inside 64 (now s) at width ⌝ }
+    ensures { λ r. ⌜ r ≡ bitsOf (now (s .entry)) at width ⌝ }
+{
+    take(new(s, at), width)
+}
+
+// A field of at most 32 bits as a size, with its bound.
+pub fn field_at(s: &[u8], at: usize, width: usize) -> usize
+    requires { ⌜ Inside 32 (now s) at width ⌝ }
+    ensures { λ r. ⌜ (r ≡ bitsOf (now (s .entry)) at width) × (r < 2 ^ width) ⌝ }
+{
+    read(s, at, width) as usize
+}
+
+// The double in the eight bytes from byte p on; every pattern is read, a NaN's as NaN.
+pub fn double_at(s: &[u8], p: usize) -> f64
+    requires { ⌜ Inside 64 (now s) (8 * p) 64 ⌝ }
+    ensures { λ r. ⌜ r ≡ doubleOf (now (s .entry)) p ⌝ }
+{
+    base::double(read(s, 8 * p, 64))
+}

@@ -1,0 +1,133 @@
+-- The laws of faults: what a demand that holds, or fails, makes of the rest; one turn of each loop; what a sound part reaches. Assumes nothing.
+use mathlib.Core.Path.{_≡_, refl}
+use mathlib.Core.Bool.{Bool, true, false}
+use mathlib.Core.List.{List}
+use Prim.Native.Nat.{ℕ, zero, suc, _+_, _*_, _-_, _≤_, _<_, _/_}
+use native.Mathlib.Omega.{arith}
+use lib.Dec.{leb, ltb, eqb}
+use lib.ListN.{length}
+use borrow.Author.Tests.{le-leb, lt-leb, leb-true, eq-eqb, ne-eqb}
+use Rattle.bits.specs.Bits.{bitsOf}
+use Rattle.job.specs.declared.faults.Fault.{Fault}
+use Rattle.job.specs.declared.faults.Fault.the-variants.{Sound, At}
+use Rattle.job.specs.Format.{version, linkField, afterRow, blocksAt}
+use Rattle.job.specs.Faults.{demand, _▹_, isSound, reaches, spare, pairFault, blocksFault, entryFault, entriesFault, rowFault, rowsFault, headFault}
+
+-- ---- one demand
+pub reach-yes : (s : List ℕ) (e : ℕ) → e ≤ length s * 8 → reaches s e ≡ Sound
+unfolding reaches demand
+reach-yes s e h = rw (le-leb e (length s * 8) h)
+
+pub reach-no : (s : List ℕ) (e : ℕ) → length s * 8 < e → reaches s e ≡ At 20 (length s)
+unfolding reaches demand
+reach-no s e h = rw (lt-leb e (length s * 8) h)
+
+pub spare-yes : (s : List ℕ) (p w z : ℕ) → z ≡ bitsOf s p w → z ≡ 0 → spare s p w ≡ Sound
+unfolding spare demand
+spare-yes s p w z e h = rw (← e, eq-eqb z 0 h)
+
+pub spare-no : (s : List ℕ) (p w z b : ℕ) → z ≡ bitsOf s p w → (z ≡ 0 → ⊥) → p / 8 ≡ b → spare s p w ≡ At 22 b
+unfolding spare demand
+spare-no s p w z b e h d = rw (← e, ne-eqb z 0 h, d)
+
+-- ---- the first of two
+pub go : (f g : Fault) → isSound f ≡ true → f ▹ g ≡ g
+unfolding isSound _▹_
+go Sound g e = refl
+go (At r b) g e = cc
+
+pub stop : (f g : Fault) → isSound f ≡ false → f ▹ g ≡ f
+unfolding isSound _▹_
+stop Sound g e = cc
+stop (At r b) g e = refl
+
+pub nothing : (f : Fault) → f ▹ Sound ≡ f
+unfolding _▹_
+nothing Sound = refl
+nothing (At r b) = refl
+
+-- a sound whole has sound parts
+pub both : (f g : Fault) → isSound (f ▹ g) ≡ true → (isSound f ≡ true) × (isSound g ≡ true)
+unfolding isSound _▹_
+both Sound g e = (refl, e)
+both (At r b) g e = (cc, cc)
+
+pub demanded : (t : Bool) (r b : ℕ) → isSound (demand t r b) ≡ true → t ≡ true
+unfolding demand isSound
+demanded true r b h = refl
+demanded false r b h = cc
+
+pub reached : (s : List ℕ) (e : ℕ) → isSound (reaches s e) ≡ true → e ≤ length s * 8
+unfolding reaches
+reached s e h = leb-true e (length s * 8) (demanded _ _ _ h)
+
+pub pair-reached : (s : List ℕ) (p w : ℕ) → isSound (pairFault s p w) ≡ true → 8 * p + 16 ≤ length s * 8
+unfolding pairFault
+pair-reached s p w h = reached s (8 * p + 16) (both _ _ h .0)
+
+pub row-reached : (s : List ℕ) (p : ℕ) → isSound (rowFault s p) ≡ true → 8 * p + 16 ≤ length s * 8
+unfolding rowFault
+row-reached s p h = pair-reached s p 3 (both _ _ h .0)
+
+-- ---- one turn of a loop that goes on while what it passed is sound
+turn : (n k : ℕ) → k < n → n - k ≡ suc (n - (k + 1))
+turn n k l = omega arith
+
+pub blocks-on : (s : List ℕ) (p n k : ℕ) → k < n → isSound (pairFault s p 5) ≡ true → blocksFault s p (n - k) ≡ blocksFault s (p + 2) (n - (k + 1))
+unfolding blocksFault
+blocks-on s p n k l h = rw (turn n k l) (go _ _ h)
+
+pub blocks-off : (s : List ℕ) (p n k : ℕ) → k < n → isSound (pairFault s p 5) ≡ false → blocksFault s p (n - k) ≡ pairFault s p 5
+unfolding blocksFault
+blocks-off s p n k l h = rw (turn n k l) (stop _ _ h)
+
+pub blocks-end : (s : List ℕ) (p n k : ℕ) → n ≤ k → blocksFault s p (n - k) ≡ Sound
+unfolding blocksFault
+blocks-end s p n k l = let e : n - k ≡ 0 = omega arith in rw e
+
+pub entries-on : (s : List ℕ) (p n k : ℕ) → k < n → isSound (entryFault s p) ≡ true → entriesFault s p (n - k) ≡ entriesFault s (p + 10) (n - (k + 1))
+unfolding entriesFault
+entries-on s p n k l h = rw (turn n k l) (go _ _ h)
+
+pub entries-off : (s : List ℕ) (p n k : ℕ) → k < n → isSound (entryFault s p) ≡ false → entriesFault s p (n - k) ≡ entryFault s p
+unfolding entriesFault
+entries-off s p n k l h = rw (turn n k l) (stop _ _ h)
+
+pub entries-end : (s : List ℕ) (p n k : ℕ) → n ≤ k → entriesFault s p (n - k) ≡ Sound
+unfolding entriesFault
+entries-end s p n k l = let e : n - k ≡ 0 = omega arith in rw e
+
+pub rows-on : (s : List ℕ) (p n k : ℕ) → k < n → isSound (rowFault s p) ≡ true → rowsFault s p (n - k) ≡ rowsFault s (afterRow s p) (n - (k + 1))
+unfolding rowsFault
+rows-on s p n k l h = rw (turn n k l) (go _ _ h)
+
+pub rows-off : (s : List ℕ) (p n k : ℕ) → k < n → isSound (rowFault s p) ≡ false → rowsFault s p (n - k) ≡ rowFault s p
+unfolding rowsFault
+rows-off s p n k l h = rw (turn n k l) (stop _ _ h)
+
+pub rows-end : (s : List ℕ) (p n k : ℕ) → n ≤ k → rowsFault s p (n - k) ≡ demand (leb (length s) p) 23 p
+unfolding rowsFault
+rows-end s p n k l = let e : n - k ≡ 0 = omega arith in rw e
+
+-- ---- what a sound part shows
+-- n sound blocks from p on are there
+pub blocks-reached : (s : List ℕ) (p n : ℕ) → p ≤ length s → isSound (blocksFault s p n) ≡ true → p + 2 * n ≤ length s
+unfolding blocksFault
+blocks-reached s p zero l h = omega arith
+blocks-reached s p (suc n) l h =
+    let b = both (pairFault s p 5) (blocksFault s (p + 2) n) h in
+    let r : 8 * p + 16 ≤ length s * 8 = pair-reached s p 5 (b .0) in
+    let t : p + 2 + 2 * n ≤ length s = blocks-reached s (p + 2) n (omega arith) (b .1) in
+    omega arith
+
+-- a sound header is there
+pub head-reached : (s : List ℕ) → isSound (headFault s) ≡ true → blocksAt s ≤ length s
+unfolding headFault blocksAt
+head-reached s h =
+    let a = both (reaches s 4) _ h in
+    let b = both (demand (eqb (version s) 1) 21 0) _ (a .1) in
+    let d = both (reaches s 9) _ (b .1) in
+    let e = both (demand (ltb (linkField s) 7) 24 0) _ (d .1) in
+    let f = both (reaches s 48) _ (e .1) in
+    let r : 48 ≤ length s * 8 = reached s 48 (f .0) in
+    omega arith

@@ -1,0 +1,8 @@
+-- The laws of the job format. Assumes nothing.
+pub mod ListLaws
+pub mod FaultLaws
+pub mod SizeLaws
+pub mod RowLaws
+pub mod ByteLaws
+pub mod Written
+pub mod JobCases

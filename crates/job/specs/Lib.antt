@@ -1,0 +1,7 @@
+-- The job format, in both directions. Document 01, "The job and the program". Assumes nothing.
+pub mod Lists
+pub mod Format
+pub mod Places
+pub mod Faults
+pub mod Job
+pub mod Write

@@ -1,0 +1,5 @@
+-- The laws of lines. Assumes nothing.
+pub mod DigitLaws
+pub mod Pieces
+pub mod LineCases
+pub mod Unique

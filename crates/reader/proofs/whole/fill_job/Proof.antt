@@ -1,0 +1,126 @@
+-- `reader::fill_job` meets its contract: a sound job reaches as far as is read, and each list is laid over its slice. Assumes nothing.
+use mathlib.Core.Path.{refl}
+use native.Mathlib.Omega.{arith}
+use borrow.Author.Needs.{needs}
+use Rattle.job.proofs.RowLaws.{Fits, sound-fits}
+use Rattle.reader.specs.Reading.{lent}
+use Rattle.reader.proofs.Rooms.{Room, room-of, filled-is}
+use Rattle.reader.proofs.whole.fill_job.Statement.{statement}
+use Rattle.reader.proofs.whole.fill_job.Tie as tie
+
+fits : (c : tie.Start) → Fits (c .args .s .now)
+fits c = sound-fits _ (c .pre .0)
+
+room : (c : tie.Start) → Room (lent (c .args .theta .now) (c .args .y .now) (c .args .weights .now) (c .args .offset .now) (c .args .x .now) (c .args .starts .now) (c .args .columns .now) (c .args .values .now))
+room c = room-of _ (c .pre .1)
+
+counts-in-requires : tie.Need-counts-in-requires
+counts-in-requires c κs = fits (c .before .before .before .before .before .before .before .before .before) .fitting
+
+places-in-requires : tie.Need-places-in-requires
+places-in-requires c κs = fits (c .before .before .before .before .before .before .before .before .before .before) .fitting
+
+read-numbers-requires : tie.Need-read-numbers-requires
+read-numbers-requires c κs =
+    let a = c .before .before .before .before .before .before .before .before .before .before .before .before in
+    let f = fits a in
+    let r = room a in
+    rw (c .before .places-in .ensures .0, c .before .before .counts-in .ensures .0) (f .fitting .0 .0, omega (arith, f .whole), omega (arith, f .small .packed, r .thetaRoom))
+
+read-numbers-requires-2 : tie.Need-read-numbers-requires-2
+read-numbers-requires-2 c κs =
+    let a = c .before .before .before .before .before .before .before .before .before .before .before .before .before .before .before .before in
+    let f = fits a in
+    let r = room a in
+    rw (c .before .before .before .before .before .places-in .ensures .0, c .before .before .before .before .before .before .counts-in .ensures .0) (f .fitting .0 .0, omega (arith, f .whole), omega (arith, f .small .rows, r .yRoom))
+
+read-numbers-requires-3 : tie.Need-read-numbers-requires-3
+read-numbers-requires-3 c κs =
+    let a = c .before .before .before .before .before .before .before .before .before .before .before .before .before .before .before .before .before .before .before .before in
+    let f = fits a in
+    let r = room a in
+    rw (c .before .before .before .before .before .before .before .before .before .places-in .ensures .0, c .before .before .before .before .before .before .before .before .before .before .counts-in .ensures .0) (f .fitting .0 .0, omega (arith, f .whole), omega (arith, f .small .weighed, r .weightsRoom))
+
+read-numbers-requires-4 : tie.Need-read-numbers-requires-4
+read-numbers-requires-4 c κs =
+    let a = c .before .before .before .before .before .before .before .before .before .before .before .before .before .before .before .before .before .before .before .before .before .before .before .before in
+    let f = fits a in
+    let r = room a in
+    rw (c .before .before .before .before .before .before .before .before .before .before .before .before .before .places-in .ensures .0, c .before .before .before .before .before .before .before .before .before .before .before .before .before .before .counts-in .ensures .0) (f .fitting .0 .0, omega (arith, f .whole), omega (arith, f .small .moved, r .offsetRoom))
+
+read-numbers-requires-5 : tie.Need-read-numbers-requires-5
+read-numbers-requires-5 c κs =
+    let a = c .before .before .before .before .before .before .before .before .before .before .before .before .before .before .before .before .before .before .before .before .before .before .before .before .before .before .before .before in
+    let f = fits a in
+    let r = room a in
+    rw (c .before .before .before .before .before .before .before .before .before .before .before .before .before .before .before .before .before .places-in .ensures .0, c .before .before .before .before .before .before .before .before .before .before .before .before .before .before .before .before .before .before .counts-in .ensures .0) (f .fitting .0 .0, omega (arith, f .whole), omega (arith, f .small .grid, r .xRoom))
+
+read-rows-requires : tie.Need-read-rows-requires
+read-rows-requires c κs =
+    let a = c .before .before .before .before .before .before .before .before .before .before .before .before .before .before .before .before .before .before .before .before .before .before .before .before .before .before .before .before .before .before .before .before .before .before in
+    let f = fits a in
+    let r = room a in
+    rw (c .before .before .before .before .before .before .before .before .before .before .before .before .before .before .before .before .before .before .before .before .before .before .before .places-in .ensures .0, c .before .before .before .before .before .before .before .before .before .before .before .before .before .before .before .before .before .before .before .before .before .before .before .before .counts-in .ensures .0) ((f .fitting .0 .0, refl, omega (arith, f .ends)), (omega (arith, f .small .effects, r .startsRoom), r .columnsRoom, r .valuesRoom))
+
+same-length : tie.Need-same-length
+same-length c = search needs
+
+same-length-2 : tie.Need-same-length-2
+same-length-2 c = search needs
+
+same-length-3 : tie.Need-same-length-3
+same-length-3 c = search needs
+
+same-length-4 : tie.Need-same-length-4
+same-length-4 c = search needs
+
+same-length-5 : tie.Need-same-length-5
+same-length-5 c = search needs
+
+same-length-6 : tie.Need-same-length-6
+same-length-6 c = search needs
+
+same-length-7 : tie.Need-same-length-7
+same-length-7 c = search needs
+
+same-length-8 : tie.Need-same-length-8
+same-length-8 c = search needs
+
+returns : tie.Need-returns
+returns c =
+    let p = c .before .before .before .before .before .before .before .before .before .before .before .before .before .before .before .before .before .before .before .before .before .before .before .before .before .before .before .before .before .before .places-in .ensures .0 in
+    let n = c .before .before .before .before .before .before .before .before .before .before .before .before .before .before .before .before .before .before .before .before .before .before .before .before .before .before .before .before .before .before .before .counts-in .ensures .0 in
+    let w = c .before .before .before .before .before .before .read-rows .ensures in (
+      rw n at (w .0),
+      filled-is _ _ _ _ _ _ _ _ _ _
+          (rw (p, n) at (c .before .before .before .before .before .before .before .before .before .before .before .before .before .before .before .before .before .before .before .before .before .before .before .before .before .before .before .before .read-numbers .ensures))
+          (rw (p, n) at (c .before .before .before .before .before .before .before .before .before .before .before .before .before .before .before .before .before .before .before .before .before .before .before .before .read-numbers2 .ensures))
+          (rw (p, n) at (c .before .before .before .before .before .before .before .before .before .before .before .before .before .before .before .before .before .before .before .before .read-numbers3 .ensures))
+          (rw (p, n) at (c .before .before .before .before .before .before .before .before .before .before .before .before .before .before .before .before .read-numbers4 .ensures))
+          (rw (p, n) at (c .before .before .before .before .before .before .before .before .before .before .before .before .read-numbers5 .ensures))
+          (rw n at (w .1))
+          (rw n at (w .2))
+          (rw n at (w .3)),
+    )
+
+pub fill-job-spec : {M : Type 1} → statement M
+fill-job-spec =
+    tie.close
+    (tie.spec
+    counts-in-requires
+    places-in-requires
+    read-numbers-requires
+    read-numbers-requires-2
+    read-numbers-requires-3
+    read-numbers-requires-4
+    read-numbers-requires-5
+    read-rows-requires
+    same-length
+    same-length-2
+    same-length-3
+    same-length-4
+    same-length-5
+    same-length-6
+    same-length-7
+    same-length-8
+    returns)

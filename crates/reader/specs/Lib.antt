@@ -1,0 +1,2 @@
+-- Reading a job into lent slices. Document 01, "The job and the program". Assumes nothing.
+pub mod Reading

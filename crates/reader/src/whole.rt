@@ -1,0 +1,213 @@
+// A whole job: first every fault is looked for, then the numbers are read.
+use crate::lists::read_numbers;
+use crate::lists::read_rows;
+use job::Fault;
+use model::Family;
+use model::FamilyFound;
+use model::Limit;
+use model::Link;
+use model::LinkFound;
+use model::Settings;
+use model::Shape;
+ghost use mathlib.Core.Path.{_≡_};
+ghost use mathlib.Core.Bool.{true};
+ghost use Rattle.model.specs.Names.{familyCoded, linkCoded};
+ghost use Rattle.job.specs.Format.{rowsIn, startOf, shapeOf};
+ghost use Rattle.job.specs.Faults.{isSound, faultOf};
+ghost use Rattle.job.specs.Job.{familyFrom, linkFrom, limitFrom, jobOf};
+ghost use Rattle.reader.specs.Reading.{lent, roomy, headerOf, filled, ReadDone, shapeBy};
+
+// What is told of an accepted job beside its lists: the plain numbers of the call, and the lengths of theta, weights and offset.
+pub struct Header {
+    pub settings: Settings,
+    pub thetas: usize,
+    pub weights: usize,
+    pub offset: usize,
+}
+
+// A refusal's number and byte, or what is told of the job.
+pub enum Reading {
+    Refused(u64, usize),
+    Accepted(Header),
+}
+
+// Two bits always name a family.
+fn family_in(code: usize) -> Family
+    ensures { λ r. ⌜ r ≡ familyFrom (familyCoded code) ⌝ }
+{
+    match model::family_coded(code) {
+        FamilyFound::Found(family) => family,
+        FamilyFound::NoSuch => Family::Binomial,
+    }
+}
+
+// The link 7 is refused before.
+fn link_in(code: usize) -> Link
+    ensures { λ r. ⌜ r ≡ linkFrom (linkCoded code) ⌝ }
+{
+    match model::link_coded(code) {
+        LinkFound::Found(link) => link,
+        LinkFound::NoSuch => Link::Logit,
+    }
+}
+
+fn limit_in(code: usize) -> Limit
+    ensures { λ r. ⌜ r ≡ limitFrom code ⌝ }
+{
+    if code == 1023 {
+        return Limit::NotGiven;
+    }
+    Limit::Given(code)
+}
+
+// What is told of a sound job, given how many entries its rows have.
+fn header_in(s: &[u8], entries: usize) -> Header
+    requires { ⌜ isSound (faultOf (now s)) ≡ true ⌝ }
+    requires { ⌜ entries ≡ startOf (now s) (rowsIn (now s)) ⌝ }
+    ensures { λ r. ⌜ r ≡ headerOf (jobOf (now (s .entry))) ⌝ }
+{
+    let c = job::counts_in(s);
+    let family = family_in(bits::field_at(s, 4, 2));
+    let link = link_in(bits::field_at(s, 6, 3));
+    let n_agq = bits::field_at(s, 11, 5);
+    let limit = limit_in(bits::field_at(s, 38, 10));
+    let p = bits::field_at(s, 29, 5);
+    let n = c.n;
+    let rows = c.q;
+    let thetas = c.thetas;
+    let weights = c.weights;
+    let offset = c.offset;
+    let settings = Settings {
+        family,
+        link,
+        n_agq,
+        limit,
+        n,
+        p,
+        rows,
+        entries,
+    };
+    Header {
+        settings,
+        thetas,
+        weights,
+        offset,
+    }
+}
+
+// Whether the slices have room for any job that is not refused.
+fn room_in(
+    theta: &[f64],
+    y: &[f64],
+    weights: &[f64],
+    offset: &[f64],
+    x: &[f64],
+    starts: &[usize],
+    columns: &[usize],
+    values: &[f64],
+) -> bool
+    ensures { λ r. ⌜ r ≡ roomy (lent (now (theta .entry)) (now (y .entry)) (now (weights .entry)) (now (offset .entry)) (now (x .entry)) (now (starts .entry)) (now (columns .entry)) (now (values .entry))) ⌝ }
+{
+    if theta.len() < 288 {
+        return false;
+    }
+    if y.len() < 512 {
+        return false;
+    }
+    if weights.len() < 512 {
+        return false;
+    }
+    if offset.len() < 512 {
+        return false;
+    }
+    if x.len() < 8192 {
+        return false;
+    }
+    if starts.len() < 33 {
+        return false;
+    }
+    if columns.len() < 8192 {
+        return false;
+    }
+    8192 <= values.len()
+}
+
+// Every list of a sound job into the lent slices; answers the number of entries of Z'.
+fn fill_job(
+    s: &[u8],
+    theta: &mut [f64],
+    y: &mut [f64],
+    weights: &mut [f64],
+    offset: &mut [f64],
+    x: &mut [f64],
+    starts: &mut [usize],
+    columns: &mut [usize],
+    values: &mut [f64],
+) -> usize
+    requires { ⌜ isSound (faultOf (now s)) ≡ true ⌝ }
+    requires { ⌜ roomy (lent (now theta) (now y) (now weights) (now offset) (now x) (now starts) (now columns) (now values)) ≡ true ⌝ }
+    ensures { λ r. ⌜ (r ≡ startOf (now (s .entry)) (rowsIn (now (s .entry)))) × (lent (now (theta .exit)) (now (y .exit)) (now (weights .exit)) (now (offset .exit)) (now (x .exit)) (now (starts .exit)) (now (columns .exit)) (now (values .exit)) ≡ filled (jobOf (now (s .entry))) (lent (now (theta .entry)) (now (y .entry)) (now (weights .entry)) (now (offset .entry)) (now (x .entry)) (now (starts .entry)) (now (columns .entry)) (now (values .entry)))) ⌝ }
+{
+    let c = job::counts_in(s);
+    let at = job::places_in(s);
+    let thetas = c.thetas;
+    let theta_at = at.theta;
+    read_numbers(s, theta_at, thetas, theta);
+    let n = c.n;
+    let y_at = at.y;
+    read_numbers(s, y_at, n, y);
+    let weighted = c.weights;
+    let weights_at = at.weights;
+    read_numbers(s, weights_at, weighted, weights);
+    let shifted = c.offset;
+    let offset_at = at.offset;
+    read_numbers(s, offset_at, shifted, offset);
+    let cells = c.x;
+    let x_at = at.x;
+    read_numbers(s, x_at, cells, x);
+    let q = c.q;
+    let z = at.z;
+    read_rows(s, z, q, starts, columns, values)
+}
+
+// Reads a job. Slices without room for any job are refused with 2 at byte 0, whatever the job.
+pub fn read_job(
+    s: &[u8],
+    theta: &mut [f64],
+    y: &mut [f64],
+    weights: &mut [f64],
+    offset: &mut [f64],
+    x: &mut [f64],
+    starts: &mut [usize],
+    columns: &mut [usize],
+    values: &mut [f64],
+) -> Reading
+    ensures { λ r. ⌜ ReadDone (now (s .entry)) (lent (now (theta .entry)) (now (y .entry)) (now (weights .entry)) (now (offset .entry)) (now (x .entry)) (now (starts .entry)) (now (columns .entry)) (now (values .entry))) r (lent (now (theta .exit)) (now (y .exit)) (now (weights .exit)) (now (offset .exit)) (now (x .exit)) (now (starts .exit)) (now (columns .exit)) (now (values .exit))) ⌝ }
+{
+    let room = room_in(theta, y, weights, offset, x, starts, columns, values);
+    if !room {
+        return Reading::Refused(2, 0);
+    }
+    match job::fault_in(s) {
+        Fault::At(number, byte) => Reading::Refused(number, byte),
+        Fault::Sound => {
+            let entries = fill_job(s, theta, y, weights, offset, x, starts, columns, values);
+            let header = header_in(s, entries);
+            Reading::Accepted(header)
+        }
+    }
+}
+
+// The blocks of a job, which an answer cannot hold; none where the job is refused.
+pub fn read_shape(s: &[u8]) -> Shape
+    ensures { λ r. ⌜ r ≡ shapeBy (faultOf (now (s .entry))) (shapeOf (now (s .entry))) ⌝ }
+{
+    match job::fault_in(s) {
+        Fault::At(_, _) => Shape {
+            count: 0,
+            m: [0; 8],
+            k: [0; 8],
+        },
+        Fault::Sound => job::shape_in(s),
+    }
+}
