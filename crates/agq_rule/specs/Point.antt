@@ -13,17 +13,25 @@ use Rattle.quadrature.specs.declared.orders.Order.{Order}
 abbrev pub digit : ℕ → ℕ → ℕ → ℕ
 digit b t j = t / b ^ j % b
 
+-- what dimension j of point t takes from a row of b numbers
+unfoldable pub digitEntry : List Float → ℕ → ℕ → ℕ → Float
+digitEntry xs b t j = xs ! digit b t j
+
 -- z_j of point t
 unfoldable pub nodeAt : Order → ℕ → ℕ → Float
-nodeAt o t j = nodesOf o ! digit (sizeOf o) t j
+nodeAt o t j = digitEntry (nodesOf o) (sizeOf o) t j
 
 -- z of point t in k dimensions
 unfoldable pub pointOf : Order → ℕ → ℕ → List Float
 pointOf o k t = build (nodeAt o t) k
 
+-- ln w of dimension j, from a row of b weights
+unfoldable pub logEntry : List Float → ℕ → ℕ → ℕ → Float
+logEntry ws b t j = lnOf (digitEntry ws b t j)
+
 -- ln w of dimension j
 unfoldable pub logWeightAt : Order → ℕ → ℕ → Float
-logWeightAt o t j = lnOf (weightsOf o ! digit (sizeOf o) t j)
+logWeightAt o t j = logEntry (weightsOf o) (sizeOf o) t j
 
 -- the log weight of point t in k dimensions: the sum over them
 unfoldable pub logWeightOf : Order → ℕ → ℕ → Float

@@ -35,9 +35,13 @@ gainAt new old i = (new ! i) ⊖ (old ! i)
 unfoldable pub gainOf : ℕ → (ℕ → Bool) → List Float → List Float → Float
 gainOf n t new old = sumWhere n t (gainAt new old)
 
--- ((-½·dd)·inv_phi) - (½·pen), inv_phi = 1 / max (phi, E)
+-- inv_phi: 1 / max (phi, E)
+unfoldable pub inversePhi : Float → Float
+inversePhi phi = oneF ⊘ maxF phi epsF
+
+-- delta: ((-½·dd)·inv_phi) - (½·pen)
 unfoldable pub deltaOf : Float → Float → Float → Float
-deltaOf phi dd pen = ((neg halfF ⊗ dd) ⊗ (oneF ⊘ maxF phi epsF)) ⊖ (halfF ⊗ pen)
+deltaOf inv dd pen = ((neg halfF ⊗ dd) ⊗ inv) ⊖ (halfF ⊗ pen)
 
 -- t² - û² of effect i
 unfoldable pub penaltyAt : List Float → List Float → ℕ → Float
@@ -49,7 +53,7 @@ belongs Z s k i = anyTo k (λ r. stored Z (s + r) i)
 
 -- the log term of a point with the effects t: log weight + delta
 unfoldable pub termOf : Given → Mode → Float → (ℕ → Bool) → List Float → Float → Float → Float
-termOf G M phi test t logWeight pen = logWeight ⊕ deltaOf phi (gainOf (nOf G) test (effectsDeviances G (M .beta) t) (M .devs)) pen
+termOf G M phi test t logWeight pen = logWeight ⊕ deltaOf (inversePhi phi) (gainOf (nOf G) test (effectsDeviances G (M .beta) t) (M .devs)) pen
 
 -- ---- one effect a group
 
