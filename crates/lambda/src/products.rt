@@ -25,7 +25,7 @@ pub fn lambda_transposed(shape: Shape, theta: &[f64], q: usize, v: &mut [f64])
 }
 
 // A column's numbers, times x, to what stands in its rows.
-fn add_column(theta: &[f64], first: usize, count: usize, x: f64, j: usize, out: &mut [f64])
+pub fn add_column(theta: &[f64], first: usize, count: usize, x: f64, j: usize, out: &mut [f64])
     requires { ⌜ (first + count ≤ length (now theta)) × (j + count ≤ length (now out)) ⌝ }
     ensures { λ _. ⌜ now (out .exit) ≡ fillAt j count (columnAddedAt (now (theta .entry)) first x (now (out .entry)) j) (now (out .entry)) ⌝ }
 {

@@ -1,0 +1,3 @@
+-- What happens at one point, as the work slices hold it. Assumes nothing.
+pub mod Trial
+pub mod Gain

@@ -1,0 +1,158 @@
+// What a point's effects do to the deviance, at the observations that enter its sum.
+use family::CarriedFamily;
+use family::CarriedLink;
+use family::dev_resid;
+use family::link_inv;
+use family_lists::weight_at;
+use working::plus_offset;
+ghost use mathlib.Core.Path.{_≡_};
+ghost use Prim.Native.Nat.{_+_, _≤_};
+ghost use lib.ListN.{length};
+ghost use Rattle.base.specs.Sum.{addWhere, sumWhere};
+ghost use Rattle.base.specs.List.{build};
+ghost use Rattle.base.specs.Rows.{row, Wrote};
+ghost use Rattle.base.specs.Sparse.{Rows};
+ghost use Rattle.stored.specs.Stored.{sparse};
+ghost use Rattle.working.specs.Optional.{Optional};
+ghost use Rattle.agq_rule.specs.Term.{deltaOf};
+ghost use Rattle.points.specs.Gain.{marked, markAt, oneAt, entered, MarkedIn};
+
+// 1.0 into the row at mark: every observation enters.
+pub fn mark_all(n: usize, mark: usize, r: &mut [f64])
+    requires { ⌜ mark + n ≤ length (now r) ⌝ }
+    ensures { λ _. ⌜ Wrote mark n (build oneAt n) (now (r .entry)) (now (r .exit)) ⌝ }
+{
+    let mut i = 0;
+    while i < n {
+        r[mark + i] = 1.0;
+        i += 1;
+    }
+}
+
+// 1.0 into the row at mark wherever row a of Z' stores an observation.
+fn mark_one(
+    starts: &[usize],
+    columns: &[usize],
+    values: &[f64],
+    rows: usize,
+    n: usize,
+    a: usize,
+    mark: usize,
+    r: &mut [f64],
+)
+    requires { ⌜ Rows (now starts) (now columns) (now values) rows n ⌝ }
+    requires { ⌜ (a + 1 ≤ rows) × (mark + n ≤ length (now r)) ⌝ }
+    ensures { λ _. ⌜ MarkedIn (sparse (now (starts .entry)) (now (columns .entry)) (now (values .entry))) a mark n (now (r .entry)) (now (r .exit)) ⌝ }
+{
+    let end = starts[a + 1];
+    let mut k = starts[a];
+    while k < end {
+        let i = columns[k];
+        r[mark + i] = 1.0;
+        k += 1;
+    }
+}
+
+// 1.0 or 0.0 into the row at mark: whether one of the k rows of Z' from s on stores the observation.
+pub fn mark_group(
+    starts: &[usize],
+    columns: &[usize],
+    values: &[f64],
+    rows: usize,
+    n: usize,
+    s: usize,
+    k: usize,
+    mark: usize,
+    r: &mut [f64],
+)
+    requires { ⌜ Rows (now starts) (now columns) (now values) rows n ⌝ }
+    requires { ⌜ (s + k ≤ rows) × (mark + n ≤ length (now r)) ⌝ }
+    ensures { λ _. ⌜ Wrote mark n (build (markAt (sparse (now (starts .entry)) (now (columns .entry)) (now (values .entry))) s k) n) (now (r .entry)) (now (r .exit)) ⌝ }
+{
+    let e = mark + n;
+    base::wipe(&mut r[mark..e], n);
+    let mut i = 0;
+    while i < k {
+        let a = s + i;
+        mark_one(starts, columns, values, rows, n, a, mark, r);
+        i += 1;
+    }
+}
+
+// The sum with what observation i adds to it, where it is marked: only there a mean is formed. Xβ, the deviances at the mode, Zb of the point
+// and the mark stand in rows of r.
+fn add_gain(
+    family: CarriedFamily,
+    link: CarriedLink,
+    y: &[f64],
+    weights: &[f64],
+    offset: &[f64],
+    n: usize,
+    xbeta: usize,
+    devs: usize,
+    zb: usize,
+    mark: usize,
+    r: &[f64],
+    i: usize,
+    sum: f64,
+) -> f64
+    requires { ⌜ (i + 1 ≤ n) × (n ≤ length (now y)) × (Optional n (now offset)) × (xbeta + n ≤ length (now r)) × (devs + n ≤ length (now r)) × (zb + n ≤ length (now r)) × (mark + n ≤ length (now r)) ⌝ }
+    ensures { λ g. ⌜ g ≡ addWhere (marked (row mark n (now (r .entry))) i) sum (entered family link (now (y .entry)) (now (weights .entry)) (now (offset .entry)) (row xbeta n (now (r .entry))) (row zb n (now (r .entry))) (row devs n (now (r .entry))) i) ⌝ }
+{
+    if 0.0 < r[mark + i] {
+        let fixed = r[xbeta + i] + r[zb + i];
+        let eta = plus_offset(offset, i, fixed);
+        let mu = link_inv(link, eta);
+        let wt = weight_at(weights, i);
+        let dev = dev_resid(family, y[i], mu, wt);
+        return sum + (dev - r[devs + i]);
+    }
+    sum
+}
+
+// dd: the sum over the marked observations of the deviance at the point less that at the mode.
+pub fn deviance_gain(
+    family: CarriedFamily,
+    link: CarriedLink,
+    y: &[f64],
+    weights: &[f64],
+    offset: &[f64],
+    n: usize,
+    xbeta: usize,
+    devs: usize,
+    zb: usize,
+    mark: usize,
+    r: &[f64],
+) -> f64
+    requires { ⌜ (n ≤ length (now y)) × (Optional n (now offset)) × (xbeta + n ≤ length (now r)) × (devs + n ≤ length (now r)) × (zb + n ≤ length (now r)) × (mark + n ≤ length (now r)) ⌝ }
+    ensures { λ g. ⌜ g ≡ sumWhere n (marked (row mark n (now (r .entry)))) (entered family link (now (y .entry)) (now (weights .entry)) (now (offset .entry)) (row xbeta n (now (r .entry))) (row zb n (now (r .entry))) (row devs n (now (r .entry)))) ⌝ }
+{
+    let mut sum = 0.0;
+    let mut i = 0;
+    while i < n {
+        sum = add_gain(
+            family,
+            link,
+            y,
+            weights,
+            offset,
+            n,
+            xbeta,
+            devs,
+            zb,
+            mark,
+            r,
+            i,
+            sum,
+        );
+        i += 1;
+    }
+    sum
+}
+
+// delta of a point, from dd, inv_phi and the penalty.
+pub fn delta(inv_phi: f64, dd: f64, pen: f64) -> f64
+    ensures { λ r. ⌜ r ≡ deltaOf «inv_phi» dd pen ⌝ }
+{
+    -0.5 * dd * inv_phi - 0.5 * pen
+}
