@@ -1,0 +1,6 @@
+-- Laws and theorems of the dispersion loop. Assumes nothing.
+pub mod Turns
+pub mod Capped
+pub mod Higher
+pub mod Reported
+pub mod Unique

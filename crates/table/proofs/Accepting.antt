@@ -1,0 +1,140 @@
+-- Each line of the table: which refusal is given exactly when, and what an accepted call has. Assumes nothing.
+use mathlib.Core.Path.{_≡_, refl, sym, ap, _∙_}
+use mathlib.Core.Bool.{Bool, true, false, _&&_}
+use Prim.Native.Nat.{ℕ}
+use Rattle.base.specs.Sparse.{goodRows}
+use Rattle.base.proofs.Doubles.{ff}
+use Rattle.base.proofs.SparseRows.{good-rows}
+use Rattle.model.specs.Settings.{goodSizes}
+use Rattle.model.specs.declared.names.Family.{Family}
+use Rattle.model.specs.declared.names.Link.{Link}
+use Rattle.model.specs.declared.sizes.Shape.{Shape}
+use Rattle.model.specs.declared.sizes.Settings.{Settings}
+use Rattle.model.specs.declared.ends.Refusal.{Refusal}
+use Rattle.model.specs.declared.ends.Refusal.the-variants.{OutOfRange, Lengths, Work, SparseRows, NotFinite, LinkForFamily, NotCarried}
+use Rattle.model.proofs.Sized.{sized}
+use Rattle.model.proofs.Tests.{both}
+use Rattle.family.specs.Carried.{carriedFamily, carriedLink, validFor}
+use Rattle.family.specs.declared.carried.CarriedFamily.{CarriedFamily}
+use Rattle.family.specs.declared.carried.CarriedLink.{CarriedLink}
+use Rattle.family.specs.declared.carried.FamilyCarried.{FamilyCarried}
+use Rattle.family.specs.declared.carried.FamilyCarried.the-variants as familyCarried
+use Rattle.family.specs.declared.carried.LinkCarried.{LinkCarried}
+use Rattle.family.specs.declared.carried.LinkCarried.the-variants as linkCarried
+use Rattle.table.specs.Tests.{Inputs, goodInputs, goodResults, goodWork, goodNumbers}
+use Rattle.table.specs.Table.{refuseUnless, withLink, withFamily, carriedPair, tableOf}
+use Rattle.table.specs.Facts.{Sound}
+use Rattle.table.specs.declared.verdicts.Lent.{Lent}
+use Rattle.table.specs.declared.verdicts.Verdict.{Verdict}
+use Rattle.table.specs.declared.verdicts.Verdict.the-variants.{Accepted, Refused}
+use Rattle.table.proofs.Meant.{inputs-fit, results-fit, work-fits, numbers-finite}
+
+-- ---- the lines, from the first to the last
+module _ (r : ℕ) (t : Settings) (s : Shape) (I : Inputs) (L : Lent) where
+  pub line-1 : goodSizes t s ≡ false → tableOf r t s I L ≡ Refused OutOfRange
+  unfolding tableOf refuseUnless
+  line-1 a = rw a refl
+
+  module _ (sizes : goodSizes t s ≡ true) where
+    pub line-2-inputs : goodInputs r t s I ≡ false → tableOf r t s I L ≡ Refused Lengths
+    unfolding tableOf refuseUnless
+    line-2-inputs a = rw (sizes, a) refl
+
+    module _ (lent : goodInputs r t s I ≡ true) where
+      pub line-2-results : goodResults r t L ≡ false → tableOf r t s I L ≡ Refused Lengths
+      unfolding tableOf refuseUnless
+      line-2-results a = rw (sizes, lent, a) refl
+
+      module _ (results : goodResults r t L ≡ true) where
+        pub line-7 : goodWork t L ≡ false → tableOf r t s I L ≡ Refused Work
+        unfolding tableOf refuseUnless
+        line-7 a = rw (sizes, lent, results, a) refl
+
+        module _ (work : goodWork t L ≡ true) where
+          pub line-6 : goodRows (I .starts) (I .columns) (t .rows) (t .n) ≡ false → tableOf r t s I L ≡ Refused SparseRows
+          unfolding tableOf refuseUnless
+          line-6 a = rw (sizes, lent, results, work, a) refl
+
+          module _ (rows : goodRows (I .starts) (I .columns) (t .rows) (t .n) ≡ true) where
+            pub line-3 : goodNumbers I ≡ false → tableOf r t s I L ≡ Refused NotFinite
+            unfolding tableOf refuseUnless
+            line-3 a = rw (sizes, lent, results, work, rows, a) refl
+
+            module _ (numbers : goodNumbers I ≡ true) where
+              pub line-4 : validFor (t .link) (t .family) ≡ false → tableOf r t s I L ≡ Refused LinkForFamily
+              unfolding tableOf refuseUnless
+              line-4 a = rw (sizes, lent, results, work, rows, numbers, a) refl
+
+              pub line-5 : validFor (t .link) (t .family) ≡ true → tableOf r t s I L ≡ carriedPair (t .family) (t .link)
+              unfolding tableOf refuseUnless
+              line-5 a = rw (sizes, lent, results, work, rows, numbers, a) refl
+
+-- ---- the last line
+module _ (family : Family) (link : Link) where
+  pub no-family : carriedFamily family ≡ familyCarried.NotYet → carriedPair family link ≡ Refused NotCarried
+  unfolding carriedPair withFamily
+  no-family a = ap (λ (x : FamilyCarried). withFamily x (carriedLink link)) a
+
+  pub some-family : (f : CarriedFamily) → carriedFamily family ≡ familyCarried.Carried f → carriedPair family link ≡ withLink f (carriedLink link)
+  unfolding carriedPair withFamily
+  some-family f a = ap (λ (x : FamilyCarried). withFamily x (carriedLink link)) a
+
+  pub no-link : (f : CarriedFamily) → carriedFamily family ≡ familyCarried.Carried f → carriedLink link ≡ linkCarried.NotYet → carriedPair family link ≡ Refused NotCarried
+  unfolding withLink
+  no-link f a b = some-family f a ∙ ap (λ (x : LinkCarried). withLink f x) b
+
+  pub both-carried : (f : CarriedFamily) (l : CarriedLink) → carriedFamily family ≡ familyCarried.Carried f → carriedLink link ≡ linkCarried.Carried l → carriedPair family link ≡ Accepted f l
+  unfolding withLink
+  both-carried f l a b = some-family f a ∙ ap (λ (x : LinkCarried). withLink f x) b
+
+-- ---- an accepted call passed every test
+-- a verdict accepts
+abbrev isAccepted : Verdict → Bool
+isAccepted (Accepted f l) = true
+isAccepted (Refused refusal) = false
+
+-- the family of an accepting verdict, f of any other
+abbrev familyIn : CarriedFamily → Verdict → CarriedFamily
+familyIn f (Accepted g l) = g
+familyIn f (Refused refusal) = f
+
+-- the link of an accepting verdict, l of any other
+abbrev linkIn : CarriedLink → Verdict → CarriedLink
+linkIn l (Accepted f k) = k
+linkIn l (Refused refusal) = l
+
+-- a line that accepts is passed
+passed : (b : Bool) (refusal : Refusal) (rest : Verdict) (f : CarriedFamily) (l : CarriedLink) → refuseUnless b refusal rest ≡ Accepted f l → (b ≡ true) × (rest ≡ Accepted f l)
+unfolding refuseUnless
+passed true refusal rest f l e = (refl, e)
+passed false refusal rest f l e = absurd (ff (ap isAccepted e))
+
+last-line : (x : FamilyCarried) (y : LinkCarried) (f : CarriedFamily) (l : CarriedLink) → withFamily x y ≡ Accepted f l → (x ≡ familyCarried.Carried f) × (y ≡ linkCarried.Carried l)
+unfolding withFamily withLink
+last-line (familyCarried.Carried g) (linkCarried.Carried k) f l e = (ap (λ (x : Verdict). familyCarried.Carried (familyIn f x)) e, ap (λ (x : Verdict). linkCarried.Carried (linkIn l x)) e)
+last-line (familyCarried.Carried g) linkCarried.NotYet f l e = absurd (ff (ap isAccepted e))
+last-line familyCarried.NotYet y f l e = absurd (ff (ap isAccepted e))
+
+pub accepted-sound : (r : ℕ) (t : Settings) (s : Shape) (I : Inputs) (L : Lent) (f : CarriedFamily) (l : CarriedLink) → tableOf r t s I L ≡ Accepted f l → Sound r t s I L f l
+unfolding tableOf carriedPair
+accepted-sound r t s I L f l e =
+    let a = passed (goodSizes t s) OutOfRange _ f l e in
+    let b = passed (goodInputs r t s I && goodResults r t L) Lengths _ f l (a .1) in
+    let c = passed (goodWork t L) Work _ f l (b .1) in
+    let d = passed (goodRows (I .starts) (I .columns) (t .rows) (t .n)) SparseRows _ f l (c .1) in
+    let g = passed (goodNumbers I) NotFinite _ f l (d .1) in
+    let h = passed (validFor (t .link) (t .family)) LinkForFamily _ f l (g .1) in
+    let k = last-line (carriedFamily (t .family)) (carriedLink (t .link)) f l (h .1) in
+    let m : (goodInputs r t s I ≡ true) × (goodResults r t L ≡ true) = both (b .0) in
+    let n = inputs-fit r t s I (m .0) in
+    record {
+      sized = sized t s (a .0);
+      inputs-fit = n;
+      results-fit = results-fit r t L (m .1);
+      work-fits = work-fits t L (c .0);
+      rows = good-rows (I .starts) (I .columns) (I .values) (t .rows) (t .n) (n .starts) (n .columns ∙ sym (n .values)) (sym (d .0));
+      numbers = numbers-finite I (g .0);
+      valid = h .0;
+      family = k .0;
+      link = k .1;
+    }

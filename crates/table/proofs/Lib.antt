@@ -1,0 +1,4 @@
+-- The laws that the proofs of the table cite, and its theorems. Assumes nothing.
+pub mod Meant
+pub mod Accepting
+pub mod Unique

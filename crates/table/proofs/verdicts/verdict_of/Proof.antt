@@ -1,0 +1,78 @@
+-- `table::verdict_of` meets its contract: its tests are the table's lines, in their order.
+use mathlib.Core.Path.{sym, _∙_}
+use native.Mathlib.Omega.{arith}
+use borrow.Author.Tests.{not-true, not-false}
+use Rattle.model.proofs.Sized.{sized}
+use Rattle.table.proofs.Meant.{inputs-fit}
+use Rattle.table.proofs.Accepting.{line-1, line-2-inputs, line-2-results, line-7, line-6, line-3, line-4, line-5}
+use Rattle.table.proofs.verdicts.verdict_of.Statement.{statement}
+use Rattle.table.proofs.verdicts.verdict_of.Tie as tie
+
+sizes-ok-requires : tie.Need-sizes-ok-requires
+sizes-ok-requires c κs = omega arith
+
+returns : tie.Need-returns
+returns c = sym (line-1 _ _ _ _ _ (sym (c .before .sizes-ok .ensures) ∙ not-true _ (c .if1 .taken)))
+
+inputs-ok-requires : tie.Need-inputs-ok-requires
+inputs-ok-requires c κs = (sym (c .before .sizes-ok .ensures) ∙ not-false _ (c .if1 .left), omega arith)
+
+returns-2 : tie.Need-returns-2
+returns-2 c = sym (line-2-inputs _ _ _ _ _ (sym (c .before .before .before .sizes-ok .ensures) ∙ not-false _ (c .before .before .if1 .left)) (sym (c .before .inputs-ok .ensures) ∙ not-true _ (c .if2 .taken)))
+
+results-ok-requires : tie.Need-results-ok-requires
+results-ok-requires c κs = (sized _ _ (sym (c .before .before .before .sizes-ok .ensures) ∙ not-false _ (c .before .before .if1 .left)) .sizes, omega arith)
+
+returns-3 : tie.Need-returns-3
+returns-3 c = sym (line-2-results _ _ _ _ _ (sym (c .before .before .before .before .before .sizes-ok .ensures) ∙ not-false _ (c .before .before .before .before .if1 .left)) (sym (c .before .before .before .inputs-ok .ensures) ∙ not-false _ (c .before .before .if2 .left)) (sym (c .before .results-ok .ensures) ∙ not-true _ (c .if3 .taken)))
+
+work-ok-requires : tie.Need-work-ok-requires
+work-ok-requires c κs = sized _ _ (sym (c .before .before .before .before .before .sizes-ok .ensures) ∙ not-false _ (c .before .before .before .before .if1 .left)) .sizes
+
+returns-4 : tie.Need-returns-4
+returns-4 c = sym (line-7 _ _ _ _ _ (sym (c .before .before .before .before .before .before .before .sizes-ok .ensures) ∙ not-false _ (c .before .before .before .before .before .before .if1 .left)) (sym (c .before .before .before .before .before .inputs-ok .ensures) ∙ not-false _ (c .before .before .before .before .if2 .left)) (sym (c .before .before .before .results-ok .ensures) ∙ not-false _ (c .before .before .if3 .left)) (sym (c .before .work-ok .ensures) ∙ not-true _ (c .if4 .taken)))
+
+rows-ok-requires : tie.Need-rows-ok-requires
+rows-ok-requires c κs = let f = inputs-fit _ _ _ _ (sym (c .before .before .before .before .before .inputs-ok .ensures) ∙ not-false _ (c .before .before .before .before .if2 .left)) in omega (arith, f .starts)
+
+returns-5 : tie.Need-returns-5
+returns-5 c = sym (line-6 _ _ _ _ _ (sym (c .before .before .before .before .before .before .before .before .before .sizes-ok .ensures) ∙ not-false _ (c .before .before .before .before .before .before .before .before .if1 .left)) (sym (c .before .before .before .before .before .before .before .inputs-ok .ensures) ∙ not-false _ (c .before .before .before .before .before .before .if2 .left)) (sym (c .before .before .before .before .before .results-ok .ensures) ∙ not-false _ (c .before .before .before .before .if3 .left)) (sym (c .before .before .before .work-ok .ensures) ∙ not-false _ (c .before .before .if4 .left)) (sym (c .before .rows-ok .ensures) ∙ not-true _ (c .if5 .taken)))
+
+numbers-ok-requires : tie.Need-numbers-ok-requires
+numbers-ok-requires c κs = omega arith
+
+returns-6 : tie.Need-returns-6
+returns-6 c = sym (line-3 _ _ _ _ _ (sym (c .before .before .before .before .before .before .before .before .before .before .before .sizes-ok .ensures) ∙ not-false _ (c .before .before .before .before .before .before .before .before .before .before .if1 .left)) (sym (c .before .before .before .before .before .before .before .before .before .inputs-ok .ensures) ∙ not-false _ (c .before .before .before .before .before .before .before .before .if2 .left)) (sym (c .before .before .before .before .before .before .before .results-ok .ensures) ∙ not-false _ (c .before .before .before .before .before .before .if3 .left)) (sym (c .before .before .before .before .before .work-ok .ensures) ∙ not-false _ (c .before .before .before .before .if4 .left)) (sym (c .before .before .before .rows-ok .ensures) ∙ not-false _ (c .before .before .if5 .left)) (sym (c .before .numbers-ok .ensures) ∙ not-true _ (c .if6 .taken)))
+
+valid-for-requires : tie.Need-valid-for-requires
+valid-for-requires c κs = omega arith
+
+returns-7 : tie.Need-returns-7
+returns-7 c = sym (line-4 _ _ _ _ _ (sym (c .before .before .before .before .before .before .before .before .before .before .before .before .before .sizes-ok .ensures) ∙ not-false _ (c .before .before .before .before .before .before .before .before .before .before .before .before .if1 .left)) (sym (c .before .before .before .before .before .before .before .before .before .before .before .inputs-ok .ensures) ∙ not-false _ (c .before .before .before .before .before .before .before .before .before .before .if2 .left)) (sym (c .before .before .before .before .before .before .before .before .before .results-ok .ensures) ∙ not-false _ (c .before .before .before .before .before .before .before .before .if3 .left)) (sym (c .before .before .before .before .before .before .before .work-ok .ensures) ∙ not-false _ (c .before .before .before .before .before .before .if4 .left)) (sym (c .before .before .before .before .before .rows-ok .ensures) ∙ not-false _ (c .before .before .before .before .if5 .left)) (sym (c .before .before .before .numbers-ok .ensures) ∙ not-false _ (c .before .before .if6 .left)) (sym (c .before .valid-for .ensures) ∙ not-true _ (c .if7 .taken)))
+
+carried-pair-requires : tie.Need-carried-pair-requires
+carried-pair-requires c κs = omega arith
+
+returns-8 : tie.Need-returns-8
+returns-8 c = c .carried-pair .ensures ∙ sym (line-5 _ _ _ _ _ (sym (c .before .before .before .before .before .before .before .before .before .before .before .before .before .before .sizes-ok .ensures) ∙ not-false _ (c .before .before .before .before .before .before .before .before .before .before .before .before .before .if1 .left)) (sym (c .before .before .before .before .before .before .before .before .before .before .before .before .inputs-ok .ensures) ∙ not-false _ (c .before .before .before .before .before .before .before .before .before .before .before .if2 .left)) (sym (c .before .before .before .before .before .before .before .before .before .before .results-ok .ensures) ∙ not-false _ (c .before .before .before .before .before .before .before .before .before .if3 .left)) (sym (c .before .before .before .before .before .before .before .before .work-ok .ensures) ∙ not-false _ (c .before .before .before .before .before .before .before .if4 .left)) (sym (c .before .before .before .before .before .before .rows-ok .ensures) ∙ not-false _ (c .before .before .before .before .before .if5 .left)) (sym (c .before .before .before .before .numbers-ok .ensures) ∙ not-false _ (c .before .before .before .if6 .left)) (sym (c .before .before .valid-for .ensures) ∙ not-false _ (c .before .if7 .left)))
+
+pub verdict-of-spec : {M : Type 1} → statement M
+verdict-of-spec =
+    tie.close
+    (tie.spec
+    sizes-ok-requires
+    returns
+    inputs-ok-requires
+    returns-2
+    results-ok-requires
+    returns-3
+    work-ok-requires
+    returns-4
+    rows-ok-requires
+    returns-5
+    numbers-ok-requires
+    returns-6
+    valid-for-requires
+    returns-7
+    carried-pair-requires
+    returns-8)

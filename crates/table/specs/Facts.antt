@@ -1,0 +1,83 @@
+-- What the tests of the table mean, as facts, and what an accepted call of one response has. Assumes nothing.
+use mathlib.Core.Path.{_≡_}
+use mathlib.Core.List.{List}
+use mathlib.Core.Logic.{_⊎_}
+use mathlib.Core.Bool.{true}
+use Prim.Native.Nat.{ℕ, _+_, _*_, _≤_, _<_}
+use lib.ListN.{length}
+use lib.Ieee.{Float}
+use Rattle.base.specs.Number.{finite}
+use Rattle.base.specs.Sum.{_!_}
+use Rattle.base.specs.Sparse.{Rows}
+use Rattle.model.specs.Shape.{thetaLength}
+use Rattle.model.specs.Settings.{Sized}
+use Rattle.model.specs.declared.sizes.Shape.{Shape}
+use Rattle.model.specs.declared.sizes.Settings.{Settings}
+use Rattle.layout.specs.WorkRows.{rowsLength}
+use Rattle.layout.specs.WorkMatrices.{matricesLength}
+use Rattle.layout.specs.WorkTerms.{termsLength}
+use Rattle.family.specs.Carried.{carriedFamily, carriedLink, validFor}
+use Rattle.family.specs.declared.carried.CarriedFamily.{CarriedFamily}
+use Rattle.family.specs.declared.carried.CarriedLink.{CarriedLink}
+use Rattle.family.specs.declared.carried.FamilyCarried.the-variants as familyCarried
+use Rattle.family.specs.declared.carried.LinkCarried.the-variants as linkCarried
+use Rattle.table.specs.Tests.{Inputs}
+use Rattle.table.specs.declared.verdicts.Lent.{Lent}
+
+-- a list is absent, or has n numbers
+abbrev pub AbsentOr : ℕ → List Float → Type 0
+AbsentOr n l = (length l ≡ 0) ⊎ (length l ≡ n)
+
+-- each lent input is as long as the sizes say
+pub record InputsFit (r : ℕ) (t : Settings) (s : Shape) (I : Inputs) : Type 0 where
+  pub theta : length (I .theta) ≡ thetaLength s
+  pub y : length (I .y) ≡ r * t .n
+  pub weights : AbsentOr (t .n) (I .weights)
+  pub offset : AbsentOr (t .n) (I .offset)
+  pub x : length (I .x) ≡ t .n * t .p
+  pub starts : length (I .starts) ≡ t .rows + 1
+  pub columns : length (I .columns) ≡ t .entries
+  pub values : length (I .values) ≡ t .entries
+
+-- each lent result is as long as the sizes say
+pub record ResultsFit (r : ℕ) (t : Settings) (L : Lent) : Type 0 where
+  pub beta : L .beta ≡ r * t .p
+  pub se : L .se ≡ r * t .p
+  pub z : L .z ≡ r * t .p
+  pub u : L .u ≡ r * t .rows
+  pub b : L .b ≡ r * t .rows
+  pub mu : L .mu ≡ r * t .n
+  pub eta : L .eta ≡ r * t .n
+  pub residual : L .residual ≡ r * t .n
+  pub v : L .v ≡ r * t .p * t .p
+
+-- each work slice has its named length
+pub record WorkFits (t : Settings) (L : Lent) : Type 0 where
+  pub rows : rowsLength (t .n) ≤ L .rows
+  pub matrices : matricesLength (t .p) (t .rows) ≤ L .matrices
+  pub terms : termsLength ≤ L .terms
+
+-- every number of a list is finite
+abbrev pub AllFinite : List Float → Type 0
+AllFinite xs = (i : ℕ) → i < length xs → finite (xs ! i) ≡ true
+
+-- every input number is
+pub record NumbersFinite (I : Inputs) : Type 0 where
+  pub theta : AllFinite (I .theta)
+  pub y : AllFinite (I .y)
+  pub weights : AllFinite (I .weights)
+  pub offset : AllFinite (I .offset)
+  pub x : AllFinite (I .x)
+  pub values : AllFinite (I .values)
+
+-- what a call has that is accepted with the formulas of f and l
+pub record Sound (r : ℕ) (t : Settings) (s : Shape) (I : Inputs) (L : Lent) (f : CarriedFamily) (l : CarriedLink) : Type 0 where
+  pub sized : Sized t s
+  pub inputs-fit : InputsFit r t s I
+  pub results-fit : ResultsFit r t L
+  pub work-fits : WorkFits t L
+  pub rows : Rows (I .starts) (I .columns) (I .values) (t .rows) (t .n)
+  pub numbers : NumbersFinite I
+  pub valid : validFor (t .link) (t .family) ≡ true
+  pub family : carriedFamily (t .family) ≡ familyCarried.Carried f
+  pub link : carriedLink (t .link) ≡ linkCarried.Carried l

@@ -1,0 +1,51 @@
+-- The table of refusals, in its order: 1, 2, 7, 6, 3, 4, 5. Document 01, "Numbers of an answer". Assumes nothing.
+use mathlib.Core.Bool.{Bool, true, false, _&&_}
+use Prim.Native.Nat.{ℕ}
+use Rattle.base.specs.Sparse.{goodRows}
+use Rattle.model.specs.Settings.{goodSizes}
+use Rattle.model.specs.declared.names.Family.{Family}
+use Rattle.model.specs.declared.names.Link.{Link}
+use Rattle.model.specs.declared.sizes.Shape.{Shape}
+use Rattle.model.specs.declared.sizes.Settings.{Settings}
+use Rattle.model.specs.declared.ends.Refusal.{Refusal}
+use Rattle.model.specs.declared.ends.Refusal.the-variants.{OutOfRange, Lengths, Work, SparseRows, NotFinite, LinkForFamily, NotCarried}
+use Rattle.family.specs.Carried.{carriedFamily, carriedLink, validFor}
+use Rattle.family.specs.declared.carried.CarriedFamily.{CarriedFamily}
+use Rattle.family.specs.declared.carried.FamilyCarried.{FamilyCarried}
+use Rattle.family.specs.declared.carried.FamilyCarried.the-variants as familyCarried
+use Rattle.family.specs.declared.carried.LinkCarried.{LinkCarried}
+use Rattle.family.specs.declared.carried.LinkCarried.the-variants as linkCarried
+use Rattle.table.specs.Tests.{Inputs, goodInputs, goodResults, goodWork, goodNumbers}
+use Rattle.table.specs.declared.verdicts.Lent.{Lent}
+use Rattle.table.specs.declared.verdicts.Verdict.{Verdict}
+use Rattle.table.specs.declared.verdicts.Verdict.the-variants.{Accepted, Refused}
+
+-- one line of the table: the refusal where the test fails, else the lines that follow
+unfoldable pub refuseUnless : Bool → Refusal → Verdict → Verdict
+refuseUnless true refusal rest = rest
+refuseUnless false refusal rest = Refused refusal
+
+-- by the link's formulas
+unfoldable pub withLink : CarriedFamily → LinkCarried → Verdict
+withLink f (linkCarried.Carried l) = Accepted f l
+withLink f linkCarried.NotYet = Refused NotCarried
+
+-- by the family's formulas
+unfoldable pub withFamily : FamilyCarried → LinkCarried → Verdict
+withFamily (familyCarried.Carried f) link = withLink f link
+withFamily familyCarried.NotYet link = Refused NotCarried
+
+-- the last line: a family and a link that are carried are accepted, Gamma and probit are not
+unfoldable pub carriedPair : Family → Link → Verdict
+carriedPair family link = withFamily (carriedFamily family) (carriedLink link)
+
+-- the table, for r responses on one design
+unfoldable pub tableOf : ℕ → Settings → Shape → Inputs → Lent → Verdict
+tableOf r t s I L =
+    refuseUnless (goodSizes t s) OutOfRange
+    (refuseUnless (goodInputs r t s I && goodResults r t L) Lengths
+    (refuseUnless (goodWork t L) Work
+    (refuseUnless (goodRows (I .starts) (I .columns) (t .rows) (t .n)) SparseRows
+    (refuseUnless (goodNumbers I) NotFinite
+    (refuseUnless (validFor (t .link) (t .family)) LinkForFamily
+    (carriedPair (t .family) (t .link)))))))

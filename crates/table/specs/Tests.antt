@@ -1,0 +1,69 @@
+-- The tests of the table, but that of the sizes (number 1, `goodSizes` of model) and that of Z' (number 6, `goodRows` of base). Document 01, "Numbers of an answer" and "What the port carries". Assumes nothing.
+use mathlib.Core.List.{List}
+use mathlib.Core.Bool.{Bool, _&&_, _||_}
+use Prim.Native.Nat.{ℕ, _+_, _*_}
+use lib.Dec.{leb, eqb}
+use lib.ListN.{length}
+use lib.Ieee.{Float}
+use Rattle.base.specs.Sum.{allTo, finiteAt}
+use Rattle.model.specs.Shape.{thetaLength}
+use Rattle.model.specs.declared.sizes.Shape.{Shape}
+use Rattle.model.specs.declared.sizes.Settings.{Settings}
+use Rattle.layout.specs.WorkRows.{rowsLength}
+use Rattle.layout.specs.WorkMatrices.{matricesLength}
+use Rattle.layout.specs.WorkTerms.{termsLength}
+use Rattle.table.specs.declared.verdicts.Lent.{Lent}
+
+-- the lent inputs; Z' by its row starts, columns and values
+pub record Inputs : Type 0 where
+  pub theta : List Float
+  pub y : List Float
+  pub weights : List Float
+  pub offset : List Float
+  pub x : List Float
+  pub starts : List ℕ
+  pub columns : List ℕ
+  pub values : List Float
+
+-- eight lists as inputs
+abbrev pub inputs : List Float → List Float → List Float → List Float → List Float → List ℕ → List ℕ → List Float → Inputs
+inputs theta y weights offset x starts columns values =
+    record { theta = theta; y = y; weights = weights; offset = offset; x = x; starts = starts; columns = columns; values = values }
+
+-- ---- number 2, with r responses on one design
+
+-- a list that may be absent is empty or has n numbers
+unfoldable pub absentOr : ℕ → ℕ → Bool
+absentOr n l = eqb l 0 || eqb l n
+
+-- each lent input is as long as the sizes say
+unfoldable pub goodInputs : ℕ → Settings → Shape → Inputs → Bool
+goodInputs r t s I =
+    eqb (length (I .theta)) (thetaLength s) && eqb (length (I .y)) (r * t .n) && absentOr (t .n) (length (I .weights)) && absentOr (t .n) (length (I .offset))
+    && eqb (length (I .x)) (t .n * t .p) && eqb (length (I .starts)) (t .rows + 1) && eqb (length (I .columns)) (t .entries) && eqb (length (I .values)) (t .entries)
+
+-- each lent result is as long as the sizes say
+unfoldable pub goodResults : ℕ → Settings → Lent → Bool
+goodResults r t L =
+    eqb (L .beta) (r * t .p) && eqb (L .se) (r * t .p) && eqb (L .z) (r * t .p) && eqb (L .u) (r * t .rows) && eqb (L .b) (r * t .rows) && eqb (L .mu) (r * t .n)
+    && eqb (L .eta) (r * t .n) && eqb (L .residual) (r * t .n) && eqb (L .v) (r * t .p * t .p)
+
+-- ---- number 7
+
+-- each work slice has its named length: 16n, 3q² + 4p² + 2qp + 12(q + p), 7,000 numbers
+unfoldable pub goodWork : Settings → Lent → Bool
+goodWork t L = leb (rowsLength (t .n)) (L .rows) && leb (matricesLength (t .p) (t .rows)) (L .matrices) && leb termsLength (L .terms)
+
+-- ---- number 3
+
+-- no entry is NaN or infinite
+unfoldable pub allFinite : List Float → Bool
+allFinite xs = allTo (length xs) (finiteAt xs)
+
+-- nor is one of any of six lists
+unfoldable pub finiteNumbers : List Float → List Float → List Float → List Float → List Float → List Float → Bool
+finiteNumbers theta y weights offset x values = allFinite theta && allFinite y && allFinite weights && allFinite offset && allFinite x && allFinite values
+
+-- no input number is NaN or infinite
+abbrev pub goodNumbers : Inputs → Bool
+goodNumbers I = finiteNumbers (I .theta) (I .y) (I .weights) (I .offset) (I .x) (I .values)

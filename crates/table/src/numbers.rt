@@ -1,0 +1,40 @@
+// The test of the numbers.
+use base::all_finite;
+ghost use mathlib.Core.Path.{_≡_};
+ghost use Rattle.table.specs.Tests.{allFinite, finiteNumbers};
+
+// Whether every number of a list is finite.
+fn list_ok(xs: &[f64]) -> bool
+    ensures { λ r. ⌜ r ≡ allFinite (now (xs .entry)) ⌝ }
+{
+    all_finite(xs, xs.len())
+}
+
+// Whether every input number is finite.
+pub fn numbers_ok(
+    theta: &[f64],
+    y: &[f64],
+    weights: &[f64],
+    offset: &[f64],
+    x: &[f64],
+    values: &[f64],
+) -> bool
+    ensures { λ r. ⌜ r ≡ finiteNumbers (now (theta .entry)) (now (y .entry)) (now (weights .entry)) (now (offset .entry)) (now (x .entry)) (now (values .entry)) ⌝ }
+{
+    if !list_ok(theta) {
+        return false;
+    }
+    if !list_ok(y) {
+        return false;
+    }
+    if !list_ok(weights) {
+        return false;
+    }
+    if !list_ok(offset) {
+        return false;
+    }
+    if !list_ok(x) {
+        return false;
+    }
+    list_ok(values)
+}

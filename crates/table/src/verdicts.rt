@@ -1,0 +1,106 @@
+// The tests of the table, asked in its order.
+use crate::lengths::inputs_ok;
+use crate::lengths::results_ok;
+use crate::lengths::work_ok;
+use crate::numbers::numbers_ok;
+use family::CarriedFamily;
+use family::CarriedLink;
+use family::FamilyCarried;
+use family::LinkCarried;
+use model::Family;
+use model::Link;
+use model::Refusal;
+use model::Settings;
+use model::Shape;
+ghost use mathlib.Core.Path.{_≡_};
+ghost use Rattle.table.specs.Tests.{inputs};
+ghost use Rattle.table.specs.Table.{carriedPair, tableOf};
+
+// How long the lent results and the lent work slices are.
+pub struct Lent {
+    pub beta: usize,
+    pub se: usize,
+    pub z: usize,
+    pub u: usize,
+    pub b: usize,
+    pub mu: usize,
+    pub eta: usize,
+    pub residual: usize,
+    pub v: usize,
+    pub rows: usize,
+    pub matrices: usize,
+    pub terms: usize,
+}
+
+// What becomes of a call: it is fitted by the formulas of its family and link, or refused.
+pub enum Verdict {
+    Accepted(CarriedFamily, CarriedLink),
+    Refused(Refusal),
+}
+
+// The last line of the table.
+fn carried_pair(family: Family, link: Link) -> Verdict
+    ensures { λ r. ⌜ r ≡ carriedPair family link ⌝ }
+{
+    let FamilyCarried::Carried(f) = family::carried_family(family) else {
+        return Verdict::Refused(Refusal::NotCarried);
+    };
+    let LinkCarried::Carried(l) = family::carried_link(link) else {
+        return Verdict::Refused(Refusal::NotCarried);
+    };
+    Verdict::Accepted(f, l)
+}
+
+// The first test that fails gives the refusal. Each test may rely on those before it: no product is formed of sizes that are out of range, and no entry is read past a length.
+pub fn verdict_of(
+    settings: Settings,
+    shape: Shape,
+    theta: &[f64],
+    y: &[f64],
+    weights: &[f64],
+    offset: &[f64],
+    x: &[f64],
+    starts: &[usize],
+    columns: &[usize],
+    values: &[f64],
+    lent: Lent,
+) -> Verdict
+    ensures { λ r. ⌜ r ≡ tableOf 1 settings shape (inputs (now (theta .entry)) (now (y .entry)) (now (weights .entry)) (now (offset .entry)) (now (x .entry)) (now (starts .entry)) (now (columns .entry)) (now (values .entry))) lent ⌝ }
+{
+    if !model::sizes_ok(settings, shape) {
+        return Verdict::Refused(Refusal::OutOfRange);
+    }
+    if !inputs_ok(
+        1,
+        settings,
+        shape,
+        theta,
+        y,
+        weights,
+        offset,
+        x,
+        starts,
+        columns,
+        values,
+    ) {
+        return Verdict::Refused(Refusal::Lengths);
+    }
+    if !results_ok(1, settings, lent) {
+        return Verdict::Refused(Refusal::Lengths);
+    }
+    if !work_ok(settings, lent) {
+        return Verdict::Refused(Refusal::Work);
+    }
+    if !base::rows_ok(starts, columns, settings.rows, settings.n) {
+        return Verdict::Refused(Refusal::SparseRows);
+    }
+    if !numbers_ok(theta, y, weights, offset, x, values) {
+        return Verdict::Refused(Refusal::NotFinite);
+    }
+    let family = settings.family;
+    let link = settings.link;
+    if !family::valid_for(link, family) {
+        return Verdict::Refused(Refusal::LinkForFamily);
+    }
+    carried_pair(family, link)
+}

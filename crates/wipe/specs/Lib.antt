@@ -1,0 +1,2 @@
+-- The work slices after an accepted call. Assumes nothing.
+pub mod Wiped

@@ -1,0 +1,124 @@
+#!/usr/bin/env python3
+"""usage: table.py > crates/cases_table/stdout
+What `cases_table` must print: document 01's table of refusals in Python, asked the same calls. Stops unless every number of the table is given."""
+import math
+
+NAN, INF = math.nan, math.inf
+BIG = 1 << 63
+LINKS = ["logit", "probit", "cloglog", "log", "identity", "inverse", "sqrt"]
+FAMILIES = ["binomial", "poisson", "gaussian", "gamma"]
+VALID = {"binomial": {"logit", "probit", "cloglog"}, "poisson": {"log", "identity", "sqrt"}, "gaussian": {"identity", "log", "inverse"}, "gamma": {"inverse", "identity", "log"}}
+RESULTS = ["beta", "se", "z", "u", "b", "mu", "eta", "residual", "v"]
+seen = set()
+
+
+def call(**changes):
+    c = dict(family="poisson", link="log", limit=None, n=3, p=2, rows=2, entries=3, blocks=[(2, 1)], theta=[1.0], y=[1.0, 2.0, 3.0], weights=[], offset=[],
+             x=[1.0, 0.5, 1.0, 0.25, 1.0, 0.125], starts=[0, 2, 3], columns=[0, 2, 1], values=[1.0] * 3, beta=2, se=2, z=2, u=2, b=2, mu=3, eta=3, residual=3, v=4,
+             work_rows=48, work_matrices=84, work_terms=7000)
+    assert set(changes) <= set(c)
+    return c | changes
+
+
+def sizes(c):
+    q = sum(m * k for m, k in c["blocks"])
+    return (1 <= c["n"] <= 512 and 1 <= c["p"] <= 16 and 1 <= len(c["blocks"]) <= 8 and all(m >= 1 and 1 <= k <= 8 for m, k in c["blocks"]) and 1 <= q <= 32
+            and q == c["rows"] and c["entries"] <= 8192 and (c["limit"] is None or c["limit"] <= 1000))
+
+
+def lengths(c):
+    n, p, q = c["n"], c["p"], c["rows"]
+    wanted = dict(zip(RESULTS, [p, p, p, q, q, n, n, n, p * p]))
+    inputs = dict(theta=sum(k * (k + 1) // 2 for _, k in c["blocks"]), y=n, x=n * p, starts=q + 1, columns=c["entries"], values=c["entries"])
+    return (all(c[k] == w for k, w in wanted.items()) and all(len(c[k]) == w for k, w in inputs.items()) and len(c["weights"]) in (0, n) and len(c["offset"]) in (0, n))
+
+
+def work(c):
+    n, p, q = c["n"], c["p"], c["rows"]
+    return c["work_rows"] >= 16 * n and c["work_matrices"] >= 3 * q * q + 4 * p * p + 2 * q * p + 12 * (q + p) and c["work_terms"] >= 7000
+
+
+def sparse(c):
+    starts, columns = c["starts"], c["columns"]
+    if starts[0] != 0 or starts[-1] != c["entries"] or any(a > b for a, b in zip(starts, starts[1:])):
+        return False
+    rows = [columns[a:b] for a, b in zip(starts, starts[1:])]
+    return all(x < c["n"] for row in rows for x in row) and all(a < b for row in rows for a, b in zip(row, row[1:]))
+
+
+def numbers(c):
+    return all(math.isfinite(x) for k in ["theta", "y", "weights", "offset", "x", "values"] for x in c[k])
+
+
+TABLE = [(1, sizes), (2, lengths), (7, work), (6, sparse), (3, numbers), (4, lambda c: c["link"] in VALID[c["family"]]), (5, lambda c: c["family"] != "gamma" and c["link"] != "probit")]
+
+
+def ask(word, **changes):
+    c = call(**changes)
+    for number, good in TABLE:
+        if not good(c):
+            seen.add(number)
+            print(word, number)
+            return
+    print(word, 0, FAMILIES.index(c["family"]), LINKS.index(c["link"]))
+
+
+ask("good")
+for n in [0, 513, BIG, 4]:
+    ask("n", n=n)
+for p in [0, 17, 3]:
+    ask("p", p=p)
+for q in [1, 3]:
+    ask("rows", rows=q)
+for e in [8193, 8192]:
+    ask("entries", entries=e)
+for limit in [0, 1000, 1001]:
+    ask("limit", limit=limit)
+for block in [(0, 1), (2, 0), (1, 2), (2, BIG), (BIG, 2)]:
+    ask("block", blocks=[block])
+for name, length in zip(RESULTS, [1, 3, 0, 3, 1, 2, 4, 2, 3]):
+    ask(name, **{name: length})
+ask("work", work_rows=47)
+ask("work", work_rows=49)
+ask("work", work_rows=49, work_matrices=83)
+ask("work", work_rows=49, work_matrices=85)
+ask("work", work_rows=49, work_matrices=85, work_terms=6999)
+ask("work", work_rows=49, work_matrices=85, work_terms=7001)
+Y = [1.0, 2.0, 3.0]
+ask("theta", theta=[])
+ask("theta", theta=[1.0, 1.0])
+ask("y", y=[1.0, 2.0])
+ask("weights", weights=[1.0])
+ask("weights", weights=Y)
+ask("offset", offset=[1.0, 1.0])
+ask("offset", weights=Y, offset=Y)
+ask("x", x=[1.0] * 5)
+ask("starts", starts=[0, 3])
+ask("columns", columns=[0, 2])
+ask("values", values=[1.0] * 2)
+ask("first start", starts=[1, 2, 3])
+ask("last start", starts=[0, 2, 2])
+ask("past", starts=[0, 4, 3])
+ask("empty row", starts=[0, 0, 3], columns=[0, 1, 2])
+ask("column", columns=[0, 3, 1])
+ask("falling", columns=[2, 0, 1])
+ask("twice", columns=[2, 2, 1])
+ask("next row", columns=[1, 2, 0])
+ask("wide", columns=[0, 2 * BIG - 1, 1])
+ask("nan", theta=[NAN])
+ask("nan", y=[1.0, 2.0, INF])
+ask("nan", weights=[1.0, -INF, 1.0])
+ask("nan", offset=[NAN, 0.0, 0.0])
+ask("nan", x=[1.0] * 5 + [NAN])
+ask("nan", values=[1.0, INF, 1.0])
+for family in FAMILIES:
+    for link in LINKS:
+        ask(link, family=family, link=link)
+late = dict(family="poisson", link="probit", y=[1.0, NAN, 3.0], columns=[2, 0, 1])
+ask("faults", **late, n=513, beta=1, work_terms=6999)
+ask("faults", **late, beta=1, work_terms=6999)
+ask("faults", **late, work_terms=6999)
+ask("faults", **late)
+ask("faults", family="gamma", link="probit", y=[1.0, NAN, 3.0])
+ask("faults", family="gamma", link="probit")
+assert seen == {1, 2, 3, 4, 5, 6, 7}
