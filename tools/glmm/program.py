@@ -18,15 +18,17 @@ def command():
 
 
 def crates():
-    """`fitjob` and all that it stands on, by crates.txt; the kit's own libraries are left out."""
+    """`fitjob` and all that it stands on, in the order in which they are proved: what stands on nothing first. The kit's own libraries are left out."""
     lines = dict(line.split(":", 1) for line in (ROOT / "crates.txt").read_text().splitlines() if ":" in line)
-    found, left = set(), ["fitjob"]
-    while left:
-        name = left.pop()
-        if name in lines and name not in found:
-            found.add(name)
-            left += lines[name].split()
-    return sorted(found)
+    heights = {}
+
+    def height(name):
+        if name not in heights:
+            heights[name] = 1 + max((height(below) for below in lines[name].split() if below in lines), default=0)
+        return heights[name]
+    if "fitjob" in lines:
+        height("fitjob")
+    return sorted(heights, key=lambda name: (heights[name], list(lines).index(name)))
 
 
 def sources():
