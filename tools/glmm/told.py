@@ -7,6 +7,8 @@ from sheet import sheet_beside
 
 NUMBERS = Path(__file__).resolve().parents[2] / "docs" / "NUMBERS.md"
 COUNTS = "end order disp iters fits solves tries points".split()
+LEAST = 2.0**-52
+RESTLESS = 0.01  # a step, in standard errors, that a fit at rest would not take
 LISTS = "deviance phi beta se z u b mu eta residual v".split()
 
 
@@ -97,6 +99,27 @@ def model(job):
             f"  theta {' '.join(map(decimal, job.theta))}, n_agq {job.n_agq}, limit {'not given' if job.limit is None else job.limit}"]
 
 
+def slope(link, mu, eta):
+    """The derivative of a mean by its predictor."""
+    return {"logit": mu * (1 - mu), "cloglog": (1 - mu) * math.exp(min(eta, 700)), "log": mu, "identity": 1, "inverse": -mu * mu, "sqrt": 2 * max(eta, 0)}[link]
+
+
+def variance(family, mu):
+    return max({"binomial": mu * (1 - mu), "poisson": mu, "gaussian": 1}[family], LEAST)
+
+
+def next_step(job, lists):
+    """How far one more step would move beta, about: the largest of v times the score of the fixed effects, in standard errors."""
+    score, phi = [0.0] * job.p, max(lists["phi"][0], LEAST)
+    for i, (mu, eta) in enumerate(zip(lists["mu"], lists["eta"])):
+        weight = max(job.weights[i], 0) if job.weights else 1
+        pull = weight * slope(LINKS[job.link], mu, eta) * (job.y[i] - mu) / (phi * variance(FAMILIES[job.family], mu))
+        score = [s + x * pull for s, x in zip(score, job.x[i])]
+    steps = [sum(a * b for a, b in zip(lists["v"][j * job.p:], score)) for j in range(job.p)]
+    far = [abs(step) / se if se > 0 else math.inf for step, se in zip(steps, lists["se"]) if step != 0]
+    return math.nan if any(map(math.isnan, far)) else max(far, default=0.0)
+
+
 def warnings(job, counts, lists):
     """What a reader of this fit should know (docs/NUMBERS.md, last section)."""
     order, deviance = counts["order"], lists["deviance"][0]
@@ -109,6 +132,10 @@ def warnings(job, counts, lists):
         yield f"n_agq {job.n_agq} was wished, order {order} was used."
     if not math.isfinite(deviance):
         yield "the deviance is not finite: a response is outside the family's range, or a Gaussian fit has no residual left."
+    step = next_step(job, lists)
+    if not step <= RESTLESS:
+        yield (f"the fit stopped early: one more step would move beta by about {decimal(step)} standard errors. The stop test passes also where every "
+               "working response is met exactly, as with responses that are all 0. Don't use these estimates (docs/NUMBERS.md).")
     if counts["disp"] == 0:
         yield "the dispersion did not settle in 240 rounds: phi and what follows from it are those of the last round."
     if counts["tries"] > counts["solves"]:
