@@ -90,12 +90,16 @@ class Names:
         self.rows = [" ".join([str(i), *of]) for i, of in enumerate(groups)]
 
 
+def counted(count, name):
+    return f"{count} {name}" + ("s" if count != 1 else "")
+
+
 def model(job):
     """The job in a few lines."""
     extra = [name for name, given in (("weights", job.weights), ("offset", job.offset)) if given is not None]
-    blocks = ", ".join(f"{m} groups of {k}" for m, k in job.blocks)
+    blocks = ", ".join(f"{counted(m, 'group')} of {k}" for m, k in job.blocks)
     return [f"  {FAMILIES[job.family]}, {LINKS[job.link]} link" + "".join(f", {name}" for name in extra),
-            f"  {job.n} responses, {job.p} columns of X, {job.q} random effects ({blocks})",
+            f"  {counted(job.n, 'response')}, {counted(job.p, 'column')} of X, {counted(job.q, 'random effect')} ({blocks})",
             f"  theta {' '.join(map(decimal, job.theta))}, n_agq {job.n_agq}, limit {'not given' if job.limit is None else job.limit}"]
 
 
