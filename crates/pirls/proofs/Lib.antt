@@ -1,0 +1,3 @@
+-- The laws that the proof of the inner fit cites. Assumes nothing.
+pub mod Turns
+pub mod Fitted

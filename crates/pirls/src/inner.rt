@@ -1,0 +1,150 @@
+// The inner fit: iterations until PWRSS comes to rest.
+use family::CarriedFamily;
+use family::CarriedLink;
+use iteration::Iteration;
+use iteration::iterate;
+use layout::mu_row;
+use model::Account;
+use model::End;
+use model::Shape;
+use rule::stops;
+use stages::AtStop;
+use stages::stop;
+use working::start_eta;
+ghost use mathlib.Core.Path.{_≡_};
+ghost use Prim.Native.Nat.{_≤_};
+ghost use Rattle.base.specs.Rows.{row};
+ghost use Rattle.layout.specs.WorkRows.{muRow};
+ghost use Rattle.stored.specs.Stored.{sparse};
+ghost use Rattle.solve.specs.Ready.{designOf};
+ghost use Rattle.iteration.specs.Iterated.{Asked, givenOf};
+ghost use Rattle.pirls.specs.Inner.{failedFit, InnerLeft};
+
+// Whether an inner fit has a result.
+pub enum Ended {
+    Stopped,
+    Failed(End),
+}
+
+// What an inner fit answers beside what stands in the work slices; without a result all but end and account is zero.
+pub struct InnerFit {
+    pub end: Ended,
+    pub iterations: usize,
+    pub in_second: bool,
+    pub deviance_sum: f64,
+    pub fit: f64,
+    pub laplace: f64,
+    pub account: Account,
+}
+
+// The account of one inner fit.
+fn account_of(solves: u64, tries: u64) -> Account
+    ensures { λ a. ⌜ a ≡ record { fits = 1; solves = solves; tries = tries; points = 0 } ⌝ }
+{
+    Account {
+        fits: 1,
+        solves,
+        tries,
+        points: 0,
+    }
+}
+
+// An inner fit without a result.
+fn failed_fit(end: End, account: Account) -> InnerFit
+    ensures { λ a. ⌜ a ≡ failedFit end account ⌝ }
+{
+    InnerFit {
+        end: Ended::Failed(end),
+        iterations: 0,
+        in_second: false,
+        deviance_sum: 0.0,
+        fit: 0.0,
+        laplace: 0.0,
+        account,
+    }
+}
+
+// The inner fit from the means that stand in their row.
+pub fn inner_fit(
+    family: CarriedFamily,
+    link: CarriedLink,
+    phi: f64,
+    limit: usize,
+    shape: Shape,
+    theta: &[f64],
+    starts: &[usize],
+    columns: &[usize],
+    values: &[f64],
+    offset: &[f64],
+    x: &[f64],
+    y: &[f64],
+    weights: &[f64],
+    n: usize,
+    p: usize,
+    q: usize,
+    r: &mut [f64],
+    m: &mut [f64],
+    t: &mut [f64],
+) -> InnerFit
+    requires { ⌜ Asked n p q shape (now theta) (now starts) (now columns) (now values) (now offset) (now x) (now y) (now r) (now m) (now t) ⌝ }
+    requires { ⌜ limit ≤ 1000 ⌝ }
+    ensures { λ a. ⌜ InnerLeft (givenOf family link (now (y .entry)) (now (weights .entry)) (designOf n p shape (now (theta .entry)) (now (offset .entry)) (now (x .entry)) (sparse (now (starts .entry)) (now (columns .entry)) (now (values .entry))))) phi limit (row (muRow n) n (now (r .entry))) (now (r .entry)) (now (r .exit)) (now (m .entry)) (now (m .exit)) (now (t .entry)) (now (t .exit)) a ⌝ }
+{
+    start_eta(link, offset, n, mu_row(n), 0, r);
+    let mut old = base::MAX;
+    let mut in_second = false;
+    let mut k = 0;
+    let mut solves: u64 = 0;
+    let mut tries: u64 = 0;
+    while k < limit {
+        let it = iterate(
+            family,
+            link,
+            phi,
+            shape,
+            theta,
+            starts,
+            columns,
+            values,
+            offset,
+            x,
+            y,
+            weights,
+            n,
+            p,
+            q,
+            in_second,
+            r,
+            m,
+            t,
+        );
+        match it {
+            Iteration::Unsolvable(e) => {
+                return failed_fit(e, account_of(solves, tries));
+            }
+            Iteration::Stuck(j) => {
+                return failed_fit(End::NoStep, account_of(solves + 1, tries + j));
+            }
+            Iteration::Moved(pwrss, j) => {
+                k += 1;
+                solves += 1;
+                tries += j;
+                in_second = !in_second;
+                if stops(old, pwrss) {
+                    let s = stop(family, y, weights, n, p, q, r, m, t);
+                    return InnerFit {
+                        end: Ended::Stopped,
+                        iterations: k,
+                        in_second,
+                        deviance_sum: s.deviance_sum,
+                        fit: s.fit,
+                        laplace: s.laplace,
+                        account: account_of(solves, tries),
+                    };
+                }
+                old = pwrss;
+            }
+        }
+    }
+    failed_fit(End::NoStop, account_of(solves, tries))
+}
