@@ -33,12 +33,17 @@ use Rattle.stages.specs.Stopped.{StopLeft}
 use Rattle.stages.specs.declared.stops.AtStop.{AtStop}
 use Rattle.iteration.specs.Iterated.{StuckAfter, MovedAfter}
 use Rattle.iteration.proofs.IterationMade.{eta-before}
-use Rattle.pirls.specs.Inner.{failedFit, InnerLeft}
+use Rattle.pirls.specs.Inner.{turned, failedFit, InnerLeft}
 use Rattle.pirls.specs.declared.inner.Ended.the-variants.{Stopped}
 
 -- the counts of so many solves and tries
 abbrev pub counts : ℕ → ℕ → Account
 counts s t = record { fits = 0; solves = s; tries = t; points = 0 }
+
+-- one more iteration changes the row
+turned-more : (k : ℕ) → turned (k + 1) ≡ not (turned k)
+unfolding turned
+turned-more k = let e : k + 1 ≡ suc k = omega arith in rw e refl
 
 -- a solve and its tries, by their items
 solve-counts : (G : Given) (v : Solved) (eta : List Float) (x : Search) (k : ℕ) → triesOf (trialOf G v eta) ≡ x → countOf isTry (itemsIn x) ≡ k → tally (aSolve ∷ itemsIn x) ≡ counts 1 k
@@ -72,6 +77,7 @@ module _ (G : Given) (phi : Float) (L : ℕ) (mu₀ : List Float) where
   pub record Going (r₀ r m₀ m t₀ t : List Float) (old : Float) (second : Bool) (k solves tries : ℕ) : Type 0 where
     pub within : k ≤ L
     pub solved-each : solves ≡ k
+    pub place : second ≡ turned k
     pub few : tries ≤ 100 * k
     pub ending : whole .ending ≡ restAt k second r old .ending
     pub items : tally (whole .items) ≡ counts k tries ⊞ tally (restAt k second r old .items)
@@ -81,7 +87,7 @@ module _ (G : Given) (phi : Float) (L : ℕ) (mu₀ : List Float) where
 
   -- before the first
   pub going-starts : (r₀ r m t : List Float) → Lent n p q r₀ m t → row (muRow n) n r₀ ≡ mu₀ → Wrote 0 n (startEta G mu₀) r₀ r → Going r r m m t t hugeF false 0 0 0
-  unfolding etaRow startAt
+  unfolding etaRow startAt turned
   going-starts r₀ r m t lent e w =
       let l : rowsLength n ≤ length r₀ = lent .rows-long in
       let mu : row (muRow n) n r ≡ mu₀ = only-row (muRow n) n 0 n (inr (omega arith)) (omega arith) (w .only) ∙ e in
@@ -91,6 +97,7 @@ module _ (G : Given) (phi : Float) (L : ℕ) (mu₀ : List Float) where
       record {
         within = omega arith;
         solved-each = refl;
+        place = refl;
         few = omega arith;
         ending = ap (λ (o : Outcome). o .ending) (sym rest);
         items = rw rest (sym (none-plus (tally (whole .items))));
@@ -206,6 +213,7 @@ module _ (G : Given) (phi : Float) (L : ℕ) (mu₀ : List Float) where
         record {
           within = omega arith;
           solved-each = rw (g .solved-each) refl;
+          place = ap not (g .place) ∙ sym (turned-more k);
           few = omega (arith, g .few);
           ending = g .ending ∙ rw o refl;
           items = g .items ∙ rw o (rw (went-items (restAt (k + 1) (not second) r'' pwrss)) (sym (plus-assoc (counts k tries) (counts 1 j) (tally (restAt (k + 1) (not second) r'' pwrss .items))) ∙ rw (counts-more k tries j) refl));
@@ -238,6 +246,7 @@ module _ (G : Given) (phi : Float) (L : ℕ) (mu₀ : List Float) where
                 (record {
                   end = refl;
                   iterations = refl;
+                  place = ap not (g .place) ∙ sym (turned-more k);
                   eta = only-row (etaRow n (not second)) n (devianceRow n) n (inl (omega (arith, eta-in))) (omega (arith, eta-in)) (sl .rows-only);
                   mu = only-row (muRow n) n (devianceRow n) n (inl (omega arith)) (omega arith) (sl .rows-only);
                   deviances = sl .deviances;

@@ -1,8 +1,8 @@
 -- What the inner fit answers and leaves. Document 01, "The inner fit". Assumes nothing.
 use mathlib.Core.Path.{_≡_}
 use mathlib.Core.List.{List}
-use mathlib.Core.Bool.{false}
-use Prim.Native.Nat.{ℕ, _*_}
+use mathlib.Core.Bool.{Bool, false, not}
+use Prim.Native.Nat.{ℕ, zero, suc, _*_}
 use lib.Ieee.{Float}
 use Rattle.base.specs.Number.{zeroF}
 use Rattle.base.specs.Rows.{row, Only}
@@ -20,6 +20,11 @@ use Rattle.stages.specs.Held.{etaRow}
 use Rattle.pirls.specs.declared.inner.Ended.the-variants.{Stopped, Failed}
 use Rattle.pirls.specs.declared.inner.InnerFit.{InnerFit}
 
+-- in which row the predictor stands after so many iterations: the first before them, then in turn
+unfoldable pub turned : ℕ → Bool
+turned zero = false
+turned (suc k) = not (turned k)
+
 -- an inner fit without a result: its end and its account, and zero everywhere else
 abbrev pub failedFit : End → Account → InnerFit
 failedFit e a = record { end = Failed e; iterations = 0; «in_second» = false; «deviance_sum» = zeroF; fit = zeroF; laplace = zeroF; account = a }
@@ -28,6 +33,7 @@ failedFit e a = record { end = Failed e; iterations = 0; «in_second» = false; 
 pub record HoldsMode (G : Given) (k : Mode) (rows matrices : List Float) (a : InnerFit) : Type 0 where
   pub end : a .end ≡ Stopped
   pub iterations : a .iterations ≡ k .iterations
+  pub place : a .«in_second» ≡ turned (k .iterations)
   pub eta : row (etaRow (nOf G) (a .«in_second»)) (nOf G) rows ≡ k .eta
   pub mu : row (muRow (nOf G)) (nOf G) rows ≡ k .mu
   pub deviances : row (devianceRow (nOf G)) (nOf G) rows ≡ k .devs

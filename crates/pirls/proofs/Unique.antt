@@ -1,0 +1,23 @@
+-- The inner fit's contract leaves one answer, and one content of what is read afterwards. Assumes nothing.
+use mathlib.Core.Path.{_≡_, refl, sym, _∙_}
+use mathlib.Core.List.{List}
+use Prim.Native.Nat.{ℕ}
+use lib.Ieee.{Float}
+use Rattle.rule.specs.Given.{Given}
+use Rattle.rule.specs.Run.{Ending, stopped, failed, runOf}
+use Rattle.pirls.specs.Inner.{EndingTold, InnerLeft}
+use Rattle.pirls.specs.declared.inner.InnerFit.{InnerFit}
+
+same-fit : {a b : InnerFit} → a .end ≡ b .end → a .iterations ≡ b .iterations → a .«in_second» ≡ b .«in_second» → a .«deviance_sum» ≡ b .«deviance_sum» → a .fit ≡ b .fit → a .laplace ≡ b .laplace
+    → a .account ≡ b .account → a ≡ b
+same-fit e1 e2 e3 e4 e5 e6 e7 = λ i. record { end = e1 i; iterations = e2 i; «in_second» = e3 i; «deviance_sum» = e4 i; fit = e5 i; laplace = e6 i; account = e7 i }
+
+told-once : (o : Ending) (G : Given) (r r' m m' : List Float) (a b : InnerFit) → a .account ≡ b .account → EndingTold o G r m a → EndingTold o G r' m' b → a ≡ b
+told-once (stopped k) G r r' m m' a b e x y =
+    same-fit (x .end ∙ sym (y .end)) (x .iterations ∙ sym (y .iterations)) (x .place ∙ sym (y .place)) (x .sum ∙ sym (y .sum)) (x .fit-term ∙ sym (y .fit-term)) (x .laplace-deviance ∙ sym (y .laplace-deviance)) e
+told-once (failed f) G r r' m m' a b e x y = x ∙ rw e refl ∙ sym y
+
+-- one answer
+pub inner-once : (G : Given) (phi : Float) (L : ℕ) (mu r r' r'' m m' m'' t t' t'' : List Float) (a b : InnerFit) → InnerLeft G phi L mu r r' m m' t t' a → InnerLeft G phi L mu r r'' m m'' t t'' b → a ≡ b
+inner-once G phi L mu r r' r'' m m' m'' t t' t'' a b x y =
+    told-once (runOf G phi L mu .ending) G r' r'' m' m'' a b (x .counted ∙ sym (y .counted)) (x .told) (y .told)
