@@ -1,0 +1,2 @@
+-- Laws of the quadrature over the work slices. Assumes nothing.
+pub mod Gains

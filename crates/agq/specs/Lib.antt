@@ -1,0 +1,2 @@
+-- The quadrature over the work slices. Assumes nothing.
+pub mod Gained
