@@ -2,3 +2,5 @@
 pub mod Gains
 pub mod Ruled
 pub mod Ones
+pub mod OneTurns
+pub mod OneRuled

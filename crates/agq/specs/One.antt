@@ -5,7 +5,8 @@ use Prim.Native.Nat.{ℕ, _+_}
 use lib.Ieee.{Float}
 use Rattle.base.specs.Number.{_⊕_}
 use Rattle.base.specs.Sum.{_!_}
-use Rattle.base.specs.List.{fillAt}
+use Rattle.base.specs.List.{fillTo, fillAt}
+use Rattle.elementary.specs.Log.{lnOf}
 use Rattle.base.specs.Rows.{row, Only, Wrote}
 use Rattle.base.specs.Sparse.{Sparse}
 use Rattle.model.specs.declared.sizes.Shape.{Shape}
@@ -30,3 +31,14 @@ pub record OneIn (family : CarriedFamily) (link : CarriedLink) (shape : Shape) (
   pub b : row (trial + q) q m' ≡ effectsAt shape theta q (oneEffects g sigma node (row u q m) (row trial q m))
   pub only : Only trial (q + q) m m'
   pub zb : Wrote (xbeta + n + n) n (predictedAt shape theta Z n q (oneEffects g sigma node (row u q m) (row trial q m))) r r'
+
+-- the log term at node i
+unfoldable pub oneTermAtNode : CarriedFamily → CarriedLink → Shape → List Float → Sparse → List Float → List Float → List Float → ℕ → ℕ → ℕ → ℕ → Float → Float → List Float → List Float → List Float → List Float → List Float → ℕ → Float
+oneTermAtNode family link shape theta Z y weights offset n q xbeta g sigma inv u r before nodes ws i =
+    oneTermIn family link shape theta Z y weights offset n q xbeta g (lnOf (ws ! i)) inv u r (oneEffects g sigma (nodes ! i) u before)
+
+-- what `one_terms` leaves: the log terms, and nothing else changed but the trial effects with Λ times them, and the row of Zb
+pub record OnesIn (f : ℕ → Float) (n q xbeta trial size : ℕ) (r r' m m' t t' : List Float) : Type 0 where
+  pub terms : t' ≡ fillTo size f t
+  pub in-m : Only trial (q + q) m m'
+  pub in-r : Only (xbeta + n + n) n r r'

@@ -4,3 +4,4 @@ mod one;
 
 pub use gain::point_gain;
 pub use one::one_point;
+pub use one::one_terms;
