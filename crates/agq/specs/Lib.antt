@@ -1,0 +1,3 @@
+-- The quadrature over the work slices. Assumes nothing.
+pub mod Gained
+pub mod One
