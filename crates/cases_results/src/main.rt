@@ -4,7 +4,6 @@ use model::Shape;
 ghost use mathlib.Core.Path.{_≡_};
 ghost use mathlib.Core.Bool.{true};
 ghost use Prim.Native.Nat.{_≤_};
-ghost use lib.ListN.{length};
 ghost use Rattle.model.specs.Shape.{effectsOf, thetaLength, goodShape};
 
 // v and the standard errors of a diagonal with a zero, a number below zero and a NaN among its roots; then z values.
