@@ -63,15 +63,9 @@ def ask(word, **changes):
     print(word, 0, FAMILIES.index(c["family"]), LINKS.index(c["link"]))
 
 
-ask("good")
-for n in [0, 513, BIG, 4]:
-    ask("n", n=n)
-for p in [0, 17, 3]:
-    ask("p", p=p)
-for q in [1, 3]:
-    ask("rows", rows=q)
-for e in [8193, 8192]:
-    ask("entries", entries=e)
+for n, p, rows, entries in [(3, 2, 2, 3), (0, 2, 2, 3), (513, 2, 2, 3), (BIG, 2, 2, 3), (4, 2, 2, 3), (3, 0, 2, 3), (3, 17, 2, 3), (3, 3, 2, 3), (3, 2, 1, 3), (3, 2, 3, 3), (3, 2, 2, 8193),
+                            (3, 2, 2, 8192)]:
+    ask("sizes", n=n, p=p, rows=rows, entries=entries)
 for limit in [0, 1000, 1001]:
     ask("limit", limit=limit)
 for block in [(0, 1), (2, 0), (1, 2), (2, BIG), (BIG, 2)]:
@@ -94,7 +88,7 @@ for theta, y, weight, offset, x, value in [(1.0,) * 6, (NAN, 1, 1, 1, 1, 1), (1,
     ask("numbers", theta=[theta], y=[1.0, 2.0, y], weights=[1.0, weight, 1.0], offset=[offset, 0.0, 0.0], x=[1.0] * 5 + [x], values=[1.0, value, 1.0])
 for family in FAMILIES:
     for link in LINKS:
-        ask(link, family=family, link=link)
+        ask("pair", family=family, link=link)
 for n, beta, terms, column, y in [(513, 1, 6999, 3, NAN), (3, 1, 6999, 3, NAN), (3, 2, 6999, 3, NAN), (3, 2, 7000, 3, NAN), (3, 2, 7000, 2, NAN), (3, 2, 7000, 2, 2.0)]:
     ask("faults", family="gamma", link="probit", n=n, beta=beta, work_terms=terms, columns=[0, column, 1], y=[1.0, y, 3.0])
 assert seen == {1, 2, 3, 4, 5, 6, 7}

@@ -215,28 +215,14 @@ fn ask_work(rows: usize, matrices: usize, terms: usize) {
     ask(b"work", good(), two_groups(), lent);
 }
 
-fn ask_n(n: usize) {
+// These sizes: n, p, and the rows and entries of Z'.
+fn ask_sizes(n: usize, p: usize, rows: usize, entries: usize) {
     let mut t = good();
     t.n = n;
-    ask(b"n", t, two_groups(), enough());
-}
-
-fn ask_p(p: usize) {
-    let mut t = good();
     t.p = p;
-    ask(b"p", t, two_groups(), enough());
-}
-
-fn ask_effects(rows: usize) {
-    let mut t = good();
     t.rows = rows;
-    ask(b"rows", t, two_groups(), enough());
-}
-
-fn ask_entries(entries: usize) {
-    let mut t = good();
     t.entries = entries;
-    ask(b"entries", t, two_groups(), enough());
+    ask(b"sizes", t, two_groups(), enough());
 }
 
 fn ask_limit(limit: Limit) {
@@ -264,18 +250,18 @@ fn ask_block(m: usize, k: usize) {
 
 // Number 1, and sizes that are good but ask for other lengths.
 fn sizes() {
-    ask(b"good", good(), two_groups(), enough());
-    ask_n(0);
-    ask_n(513);
-    ask_n(9223372036854775808);
-    ask_n(4);
-    ask_p(0);
-    ask_p(17);
-    ask_p(3);
-    ask_effects(1);
-    ask_effects(3);
-    ask_entries(8193);
-    ask_entries(8192);
+    ask_sizes(3, 2, 2, 3);
+    ask_sizes(0, 2, 2, 3);
+    ask_sizes(513, 2, 2, 3);
+    ask_sizes(9223372036854775808, 2, 2, 3);
+    ask_sizes(4, 2, 2, 3);
+    ask_sizes(3, 0, 2, 3);
+    ask_sizes(3, 17, 2, 3);
+    ask_sizes(3, 3, 2, 3);
+    ask_sizes(3, 2, 1, 3);
+    ask_sizes(3, 2, 3, 3);
+    ask_sizes(3, 2, 2, 8193);
+    ask_sizes(3, 2, 2, 8192);
 }
 
 fn more_sizes() {
@@ -362,45 +348,19 @@ fn numbers() {
     ask_numbers(1.0, 1.0, 1.0, 1.0, 1.0, inf);
 }
 
+fn ask_pair(family: Family, link: Link) {
+    ask(b"pair", settings(family, link), two_groups(), enough());
+}
+
 // Numbers 4 and 5: each link with the family.
 fn links(family: Family) {
-    ask(
-        b"logit",
-        settings(family, Link::Logit),
-        two_groups(),
-        enough(),
-    );
-    ask(
-        b"probit",
-        settings(family, Link::Probit),
-        two_groups(),
-        enough(),
-    );
-    ask(
-        b"cloglog",
-        settings(family, Link::Cloglog),
-        two_groups(),
-        enough(),
-    );
-    ask(b"log", settings(family, Link::Log), two_groups(), enough());
-    ask(
-        b"identity",
-        settings(family, Link::Identity),
-        two_groups(),
-        enough(),
-    );
-    ask(
-        b"inverse",
-        settings(family, Link::Inverse),
-        two_groups(),
-        enough(),
-    );
-    ask(
-        b"sqrt",
-        settings(family, Link::Sqrt),
-        two_groups(),
-        enough(),
-    );
+    ask_pair(family, Link::Logit);
+    ask_pair(family, Link::Probit);
+    ask_pair(family, Link::Cloglog);
+    ask_pair(family, Link::Log);
+    ask_pair(family, Link::Identity);
+    ask_pair(family, Link::Inverse);
+    ask_pair(family, Link::Sqrt);
 }
 
 // Several faults at once: a size, a result's length, a work slice's length, a column, a response and the pair.
