@@ -63,62 +63,32 @@ def ask(word, **changes):
     print(word, 0, FAMILIES.index(c["family"]), LINKS.index(c["link"]))
 
 
-ask("good")
-for n in [0, 513, BIG, 4]:
-    ask("n", n=n)
-for p in [0, 17, 3]:
-    ask("p", p=p)
-for q in [1, 3]:
-    ask("rows", rows=q)
-for e in [8193, 8192]:
-    ask("entries", entries=e)
+for n, p, rows, entries in [(3, 2, 2, 3), (0, 2, 2, 3), (513, 2, 2, 3), (BIG, 2, 2, 3), (4, 2, 2, 3), (3, 0, 2, 3), (3, 17, 2, 3), (3, 3, 2, 3), (3, 2, 1, 3), (3, 2, 3, 3), (3, 2, 2, 8193),
+                            (3, 2, 2, 8192)]:
+    ask("sizes", n=n, p=p, rows=rows, entries=entries)
 for limit in [0, 1000, 1001]:
     ask("limit", limit=limit)
 for block in [(0, 1), (2, 0), (1, 2), (2, BIG), (BIG, 2)]:
     ask("block", blocks=[block])
 for name, length in zip(RESULTS, [1, 3, 0, 3, 1, 2, 4, 2, 3]):
-    ask(name, **{name: length})
+    ask("results", **{name: length})
+ask("results")
 ask("work", work_rows=47)
-ask("work", work_rows=49)
-ask("work", work_rows=49, work_matrices=83)
-ask("work", work_rows=49, work_matrices=85)
-ask("work", work_rows=49, work_matrices=85, work_terms=6999)
+ask("work", work_matrices=83)
+ask("work", work_terms=6999)
 ask("work", work_rows=49, work_matrices=85, work_terms=7001)
-Y = [1.0, 2.0, 3.0]
-ask("theta", theta=[])
-ask("theta", theta=[1.0, 1.0])
-ask("y", y=[1.0, 2.0])
-ask("weights", weights=[1.0])
-ask("weights", weights=Y)
-ask("offset", offset=[1.0, 1.0])
-ask("offset", weights=Y, offset=Y)
-ask("x", x=[1.0] * 5)
-ask("starts", starts=[0, 3])
-ask("columns", columns=[0, 2])
-ask("values", values=[1.0] * 2)
-ask("first start", starts=[1, 2, 3])
-ask("last start", starts=[0, 2, 2])
-ask("past", starts=[0, 4, 3])
-ask("empty row", starts=[0, 0, 3], columns=[0, 1, 2])
-ask("column", columns=[0, 3, 1])
-ask("falling", columns=[2, 0, 1])
-ask("twice", columns=[2, 2, 1])
-ask("next row", columns=[1, 2, 0])
-ask("wide", columns=[0, 2 * BIG - 1, 1])
-ask("nan", theta=[NAN])
-ask("nan", y=[1.0, 2.0, INF])
-ask("nan", weights=[1.0, -INF, 1.0])
-ask("nan", offset=[NAN, 0.0, 0.0])
-ask("nan", x=[1.0] * 5 + [NAN])
-ask("nan", values=[1.0, INF, 1.0])
+for theta, y, weights, offset in [(0, 3, 0, 0), (2, 3, 0, 0), (1, 2, 0, 0), (1, 4, 0, 0), (1, 3, 1, 0), (1, 3, 3, 0), (1, 3, 0, 2), (1, 3, 3, 3), (1, 3, 0, 4)]:
+    ask("lists", theta=[1.0] * theta, y=[1.0] * y, weights=[1.0] * weights, offset=[1.0] * offset)
+for x, starts, columns, values in [(5, 3, 3, 3), (7, 3, 3, 3), (6, 2, 3, 3), (6, 4, 3, 3), (6, 3, 2, 3), (6, 3, 3, 4), (6, 3, 3, 3)]:
+    ask("design", x=[1.0] * x, starts=[0, 2, 3, 3][:starts], columns=[0, 2, 1, 2][:columns], values=[1.0] * values)
+for starts, columns in [([1, 2, 3], [0, 2, 1]), ([0, 2, 2], [0, 2, 1]), ([0, 4, 3], [0, 2, 1]), ([0, 0, 3], [0, 1, 2]), ([0, 2, 3], [0, 3, 1]), ([0, 2, 3], [2, 0, 1]),
+                        ([0, 2, 3], [2, 2, 1]), ([0, 2, 3], [1, 2, 0]), ([0, 2, 3], [0, 2 * BIG - 1, 1])]:
+    ask("starts and columns", starts=starts, columns=columns)
+for theta, y, weight, offset, x, value in [(1.0,) * 6, (NAN, 1, 1, 1, 1, 1), (1, INF, 1, 1, 1, 1), (1, 1, -INF, 1, 1, 1), (1, 1, 1, NAN, 1, 1), (1, 1, 1, 1, NAN, 1), (1, 1, 1, 1, 1, INF)]:
+    ask("numbers", theta=[theta], y=[1.0, 2.0, y], weights=[1.0, weight, 1.0], offset=[offset, 0.0, 0.0], x=[1.0] * 5 + [x], values=[1.0, value, 1.0])
 for family in FAMILIES:
     for link in LINKS:
-        ask(link, family=family, link=link)
-late = dict(family="poisson", link="probit", y=[1.0, NAN, 3.0], columns=[2, 0, 1])
-ask("faults", **late, n=513, beta=1, work_terms=6999)
-ask("faults", **late, beta=1, work_terms=6999)
-ask("faults", **late, work_terms=6999)
-ask("faults", **late)
-ask("faults", family="gamma", link="probit", y=[1.0, NAN, 3.0])
-ask("faults", family="gamma", link="probit")
+        ask("pair", family=family, link=link)
+for n, beta, terms, column, y in [(513, 1, 6999, 3, NAN), (3, 1, 6999, 3, NAN), (3, 2, 6999, 3, NAN), (3, 2, 7000, 3, NAN), (3, 2, 7000, 2, NAN), (3, 2, 7000, 2, 2.0)]:
+    ask("faults", family="gamma", link="probit", n=n, beta=beta, work_terms=terms, columns=[0, column, 1], y=[1.0, y, 3.0])
 assert seen == {1, 2, 3, 4, 5, 6, 7}

@@ -8,6 +8,9 @@ use model::Settings;
 use model::Shape;
 use table::Lent;
 use table::Verdict;
+ghost use mathlib.Core.Path.{_≡_};
+ghost use Prim.Native.Nat.{_≤_};
+ghost use lib.ListN.{length};
 
 fn put_size(n: usize) {
     text::put_count(n as u64);
@@ -96,75 +99,130 @@ fn ask(word: &[u8], settings: Settings, shape: Shape, lent: Lent) {
     put_verdict(word, verdict);
 }
 
-// All but theta, y, weights and offset are good.
-fn ask_lists(word: &[u8], theta: &[f64], y: &[f64], weights: &[f64], offset: &[f64]) {
+// Lists of these lengths: theta, y, weights, offset.
+fn ask_lists(ones: &[f64], theta: usize, y: usize, weights: usize, offset: usize)
+    requires { ⌜ (length (now ones) ≡ 8) × (theta ≤ 8) × (y ≤ 8) × (weights ≤ 8) × (offset ≤ 8) ⌝ }
+{
     let verdict = table::verdict_of(
         good(),
         two_groups(),
-        theta,
-        y,
-        weights,
-        offset,
-        &[1.0, 0.5, 1.0, 0.25, 1.0, 0.125],
+        &ones[0..theta],
+        &ones[0..y],
+        &ones[0..weights],
+        &ones[0..offset],
+        &ones[0..6],
         &[0, 2, 3],
         &[0, 2, 1],
-        &[1.0, 1.0, 1.0],
+        &ones[0..3],
         enough(),
     );
-    put_verdict(word, verdict);
+    put_verdict(b"lists", verdict);
 }
 
-// All but X and Z' are good.
-fn ask_design(word: &[u8], x: &[f64], starts: &[usize], columns: &[usize], values: &[f64]) {
+// Lists of these lengths: X, and the row starts, columns and values of Z'.
+fn ask_design(ones: &[f64], x: usize, starts: usize, columns: usize, values: usize)
+    requires { ⌜ (length (now ones) ≡ 8) × (x ≤ 8) × (starts ≤ 4) × (columns ≤ 4) × (values ≤ 8) ⌝ }
+{
+    let all_starts = [0, 2, 3, 3];
+    let all_columns = [0, 2, 1, 2];
+    let verdict = table::verdict_of(
+        good(),
+        two_groups(),
+        &ones[0..1],
+        &ones[0..3],
+        &[],
+        &[],
+        &ones[0..x],
+        &all_starts[0..starts],
+        &all_columns[0..columns],
+        &ones[0..values],
+        enough(),
+    );
+    put_verdict(b"design", verdict);
+}
+
+// Z' with these row starts, and these columns.
+fn ask_rows(a: usize, b: usize, c: usize, i: usize, j: usize, k: usize) {
     let verdict = table::verdict_of(
         good(),
         two_groups(),
         &[1.0],
-        &[1.0, 2.0, 3.0],
+        &[1.0, 1.0, 1.0],
         &[],
         &[],
-        x,
-        starts,
-        columns,
-        values,
+        &[1.0, 1.0, 1.0, 1.0, 1.0, 1.0],
+        &[a, b, c],
+        &[i, j, k],
+        &[1.0, 1.0, 1.0],
         enough(),
     );
-    put_verdict(word, verdict);
+    put_verdict(b"starts and columns", verdict);
 }
 
-// Z' alone.
-fn ask_rows(word: &[u8], starts: &[usize], columns: &[usize]) {
-    ask_design(
-        word,
-        &[1.0, 0.5, 1.0, 0.25, 1.0, 0.125],
-        starts,
-        columns,
-        &[1.0, 1.0, 1.0],
+// One number of each list.
+fn ask_numbers(theta: f64, y: f64, weight: f64, offset: f64, x: f64, value: f64) {
+    let verdict = table::verdict_of(
+        good(),
+        two_groups(),
+        &[theta],
+        &[1.0, 2.0, y],
+        &[1.0, weight, 1.0],
+        &[offset, 0.0, 0.0],
+        &[1.0, 0.5, 1.0, 0.25, 1.0, x],
+        &[0, 2, 3],
+        &[0, 2, 1],
+        &[1.0, value, 1.0],
+        enough(),
     );
+    put_verdict(b"numbers", verdict);
 }
 
-fn ask_n(n: usize) {
+// Results of these lengths.
+fn ask_results(
+    beta: usize,
+    se: usize,
+    z: usize,
+    u: usize,
+    b: usize,
+    mu: usize,
+    eta: usize,
+    residual: usize,
+    v: usize,
+) {
+    let lent = Lent {
+        beta,
+        se,
+        z,
+        u,
+        b,
+        mu,
+        eta,
+        residual,
+        v,
+        rows: 48,
+        matrices: 84,
+        terms: 7000,
+    };
+    ask(b"results", good(), two_groups(), lent);
+}
+
+// Work slices of these lengths.
+fn ask_work(rows: usize, matrices: usize, terms: usize) {
+    let mut lent = enough();
+    lent.rows = rows;
+    lent.matrices = matrices;
+    lent.terms = terms;
+    ask(b"work", good(), two_groups(), lent);
+}
+
+// These sizes: n, p, and the rows and entries of Z'.
+fn ask_sizes(n: usize, p: usize, rows: usize, entries: usize) {
     let mut t = good();
     t.n = n;
-    ask(b"n", t, two_groups(), enough());
-}
-
-fn ask_p(p: usize) {
-    let mut t = good();
     t.p = p;
-    ask(b"p", t, two_groups(), enough());
-}
-
-fn ask_effects(rows: usize) {
-    let mut t = good();
     t.rows = rows;
-    ask(b"rows", t, two_groups(), enough());
-}
-
-fn ask_entries(entries: usize) {
-    let mut t = good();
     t.entries = entries;
-    ask(b"entries", t, two_groups(), enough());
+    ask(b"sizes", t, two_groups(), enough());
 }
 
 fn ask_limit(limit: Limit) {
@@ -192,18 +250,18 @@ fn ask_block(m: usize, k: usize) {
 
 // Number 1, and sizes that are good but ask for other lengths.
 fn sizes() {
-    ask(b"good", good(), two_groups(), enough());
-    ask_n(0);
-    ask_n(513);
-    ask_n(9223372036854775808);
-    ask_n(4);
-    ask_p(0);
-    ask_p(17);
-    ask_p(3);
-    ask_effects(1);
-    ask_effects(3);
-    ask_entries(8193);
-    ask_entries(8192);
+    ask_sizes(3, 2, 2, 3);
+    ask_sizes(0, 2, 2, 3);
+    ask_sizes(513, 2, 2, 3);
+    ask_sizes(9223372036854775808, 2, 2, 3);
+    ask_sizes(4, 2, 2, 3);
+    ask_sizes(3, 0, 2, 3);
+    ask_sizes(3, 17, 2, 3);
+    ask_sizes(3, 3, 2, 3);
+    ask_sizes(3, 2, 1, 3);
+    ask_sizes(3, 2, 3, 3);
+    ask_sizes(3, 2, 2, 8193);
+    ask_sizes(3, 2, 2, 8192);
 }
 
 fn more_sizes() {
@@ -217,192 +275,103 @@ fn more_sizes() {
     ask_block(9223372036854775808, 2);
 }
 
-// Number 2: the results.
+// Number 2: each result one short, or longer.
 fn results() {
-    let mut lent = enough();
-    lent.beta = 1;
-    ask(b"beta", good(), two_groups(), lent);
-    lent = enough();
-    lent.se = 3;
-    ask(b"se", good(), two_groups(), lent);
-    lent = enough();
-    lent.z = 0;
-    ask(b"z", good(), two_groups(), lent);
-    lent = enough();
-    lent.u = 3;
-    ask(b"u", good(), two_groups(), lent);
-    lent = enough();
-    lent.b = 1;
-    ask(b"b", good(), two_groups(), lent);
+    ask_results(1, 2, 2, 2, 2, 3, 3, 3, 4);
+    ask_results(2, 3, 2, 2, 2, 3, 3, 3, 4);
+    ask_results(2, 2, 0, 2, 2, 3, 3, 3, 4);
+    ask_results(2, 2, 2, 3, 2, 3, 3, 3, 4);
+    ask_results(2, 2, 2, 2, 1, 3, 3, 3, 4);
+    ask_results(2, 2, 2, 2, 2, 2, 3, 3, 4);
+    ask_results(2, 2, 2, 2, 2, 3, 4, 3, 4);
+    ask_results(2, 2, 2, 2, 2, 3, 3, 2, 4);
+    ask_results(2, 2, 2, 2, 2, 3, 3, 3, 3);
+    ask_results(2, 2, 2, 2, 2, 3, 3, 3, 4);
 }
 
-fn more_results() {
-    let mut lent = enough();
-    lent.mu = 2;
-    ask(b"mu", good(), two_groups(), lent);
-    lent = enough();
-    lent.eta = 4;
-    ask(b"eta", good(), two_groups(), lent);
-    lent = enough();
-    lent.residual = 2;
-    ask(b"residual", good(), two_groups(), lent);
-    lent = enough();
-    lent.v = 3;
-    ask(b"v", good(), two_groups(), lent);
-}
-
-// Number 7: one short, and longer.
+// Number 7: each work slice one short, then longer.
 fn work() {
-    let mut lent = enough();
-    lent.rows = 47;
-    ask(b"work", good(), two_groups(), lent);
-    lent.rows = 49;
-    ask(b"work", good(), two_groups(), lent);
-    lent.matrices = 83;
-    ask(b"work", good(), two_groups(), lent);
-    lent.matrices = 85;
-    ask(b"work", good(), two_groups(), lent);
-    lent.terms = 6999;
-    ask(b"work", good(), two_groups(), lent);
-    lent.terms = 7001;
-    ask(b"work", good(), two_groups(), lent);
+    ask_work(47, 84, 7000);
+    ask_work(48, 83, 7000);
+    ask_work(48, 84, 6999);
+    ask_work(49, 85, 7001);
 }
 
 // Number 2: the inputs.
 fn lists() {
-    let y = [1.0, 2.0, 3.0];
-    ask_lists(b"theta", &[], &y, &[], &[]);
-    ask_lists(b"theta", &[1.0, 1.0], &y, &[], &[]);
-    ask_lists(b"y", &[1.0], &[1.0, 2.0], &[], &[]);
-    ask_lists(b"weights", &[1.0], &y, &[1.0], &[]);
-    ask_lists(b"weights", &[1.0], &y, &y, &[]);
-    ask_lists(b"offset", &[1.0], &y, &[], &[1.0, 1.0]);
-    ask_lists(b"offset", &[1.0], &y, &y, &y);
+    let ones = [1.0; 8];
+    ask_lists(&ones, 0, 3, 0, 0);
+    ask_lists(&ones, 2, 3, 0, 0);
+    ask_lists(&ones, 1, 2, 0, 0);
+    ask_lists(&ones, 1, 4, 0, 0);
+    ask_lists(&ones, 1, 3, 1, 0);
+    ask_lists(&ones, 1, 3, 3, 0);
+    ask_lists(&ones, 1, 3, 0, 2);
+    ask_lists(&ones, 1, 3, 3, 3);
+    ask_lists(&ones, 1, 3, 0, 4);
 }
 
 fn design() {
-    let x = [1.0, 0.5, 1.0, 0.25, 1.0, 0.125];
-    let z = [1.0, 1.0, 1.0];
-    ask_design(b"x", &x[0..5], &[0, 2, 3], &[0, 2, 1], &z);
-    ask_design(b"starts", &x, &[0, 3], &[0, 2, 1], &z);
-    ask_design(b"columns", &x, &[0, 2, 3], &[0, 2], &z);
-    ask_design(b"values", &x, &[0, 2, 3], &[0, 2, 1], &z[0..2]);
+    let ones = [1.0; 8];
+    ask_design(&ones, 5, 3, 3, 3);
+    ask_design(&ones, 7, 3, 3, 3);
+    ask_design(&ones, 6, 2, 3, 3);
+    ask_design(&ones, 6, 4, 3, 3);
+    ask_design(&ones, 6, 3, 2, 3);
+    ask_design(&ones, 6, 3, 3, 4);
+    ask_design(&ones, 6, 3, 3, 3);
 }
 
 // Number 6.
 fn rows() {
-    ask_rows(b"first start", &[1, 2, 3], &[0, 2, 1]);
-    ask_rows(b"last start", &[0, 2, 2], &[0, 2, 1]);
-    ask_rows(b"past", &[0, 4, 3], &[0, 2, 1]);
-    ask_rows(b"empty row", &[0, 0, 3], &[0, 1, 2]);
-    ask_rows(b"column", &[0, 2, 3], &[0, 3, 1]);
-    ask_rows(b"falling", &[0, 2, 3], &[2, 0, 1]);
-    ask_rows(b"twice", &[0, 2, 3], &[2, 2, 1]);
-    ask_rows(b"next row", &[0, 2, 3], &[1, 2, 0]);
-    ask_rows(b"wide", &[0, 2, 3], &[0, 18446744073709551615, 1]);
+    ask_rows(1, 2, 3, 0, 2, 1);
+    ask_rows(0, 2, 2, 0, 2, 1);
+    ask_rows(0, 4, 3, 0, 2, 1);
+    ask_rows(0, 0, 3, 0, 1, 2);
+    ask_rows(0, 2, 3, 0, 3, 1);
+    ask_rows(0, 2, 3, 2, 0, 1);
+    ask_rows(0, 2, 3, 2, 2, 1);
+    ask_rows(0, 2, 3, 1, 2, 0);
+    ask_rows(0, 2, 3, 0, 18446744073709551615, 1);
 }
 
 // Number 3.
 fn numbers() {
     let nan = 0.0 / 0.0;
     let inf = 1.0 / 0.0;
-    let y = [1.0, 2.0, 3.0];
-    ask_lists(b"nan", &[nan], &y, &[], &[]);
-    ask_lists(b"nan", &[1.0], &[1.0, 2.0, inf], &[], &[]);
-    ask_lists(b"nan", &[1.0], &y, &[1.0, -inf, 1.0], &[]);
-    ask_lists(b"nan", &[1.0], &y, &[], &[nan, 0.0, 0.0]);
-    ask_design(
-        b"nan",
-        &[1.0, 0.5, 1.0, 0.25, 1.0, nan],
-        &[0, 2, 3],
-        &[0, 2, 1],
-        &y,
-    );
-    ask_design(
-        b"nan",
-        &[1.0, 0.5, 1.0, 0.25, 1.0, 1.0],
-        &[0, 2, 3],
-        &[0, 2, 1],
-        &[1.0, inf, 1.0],
-    );
+    ask_numbers(1.0, 1.0, 1.0, 1.0, 1.0, 1.0);
+    ask_numbers(nan, 1.0, 1.0, 1.0, 1.0, 1.0);
+    ask_numbers(1.0, inf, 1.0, 1.0, 1.0, 1.0);
+    ask_numbers(1.0, 1.0, -inf, 1.0, 1.0, 1.0);
+    ask_numbers(1.0, 1.0, 1.0, nan, 1.0, 1.0);
+    ask_numbers(1.0, 1.0, 1.0, 1.0, nan, 1.0);
+    ask_numbers(1.0, 1.0, 1.0, 1.0, 1.0, inf);
+}
+
+fn ask_pair(family: Family, link: Link) {
+    ask(b"pair", settings(family, link), two_groups(), enough());
 }
 
 // Numbers 4 and 5: each link with the family.
 fn links(family: Family) {
-    ask(
-        b"logit",
-        settings(family, Link::Logit),
-        two_groups(),
-        enough(),
-    );
-    ask(
-        b"probit",
-        settings(family, Link::Probit),
-        two_groups(),
-        enough(),
-    );
-    ask(
-        b"cloglog",
-        settings(family, Link::Cloglog),
-        two_groups(),
-        enough(),
-    );
-    ask(b"log", settings(family, Link::Log), two_groups(), enough());
-    ask(
-        b"identity",
-        settings(family, Link::Identity),
-        two_groups(),
-        enough(),
-    );
-    ask(
-        b"inverse",
-        settings(family, Link::Inverse),
-        two_groups(),
-        enough(),
-    );
-    ask(
-        b"sqrt",
-        settings(family, Link::Sqrt),
-        two_groups(),
-        enough(),
-    );
+    ask_pair(family, Link::Logit);
+    ask_pair(family, Link::Probit);
+    ask_pair(family, Link::Cloglog);
+    ask_pair(family, Link::Log);
+    ask_pair(family, Link::Identity);
+    ask_pair(family, Link::Inverse);
+    ask_pair(family, Link::Sqrt);
 }
 
-// A call with a fault in each place from the given one of the table's order on.
-fn faults(from: usize) {
-    let nan = 0.0 / 0.0;
+// Several faults at once: a size, a result's length, a work slice's length, a column, a response and the pair.
+fn faults(n: usize, beta: usize, terms: usize, column: usize, y: f64) {
+    let mut t = settings(Family::Gamma, Link::Probit);
+    t.n = n;
     let mut lent = enough();
-    let mut t = settings(Family::Poisson, Link::Probit);
-    lent.terms = 6999;
-    if from == 0 {
-        t.n = 513;
-    }
-    if from <= 1 {
-        lent.beta = 1;
-    }
-    if 2 < from {
-        lent.terms = 7000;
-    }
+    lent.beta = beta;
+    lent.terms = terms;
     let verdict = table::verdict_of(
         t,
-        two_groups(),
-        &[1.0],
-        &[1.0, nan, 3.0],
-        &[],
-        &[],
-        &[1.0, 0.5, 1.0, 0.25, 1.0, 0.125],
-        &[0, 2, 3],
-        &[2, 0, 1],
-        &[1.0, 1.0, 1.0],
-        lent,
-    );
-    put_verdict(b"faults", verdict);
-}
-
-// The same with good rows.
-fn later_faults(y: f64) {
-    let verdict = table::verdict_of(
-        settings(Family::Gamma, Link::Probit),
         two_groups(),
         &[1.0],
         &[1.0, y, 3.0],
@@ -410,9 +379,9 @@ fn later_faults(y: f64) {
         &[],
         &[1.0, 0.5, 1.0, 0.25, 1.0, 0.125],
         &[0, 2, 3],
-        &[0, 2, 1],
+        &[0, column, 1],
         &[1.0, 1.0, 1.0],
-        enough(),
+        lent,
     );
     put_verdict(b"faults", verdict);
 }
@@ -421,7 +390,6 @@ fn main() {
     sizes();
     more_sizes();
     results();
-    more_results();
     work();
     lists();
     design();
@@ -431,10 +399,11 @@ fn main() {
     links(Family::Poisson);
     links(Family::Gaussian);
     links(Family::Gamma);
-    faults(0);
-    faults(1);
-    faults(2);
-    faults(3);
-    later_faults(0.0 / 0.0);
-    later_faults(2.0);
+    let nan = 0.0 / 0.0;
+    faults(513, 1, 6999, 3, nan);
+    faults(3, 1, 6999, 3, nan);
+    faults(3, 2, 6999, 3, nan);
+    faults(3, 2, 7000, 3, nan);
+    faults(3, 2, 7000, 2, nan);
+    faults(3, 2, 7000, 2, 2.0);
 }

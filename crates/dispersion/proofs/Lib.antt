@@ -3,4 +3,5 @@ pub mod Turns
 pub mod Capped
 pub mod Higher
 pub mod Reported
+pub mod Laplace
 pub mod Unique

@@ -1,0 +1,118 @@
+-- `cases_results::nine` is safe: each array is as long as the sizes say.
+use native.Mathlib.Omega.{arith}
+use borrow.Author.Needs.{needs}
+use Rattle.cases_results.proofs.nine.Statement.{statement}
+use Rattle.cases_results.proofs.nine.Tie as tie
+
+slice-aggregate-write-results : tie.Need-slice-aggregate-write-results
+slice-aggregate-write-results c = search needs
+
+slice-aggregate-write-results-2 : tie.Need-slice-aggregate-write-results-2
+slice-aggregate-write-results-2 c = search needs
+
+slice-aggregate-write-results-3 : tie.Need-slice-aggregate-write-results-3
+slice-aggregate-write-results-3 c = search needs
+
+slice-aggregate-write-results-4 : tie.Need-slice-aggregate-write-results-4
+slice-aggregate-write-results-4 c = search needs
+
+slice-aggregate-write-results-5 : tie.Need-slice-aggregate-write-results-5
+slice-aggregate-write-results-5 c = search needs
+
+slice-aggregate-write-results-6 : tie.Need-slice-aggregate-write-results-6
+slice-aggregate-write-results-6 c = search needs
+
+slice-aggregate-write-results-7 : tie.Need-slice-aggregate-write-results-7
+slice-aggregate-write-results-7 c = search needs
+
+slice-aggregate-write-results-8 : tie.Need-slice-aggregate-write-results-8
+slice-aggregate-write-results-8 c = search needs
+
+slice-aggregate-write-results-9 : tie.Need-slice-aggregate-write-results-9
+slice-aggregate-write-results-9 c = search needs
+
+slice-aggregate-write-results-10 : tie.Need-slice-aggregate-write-results-10
+slice-aggregate-write-results-10 c = search needs
+
+slice-aggregate-write-results-11 : tie.Need-slice-aggregate-write-results-11
+slice-aggregate-write-results-11 c = search needs
+
+slice-aggregate-write-results-12 : tie.Need-slice-aggregate-write-results-12
+slice-aggregate-write-results-12 c = search needs
+
+slice-aggregate-write-results-13 : tie.Need-slice-aggregate-write-results-13
+slice-aggregate-write-results-13 c = search needs
+
+slice-aggregate-write-results-14 : tie.Need-slice-aggregate-write-results-14
+slice-aggregate-write-results-14 c = search needs
+
+slice-aggregate-write-results-15 : tie.Need-slice-aggregate-write-results-15
+slice-aggregate-write-results-15 c = search needs
+
+write-results-requires : tie.Need-write-results-requires
+write-results-requires c κs = let s = c .before .before .before .before .before .before .before .before .before .before .before .before .before .before .before .before in (record { good = s .pre .0; effects = s .pre .1; numbers = omega (arith, s .pre .2); y-long = omega arith; columns-long = omega arith; beta-long = omega arith; u-long = omega arith; mu-long = omega arith; eta-long = omega arith }, record { beta-long = omega arith; se-long = omega arith; z-long = omega arith; u-long = omega arith; b-long = omega arith; mu-long = omega arith; eta-long = omega arith; residual-long = omega arith; v-long = omega arith })
+
+slice-aggregate-put-nine : tie.Need-slice-aggregate-put-nine
+slice-aggregate-put-nine c = search needs
+
+slice-aggregate-put-nine-2 : tie.Need-slice-aggregate-put-nine-2
+slice-aggregate-put-nine-2 c = search needs
+
+slice-aggregate-put-nine-3 : tie.Need-slice-aggregate-put-nine-3
+slice-aggregate-put-nine-3 c = search needs
+
+slice-aggregate-put-nine-4 : tie.Need-slice-aggregate-put-nine-4
+slice-aggregate-put-nine-4 c = search needs
+
+slice-aggregate-put-nine-5 : tie.Need-slice-aggregate-put-nine-5
+slice-aggregate-put-nine-5 c = search needs
+
+slice-aggregate-put-nine-6 : tie.Need-slice-aggregate-put-nine-6
+slice-aggregate-put-nine-6 c = search needs
+
+slice-aggregate-put-nine-7 : tie.Need-slice-aggregate-put-nine-7
+slice-aggregate-put-nine-7 c = search needs
+
+slice-aggregate-put-nine-8 : tie.Need-slice-aggregate-put-nine-8
+slice-aggregate-put-nine-8 c = search needs
+
+slice-aggregate-put-nine-9 : tie.Need-slice-aggregate-put-nine-9
+slice-aggregate-put-nine-9 c = search needs
+
+put-nine-requires : tie.Need-put-nine-requires
+put-nine-requires c κs = search needs
+
+returns : tie.Need-returns
+returns c = search needs
+
+pub nine-spec : {M : Type 1} → statement M
+nine-spec =
+    tie.close
+    (tie.spec
+    slice-aggregate-write-results
+    slice-aggregate-write-results-2
+    slice-aggregate-write-results-3
+    slice-aggregate-write-results-4
+    slice-aggregate-write-results-5
+    slice-aggregate-write-results-6
+    slice-aggregate-write-results-7
+    slice-aggregate-write-results-8
+    slice-aggregate-write-results-9
+    slice-aggregate-write-results-10
+    slice-aggregate-write-results-11
+    slice-aggregate-write-results-12
+    slice-aggregate-write-results-13
+    slice-aggregate-write-results-14
+    slice-aggregate-write-results-15
+    write-results-requires
+    slice-aggregate-put-nine
+    slice-aggregate-put-nine-2
+    slice-aggregate-put-nine-3
+    slice-aggregate-put-nine-4
+    slice-aggregate-put-nine-5
+    slice-aggregate-put-nine-6
+    slice-aggregate-put-nine-7
+    slice-aggregate-put-nine-8
+    slice-aggregate-put-nine-9
+    put-nine-requires
+    returns)
