@@ -16,9 +16,9 @@ VECTORS = "beta se z u b mu eta residual v".split()
 JOBS = json.loads((ROOT / "crates" / "rule_cases" / "jobs.json").read_text())
 
 
-def definitions():
+def definitions(crates=CRATES):
     """The definitions that a computation opens: (module, names)."""
-    for crate in CRATES:
+    for crate in crates:
         for path in sorted(glob.glob(str(ROOT / "crates" / crate / "specs" / "*.antt"))):
             names = re.findall(r"(?m)^unfoldable pub (\S+) :", Path(path).read_text())
             if names:
@@ -117,4 +117,5 @@ def main():
     (folder / "Lib.antt").write_text(lib + "".join(f"pub mod {name}\n" for name in JOBS))
 
 
-main()
+if __name__ == "__main__":
+    main()

@@ -1,0 +1,2 @@
+-- What an inner fit with quadrature tells. Assumes nothing.
+pub mod Told

@@ -1,0 +1,2 @@
+-- Laws of the inner fit with its quadrature. Assumes nothing.
+pub mod Limits

@@ -1,0 +1,30 @@
+-- A point of the grid: its nodes and its log weight. Document 01, "The inner fit": point t has digits of t in base order, first dimension lowest. Assumes nothing.
+use mathlib.Core.List.{List}
+use Prim.Native.Nat.{ℕ, _/_, _%_, _^_}
+use lib.Ieee.{Float}
+use Rattle.base.specs.Sum.{_!_, sumTo}
+use Rattle.base.specs.List.{build}
+use Rattle.elementary.specs.Log.{lnOf}
+use Rattle.quadrature.specs.Orders.{sizeOf}
+use Rattle.quadrature.specs.Rules.{nodesOf, weightsOf}
+use Rattle.quadrature.specs.declared.orders.Order.{Order}
+
+-- digit j of t in base b, the first lowest
+abbrev pub digit : ℕ → ℕ → ℕ → ℕ
+digit b t j = t / b ^ j % b
+
+-- z_j of point t
+unfoldable pub nodeAt : Order → ℕ → ℕ → Float
+nodeAt o t j = nodesOf o ! digit (sizeOf o) t j
+
+-- z of point t in k dimensions
+unfoldable pub pointOf : Order → ℕ → ℕ → List Float
+pointOf o k t = build (nodeAt o t) k
+
+-- ln w of dimension j
+unfoldable pub logWeightAt : Order → ℕ → ℕ → Float
+logWeightAt o t j = lnOf (weightsOf o ! digit (sizeOf o) t j)
+
+-- the log weight of point t in k dimensions: the sum over them
+unfoldable pub logWeightOf : Order → ℕ → ℕ → Float
+logWeightOf o k t = sumTo k (logWeightAt o t)

@@ -1,0 +1,2 @@
+-- L z, by entries. Assumes nothing.
+pub mod Spread

@@ -1,0 +1,4 @@
+// L z: how far a quadrature point lies from the mode.
+mod product;
+
+pub use product::spread_at;
