@@ -47,10 +47,10 @@ record Factors (k : ℕ) (B t t' : List Float) (r : Factored) : Type 0 where
   pub lower : r ≡ Done → SameBelow k (row 0 (k * k) t') (factorOfBlock k B)
   pub frame : Only 0 (k * k) t t'
 
-factors : (k place end : ℕ) (B m t ys : List Float) (r : Factored) → end ≡ place + k * k → row place (k * k) m ≡ B → k * k ≤ length t
+factor-made : (k place end : ℕ) (B m t ys : List Float) (r : Factored) → end ≡ place + k * k → row place (k * k) m ≡ B → k * k ≤ length t
     → length ys ≡ length (midOf 0 (k * k - 0) t) → LdlLeaves k (take (end - place) (drop place m)) (midOf 0 (k * k - 0) t) r ys → Factors k B t (putMid 0 (k * k - 0) t ys) r
 unfolding reach ldlOf
-factors k place end B m t ys r ee eB h l d =
+factor-made k place end B m t ys r ee eB h l d =
     let A : take (end - place) (drop place m) ≡ B = part-is place (k * k) end m ee ∙ eB in
     let d' : LdlLeaves k B (midOf 0 (k * k - 0) t) r ys = rw A at d in
     let n : length (midOf 0 (k * k - 0) t) ≡ k * k = mid-len 0 (k * k) t h ∙ omega arith in
@@ -66,10 +66,10 @@ factors k place end B m t ys r ee eB h l d =
     }
 
 -- the inverse over the part that was lent
-inverted : (k place end : ℕ) (B m t ys : List Float) → end ≡ place + k * k → end ≤ length m → SameBelow k (row 0 (k * k) t) (factorOfBlock k B)
+inverse-made : (k place end : ℕ) (B m t ys : List Float) → end ≡ place + k * k → end ≤ length m → SameBelow k (row 0 (k * k) t) (factorOfBlock k B)
     → length ys ≡ length (midOf place (end - place) m) → ys ≡ gridTo k k (ldlInverseAt k (take (k * k - 0) (drop 0 t))) (midOf place (end - place) m)
     → Wrote place (k * k) (ldlInverse k (factorOfBlock k B)) m (putMid place (end - place) m ys)
-inverted k place end B m t ys ee h same l y =
+inverse-made k place end B m t ys ee h same l y =
     let n : length (midOf place (end - place) m) ≡ k * k = mid-len place end m h ∙ omega arith in
     let w : Wrote place (k * k) ys m (putMid place (end - place) m ys) = part-wrote place (k * k) end m ys ee h (l ∙ n) in
     let y' : ys ≡ ldlInverse k (row 0 (k * k) t) = y ∙ grid-inverse k (take (k * k - 0) (drop 0 t)) (midOf place (end - place) m) n ∙ ap (ldlInverse k) (front-is (k * k) t) in
@@ -81,10 +81,10 @@ record Roots (k place : ℕ) (S m m' : List Float) (r : Factored) : Type 0 where
   pub root : r ≡ Done → row place (k * k) m' ≡ choleskyOf k S
   pub frame : Only place (k * k) m m'
 
-roots : (k place end : ℕ) (S m ys : List Float) (r : Factored) → end ≡ place + k * k → end ≤ length m → row place (k * k) m ≡ S
+root-made : (k place end : ℕ) (S m ys : List Float) (r : Factored) → end ≡ place + k * k → end ≤ length m → row place (k * k) m ≡ S
     → length ys ≡ length (midOf place (end - place) m) → CholeskyLeaves k (midOf place (end - place) m) r ys → Roots k place S m (putMid place (end - place) m ys) r
 unfolding reach choleskyOf
-roots k place end S m ys r ee h eS l d =
+root-made k place end S m ys r ee h eS l d =
     let A : midOf place (end - place) m ≡ S = part-is place (k * k) end m ee ∙ eS in
     let n : length (midOf place (end - place) m) ≡ k * k = mid-len place end m h ∙ omega arith in
     let d' : CholeskyLeaves k S r ys = rw A at d in
@@ -94,11 +94,11 @@ roots k place end S m ys r ee h eS l d =
 -- ---- the three answers
 
 -- the part of t that was lent to `ldl`
-abbrev pub lentFront : ℕ → List Float → List Float
+abbrev lentFront : ℕ → List Float → List Float
 lentFront k t = midOf 0 (k * k - 0) t
 
 -- t with what came back
-abbrev pub withFront : ℕ → List Float → List Float → List Float
+abbrev withFront : ℕ → List Float → List Float → List Float
 withFront k t ys = putMid 0 (k * k - 0) t ys
 
 -- the block that is factored
@@ -111,7 +111,7 @@ module _ (q s k place end : ℕ) (m m₁ t ys : List Float) (r : Factored) (ep :
   wrote-block = rw ep w
 
   first : Factors k (blockOf q s k m) t (withFront k t ys) r
-  first = factors k place end (blockOf q s k m) m₁ t ys r ee (wrote-block .row') ht l d
+  first = factor-made k place end (blockOf q s k m) m₁ t ys r ee (wrote-block .row') ht l d
 
   -- LDL' has a bad pivot
   pub no-inverse : (i : ℕ) → r ≡ Bad i → ScaleLeaves q s k m m₁ t (withFront k t ys) (Unscaled Inverse)
@@ -122,10 +122,10 @@ module _ (q s k place end : ℕ) (m m₁ t ys : List Float) (r : Factored) (ep :
       (y : zs ≡ gridTo k k (ldlInverseAt k (take (k * k - 0) (drop 0 (withFront k t ys)))) (midOf place (end - place) m₁))
       (lw : length ws ≡ length (midOf place (end - place) (putMid place (end - place) m₁ zs))) (x : CholeskyLeaves k (midOf place (end - place) (putMid place (end - place) m₁ zs)) z ws) where
     second : Wrote place (k * k) (ldlInverse k (factorOfBlock k (blockOf q s k m))) m₁ (putMid place (end - place) m₁ zs)
-    second = inverted k place end (blockOf q s k m) m₁ (withFront k t ys) zs ee (omega (arith, w .only .len)) (first .lower e) lz y
+    second = inverse-made k place end (blockOf q s k m) m₁ (withFront k t ys) zs ee (omega (arith, w .only .len)) (first .lower e) lz y
 
     third : Roots k place (ldlInverse k (factorOfBlock k (blockOf q s k m))) (putMid place (end - place) m₁ zs) (putMid place (end - place) (putMid place (end - place) m₁ zs) ws) z
-    third = roots k place end (ldlInverse k (factorOfBlock k (blockOf q s k m))) (putMid place (end - place) m₁ zs) ws z ee (omega (arith, w .only .len, second .only .len)) (second .row') lw x
+    third = root-made k place end (ldlInverse k (factorOfBlock k (blockOf q s k m))) (putMid place (end - place) m₁ zs) ws z ee (omega (arith, w .only .len, second .only .len)) (second .row') lw x
 
     changed : Only (inversePlace q) (k * k) m (putMid place (end - place) (putMid place (end - place) m₁ zs) ws)
     changed = let o : Only place (k * k) m (putMid place (end - place) (putMid place (end - place) m₁ zs) ws) = only-trans (wrote-block .only) (only-trans (second .only) (third .frame)) in rw (← ep) o
@@ -136,9 +136,9 @@ module _ (q s k place end : ℕ) (m m₁ t ys : List Float) (r : Factored) (ep :
     no-factor i g = record { scale = rw (← first .end, e, ← third .end, g) refl; matrices-only = changed; terms-only = first .frame }
 
     -- the factor was found
-    pub found : z ≡ Done → ScaleLeaves q s k m (putMid place (end - place) (putMid place (end - place) m₁ zs) ws) t (withFront k t ys) Scaled
+    pub scale-found : z ≡ Done → ScaleLeaves q s k m (putMid place (end - place) (putMid place (end - place) m₁ zs) ws) t (withFront k t ys) Scaled
     unfolding tellScale blockScale ldlScale afterLdl inverseScale choleskyScale afterCholesky
-    found g =
+    scale-found g =
         let L : row (inversePlace q) (k * k) (putMid place (end - place) (putMid place (end - place) m₁ zs) ws) ≡ choleskyOf k (ldlInverse k (factorOfBlock k (blockOf q s k m))) =
         ap (λ (o : ℕ). row o (k * k) (putMid place (end - place) (putMid place (end - place) m₁ zs) ws)) (sym ep) ∙ third .root g in
         record { scale = rw (L, ← first .end, e, ← third .end, g) refl; matrices-only = changed; terms-only = first .frame }
