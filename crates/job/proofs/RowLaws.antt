@@ -12,7 +12,7 @@ use lib.ListN.{length, length-append}
 use borrow.Author.Tests.{leb-true}
 use Rattle.base.proofs.Fills.{build-length}
 use Rattle.job.specs.Lists.{joinTo}
-use Rattle.job.specs.Format.{short, afterRow, rowAt, startOf, columnIn, valueIn, zAt, rowsIn, sizesFit, blocks, blocksAt}
+use Rattle.job.specs.Format.{short, afterRow, rowAt, startOf, columnRead, valueRead, zAt, rowsIn, sizesFit, blocks, blocksAt}
 use Rattle.job.specs.Places.{Fitting}
 use Rattle.job.specs.Faults.{demand, isSound, reaches, pairFault, entryFault, entriesFault, rowFault, rowsFault, numbersFault, bodyFault, headFault, faultOf}
 use Rattle.job.specs.Job.{columnsOf, valuesOf}
@@ -49,13 +49,13 @@ pub columns-before : (s : List ℕ) (r : ℕ) → length (joinTo r (columnsOf s)
 unfolding joinTo startOf columnsOf
 columns-before s zero = refl
 columns-before s (suc r) =
-    length-append (joinTo r (columnsOf s)) (columnsOf s r) ∙ rw (columns-before s r, counts-length (columnIn s (rowAt s r)) (short s (rowAt s r))) refl
+    length-append (joinTo r (columnsOf s)) (columnsOf s r) ∙ rw (columns-before s r, counts-length (columnRead s (rowAt s r)) (short s (rowAt s r))) refl
 
 pub values-before : (s : List ℕ) (r : ℕ) → length (joinTo r (valuesOf s)) ≡ startOf s r
 unfolding joinTo startOf valuesOf
 values-before s zero = refl
 values-before s (suc r) =
-    length-append (joinTo r (valuesOf s)) (valuesOf s r) ∙ rw (values-before s r, build-length (valueIn s (rowAt s r)) (short s (rowAt s r))) refl
+    length-append (joinTo r (valuesOf s)) (valuesOf s r) ∙ rw (values-before s r, build-length (valueRead s (rowAt s r)) (short s (rowAt s r))) refl
 
 -- ---- what a sound job reaches
 entry-reached : (s : List ℕ) (p : ℕ) → isSound (entryFault s p) ≡ true → p + 10 ≤ length s

@@ -18,7 +18,7 @@ use Rattle.bits.proofs.BitLaws.{bits-below}
 use Rattle.model.specs.Names.{familyCode, familyCoded, linkCode, linkCoded}
 use Rattle.model.specs.declared.names.Limit.the-variants.{Given, NotGiven}
 use Rattle.job.specs.Lists.{joinTo}
-use Rattle.job.specs.Format.{version, familyField, linkField, limitField, blocks, blocksAt, blockAt, groups, effectsIn, shapeOf, number, short, entryAt, columnIn, valueIn, rowAt, startOf, rowsIn, obs, cols, weighted, shifted, thetas, thetaAt, yAt, weightsAt, offsetAt, xAt, zAt, sizesFit}
+use Rattle.job.specs.Format.{version, familyField, linkField, limitField, blocks, blocksAt, blockAt, groups, effectsIn, shapeOf, number, short, entryAt, columnRead, valueRead, rowAt, startOf, rowsIn, obs, cols, weighted, shifted, thetas, thetaAt, yAt, weightsAt, offsetAt, xAt, zAt, sizesFit}
 use Rattle.job.specs.Faults.{isSound, demand, spare, pairFault, reaches, headFault, blocksFault, entryFault, entriesFault, rowFault, rowsFault, numbersFault, bodyFault, faultOf}
 use Rattle.job.specs.Job.{familyFrom, linkFrom, limitFrom, settingsOf, columnsOf, valuesOf, sparseOf, jobOf}
 use Rattle.job.specs.Write.{fld, packed, present, limitCode, headBytes, blockBytes, numberBytes, numbersBytes, shortBytes, entryBytes, rowCount, rowBytes, jobBytes}
@@ -166,7 +166,7 @@ rows-each s r (suc n) (suc i) l h =
 -- ---- Z'
 -- no value of the row at p is a NaN
 abbrev pub PlainRow : List ℕ → ℕ → Type 0
-PlainRow s p = (j : ℕ) → j < short s p → T (not (isNan (valueIn s p j)))
+PlainRow s p = (j : ℕ) → j < short s p → T (not (isNan (valueRead s p j)))
 
 module _ (s : List ℕ) (r : ℕ) (l : r < rowsIn s) where
   start-at : sparseOf s .starts !! r ≡ startOf s r
@@ -177,19 +177,19 @@ module _ (s : List ℕ) (r : ℕ) (l : r < rowsIn s) where
   unfolding sparseOf
   count-is = rw (counts-at (startOf s) (rowsIn s + 1) (r + 1) (omega arith), counts-at (startOf s) (rowsIn s + 1) r (omega arith), start-next s r) (omega arith)
 
-  column-is : (j : ℕ) → j < short s (rowAt s r) → sparseOf s .columns !! (startOf s r + j) ≡ columnIn s (rowAt s r) j
+  column-is : (j : ℕ) → j < short s (rowAt s r) → sparseOf s .columns !! (startOf s r + j) ≡ columnRead s (rowAt s r) j
   unfolding sparseOf columnsOf
   column-is j h =
-      let n = counts-length (columnIn s (rowAt s r)) (short s (rowAt s r)) in
-      rw (← columns-before s r) (join-at (columnsOf s) (rowsIn s) r j 0 l (omega (arith, n)) ∙ counts-at (columnIn s (rowAt s r)) (short s (rowAt s r)) j h)
+      let n = counts-length (columnRead s (rowAt s r)) (short s (rowAt s r)) in
+      rw (← columns-before s r) (join-at (columnsOf s) (rowsIn s) r j 0 l (omega (arith, n)) ∙ counts-at (columnRead s (rowAt s r)) (short s (rowAt s r)) j h)
 
-  value-is : (j : ℕ) → j < short s (rowAt s r) → sparseOf s .values ! (startOf s r + j) ≡ valueIn s (rowAt s r) j
+  value-is : (j : ℕ) → j < short s (rowAt s r) → sparseOf s .values ! (startOf s r + j) ≡ valueRead s (rowAt s r) j
   unfolding sparseOf valuesOf
   value-is j h =
-      let n = build-length (valueIn s (rowAt s r)) (short s (rowAt s r)) in
-      rw (← values-before s r) (join-at (valuesOf s) (rowsIn s) r j nan l (omega (arith, n)) ∙ build-at (valueIn s (rowAt s r)) (short s (rowAt s r)) j h)
+      let n = build-length (valueRead s (rowAt s r)) (short s (rowAt s r)) in
+      rw (← values-before s r) (join-at (valuesOf s) (rowsIn s) r j nan l (omega (arith, n)) ∙ build-at (valueRead s (rowAt s r)) (short s (rowAt s r)) j h)
 
-  entry-written : (j : ℕ) → Bytes s → j < short s (rowAt s r) → isSound (entryFault s (entryAt (rowAt s r) j)) ≡ true → T (not (isNan (valueIn s (rowAt s r) j)))
+  entry-written : (j : ℕ) → Bytes s → j < short s (rowAt s r) → isSound (entryFault s (entryAt (rowAt s r) j)) ≡ true → T (not (isNan (valueRead s (rowAt s r) j)))
       → entryBytes (sparseOf s) (startOf s r + j) ≡ part s (entryAt (rowAt s r) j) 10
   unfolding entryBytes entryFault
   entry-written j h m e n =

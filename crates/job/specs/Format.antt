@@ -134,8 +134,8 @@ startOf s (suc r) = startOf s r + short s (rowAt s r)
 abbrev pub entryAt : ℕ → ℕ → ℕ
 entryAt p j = p + 2 + 10 * j
 
-abbrev pub columnIn : List ℕ → ℕ → ℕ → ℕ
-columnIn s p j = short s (entryAt p j)
+abbrev pub columnRead : List ℕ → ℕ → ℕ → ℕ
+columnRead s p j = short s (entryAt p j)
 
-abbrev pub valueIn : List ℕ → ℕ → ℕ → Float
-valueIn s p j = doubleOf s (entryAt p j + 2)
+abbrev pub valueRead : List ℕ → ℕ → ℕ → Float
+valueRead s p j = doubleOf s (entryAt p j + 2)

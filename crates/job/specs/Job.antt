@@ -22,7 +22,7 @@ use Rattle.model.specs.declared.sizes.Settings.{Settings}
 use Rattle.job.specs.declared.faults.Fault.{Fault}
 use Rattle.job.specs.declared.faults.Fault.the-variants.{Sound, At}
 use Rattle.job.specs.Lists.{counts, joinTo}
-use Rattle.job.specs.Format.{familyField, linkField, weighted, shifted, wish, obs, cols, limitField, shapeOf, rowsIn, thetas, thetaAt, yAt, weightsAt, offsetAt, xAt, number, rowAt, startOf, short, columnIn, valueIn}
+use Rattle.job.specs.Format.{familyField, linkField, weighted, shifted, wish, obs, cols, limitField, shapeOf, rowsIn, thetas, thetaAt, yAt, weightsAt, offsetAt, xAt, number, rowAt, startOf, short, columnRead, valueRead}
 use Rattle.job.specs.Faults.{faultOf}
 
 -- the family that was found; a code of two bits always names one
@@ -55,10 +55,10 @@ settingsOf s =
 
 -- the columns and the values of row r of Z'
 unfoldable pub columnsOf : List ℕ → ℕ → List ℕ
-columnsOf s r = counts (columnIn s (rowAt s r)) (short s (rowAt s r))
+columnsOf s r = counts (columnRead s (rowAt s r)) (short s (rowAt s r))
 
 unfoldable pub valuesOf : List ℕ → ℕ → List Float
-valuesOf s r = build (valueIn s (rowAt s r)) (short s (rowAt s r))
+valuesOf s r = build (valueRead s (rowAt s r)) (short s (rowAt s r))
 
 -- Z', one row behind another
 unfoldable pub sparseOf : List ℕ → Sparse

@@ -8,7 +8,7 @@ use lib.Ieee.{Float}
 use lib.ListN.{length, take}
 use Rattle.base.specs.List.{build}
 use Rattle.job.specs.Lists.{counts, joinTo, laid}
-use Rattle.job.specs.Format.{short, rowAt, startOf, columnIn, valueIn}
+use Rattle.job.specs.Format.{short, rowAt, startOf, columnRead, valueRead}
 use Rattle.job.specs.Job.{columnsOf, valuesOf}
 use Rattle.job.proofs.RowLaws.{row-next, start-next, row-before, row-starts, columns-before, values-before}
 use Rattle.job.proofs.ListLaws.{laid-on}
@@ -32,16 +32,16 @@ e-step s r at n e h i j = rw (i, h, j) (sym (start-next s r))
 
 -- the lent columns and values
 pub columns-step : (s : List ℕ) (r at n e : ℕ) (b w v : List ℕ) → at ≡ rowAt s r → n ≡ short s at → e ≡ startOf s r → w ≡ laid (joinTo r (columnsOf s)) b
-    → v ≡ laid (take e w ++ counts (columnIn s at) n) w → v ≡ laid (joinTo (r + 1) (columnsOf s)) b
+    → v ≡ laid (take e w ++ counts (columnRead s at) n) w → v ≡ laid (joinTo (r + 1) (columnsOf s)) b
 unfolding joinTo columnsOf
 columns-step s r at n e b w v h i j k l =
-    l ∙ laid-on (joinTo r (columnsOf s)) (counts (columnIn s at) n) b w e (columns-before s r ∙ sym j) k ∙ rw (add-one, i, h) refl
+    l ∙ laid-on (joinTo r (columnsOf s)) (counts (columnRead s at) n) b w e (columns-before s r ∙ sym j) k ∙ rw (add-one, i, h) refl
 
 pub values-step : (s : List ℕ) (r at n e : ℕ) (b w v : List Float) → at ≡ rowAt s r → n ≡ short s at → e ≡ startOf s r → w ≡ laid (joinTo r (valuesOf s)) b
-    → v ≡ laid (take e w ++ build (valueIn s at) n) w → v ≡ laid (joinTo (r + 1) (valuesOf s)) b
+    → v ≡ laid (take e w ++ build (valueRead s at) n) w → v ≡ laid (joinTo (r + 1) (valuesOf s)) b
 unfolding joinTo valuesOf
 values-step s r at n e b w v h i j k l =
-    l ∙ laid-on (joinTo r (valuesOf s)) (build (valueIn s at) n) b w e (values-before s r ∙ sym j) k ∙ rw (add-one, i, h) refl
+    l ∙ laid-on (joinTo r (valuesOf s)) (build (valueRead s at) n) b w e (values-before s r ∙ sym j) k ∙ rw (add-one, i, h) refl
 
 -- no row is read yet
 pub join-none : {A : Type 0} (f : ℕ → List A) (b : List A) → b ≡ laid (joinTo 0 f) b

@@ -5,7 +5,7 @@ ghost use Prim.Native.Nat.{_+_, _*_, _<_, _≤_};
 ghost use lib.ListN.{length, take};
 ghost use Rattle.base.specs.List.{build};
 ghost use Rattle.job.specs.Lists.{counts, joinTo, laid};
-ghost use Rattle.job.specs.Format.{zAt, number, rowAt, startOf, columnIn, valueIn};
+ghost use Rattle.job.specs.Format.{zAt, number, rowAt, startOf, columnRead, valueRead};
 ghost use Rattle.job.specs.Job.{columnsOf, valuesOf};
 
 // n doubles from byte a on, into the front of out.
@@ -24,7 +24,7 @@ pub fn read_numbers(s: &[u8], a: usize, n: usize, out: &mut [f64])
 // The n entries of the row of Z' at byte p, into columns and values behind their first e.
 fn read_row(s: &[u8], p: usize, n: usize, e: usize, columns: &mut [usize], values: &mut [f64])
     requires { ⌜ (length (now s) ≤ 65536) × (p + 2 + 10 * n ≤ length (now s)) × (e + n ≤ length (now columns)) × (e + n ≤ length (now values)) ⌝ }
-    ensures { λ _. ⌜ (now (columns .exit) ≡ laid (take e (now (columns .entry)) ++ counts (columnIn (now (s .entry)) p) n) (now (columns .entry))) × (now (values .exit) ≡ laid (take e (now (values .entry)) ++ build (valueIn (now (s .entry)) p) n) (now (values .entry))) ⌝ }
+    ensures { λ _. ⌜ (now (columns .exit) ≡ laid (take e (now (columns .entry)) ++ counts (columnRead (now (s .entry)) p) n) (now (columns .entry))) × (now (values .exit) ≡ laid (take e (now (values .entry)) ++ build (valueRead (now (s .entry)) p) n) (now (values .entry))) ⌝ }
 {
     let mut j = 0;
     while j < n {

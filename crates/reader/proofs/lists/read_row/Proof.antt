@@ -7,14 +7,14 @@ use lib.ListN.{length, length-set, take}
 use borrow.Author.Needs.{needs}
 use Rattle.base.specs.List.{build}
 use Rattle.job.specs.Lists.{counts, laid}
-use Rattle.job.specs.Format.{columnIn, valueIn}
+use Rattle.job.specs.Format.{columnRead, valueRead}
 use Rattle.job.proofs.ListLaws.{behind-none}
 use Rattle.reader.proofs.Laying.{counts-behind, build-behind}
 use Rattle.reader.proofs.lists.read_row.Statement.{statement}
 use Rattle.reader.proofs.lists.read_row.Tie as tie
 
 abbrev Inv-loop : tie.InvT-loop
-Inv-loop s p n e columns₀ values₀ j₀ columns values j = (j ≤ n) × (length columns ≡ length columns₀) × (length values ≡ length values₀) × (columns ≡ laid (take e columns₀ ++ counts (columnIn s p) j) columns₀) × (values ≡ laid (take e values₀ ++ build (valueIn s p) j) values₀)
+Inv-loop s p n e columns₀ values₀ j₀ columns values j = (j ≤ n) × (length columns ≡ length columns₀) × (length values ≡ length values₀) × (columns ≡ laid (take e columns₀ ++ counts (columnRead s p) j) columns₀) × (values ≡ laid (take e values₀ ++ build (valueRead s p) j) values₀)
 
 abbrev μ-loop : tie.MeasureT-loop
 μ-loop s p n e columns₀ values₀ j₀ columns values j = n - j
@@ -77,8 +77,8 @@ loop-again c =
       omega arith,
       simp length-set (omega arith),
       simp length-set (omega arith),
-      counts-behind (s .args .e) (columnIn (s .args .s .now) (s .args .p)) (s .args .columns .now) _ _ _ (c .before .field-at .ensures .0) (omega arith) (l .3),
-      build-behind (s .args .e) (valueIn (s .args .s .now) (s .args .p)) (s .args .values .now) _ _ _ (c .double-at .ensures) (omega arith) (l .4),
+      counts-behind (s .args .e) (columnRead (s .args .s .now) (s .args .p)) (s .args .columns .now) _ _ _ (c .before .field-at .ensures .0) (omega arith) (l .3),
+      build-behind (s .args .e) (valueRead (s .args .s .now) (s .args .p)) (s .args .values .now) _ _ _ (c .double-at .ensures) (omega arith) (l .4),
     )
 
 same-length : tie.Need-same-length Inv-loop μ-loop

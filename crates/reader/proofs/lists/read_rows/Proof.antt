@@ -9,7 +9,7 @@ use borrow.Author.Needs.{needs}
 use Rattle.base.specs.List.{build}
 use Rattle.base.proofs.Fills.{build-length}
 use Rattle.job.specs.Lists.{counts, joinTo, laid}
-use Rattle.job.specs.Format.{short, rowAt, startOf, columnIn, valueIn}
+use Rattle.job.specs.Format.{short, rowAt, startOf, columnRead, valueRead}
 use Rattle.job.specs.Job.{columnsOf, valuesOf}
 use Rattle.job.proofs.ListLaws.{counts-none, counts-step, counts-length, behind-length}
 use Rattle.reader.proofs.RowReads.{row-fits, at-step, e-step, columns-step, values-step, join-none}
@@ -90,8 +90,8 @@ loop-again c =
       at-step (a .s .now) _ _ _ (l .1) n,
       e-step (a .s .now) _ _ _ _ (l .1) n (l .2),
       simp length-set (omega arith),
-      rw (w .0) (behind-length (at .e) k (counts (columnIn (a .s .now) (at .at)) k) (at .columns) (counts-length (columnIn (a .s .now) (at .at)) k) (omega (arith, fits .1, n, l .4)) ∙ l .4),
-      rw (w .1) (behind-length (at .e) k (build (valueIn (a .s .now) (at .at)) k) (at .values) (build-length (valueIn (a .s .now) (at .at)) k) (omega (arith, fits .1, n, l .5)) ∙ l .5),
+      rw (w .0) (behind-length (at .e) k (counts (columnRead (a .s .now) (at .at)) k) (at .columns) (counts-length (columnRead (a .s .now) (at .at)) k) (omega (arith, fits .1, n, l .4)) ∙ l .4),
+      rw (w .1) (behind-length (at .e) k (build (valueRead (a .s .now) (at .at)) k) (at .values) (build-length (valueRead (a .s .now) (at .at)) k) (omega (arith, fits .1, n, l .5)) ∙ l .5),
       counts-step (startOf (a .s .now)) _ _ _ _ (l .2) (omega arith) (l .6),
       columns-step (a .s .now) _ _ _ _ _ _ _ (l .1) n (l .2) (l .7) (w .0),
       values-step (a .s .now) _ _ _ _ _ _ _ (l .1) n (l .2) (l .8) (w .1),
