@@ -5,3 +5,4 @@ pub mod Moved
 pub mod Within
 pub mod Marks
 pub mod Entered
+pub mod Unique
