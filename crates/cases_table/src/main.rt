@@ -6,7 +6,7 @@ use model::Limit;
 use model::Link;
 use model::Settings;
 use model::Shape;
-use table::Lent;
+use table::LentLengths;
 use table::Verdict;
 ghost use mathlib.Core.Path.{_≡_};
 ghost use Prim.Native.Nat.{_≤_};
@@ -64,8 +64,8 @@ fn two_groups() -> Shape {
 }
 
 // Just long enough.
-fn enough() -> Lent {
-    Lent {
+fn enough() -> LentLengths {
+    LentLengths {
         beta: 2,
         se: 2,
         z: 2,
@@ -82,7 +82,7 @@ fn enough() -> Lent {
 }
 
 // The inputs are good.
-fn ask(word: &[u8], settings: Settings, shape: Shape, lent: Lent) {
+fn ask(word: &[u8], settings: Settings, shape: Shape, lent: LentLengths) {
     let verdict = table::verdict_of(
         settings,
         shape,
@@ -189,7 +189,7 @@ fn ask_results(
     residual: usize,
     v: usize,
 ) {
-    let lent = Lent {
+    let lent = LentLengths {
         beta,
         se,
         z,

@@ -24,13 +24,13 @@ use Rattle.family.specs.declared.carried.LinkCarried.the-variants as linkCarrie
 use Rattle.table.specs.Tests.{Inputs, goodInputs, goodResults, goodWork, goodNumbers}
 use Rattle.table.specs.Table.{refuseUnless, withLink, withFamily, carriedPair, tableOf}
 use Rattle.table.specs.Facts.{Sound}
-use Rattle.table.specs.declared.verdicts.Lent.{Lent}
+use Rattle.table.specs.declared.verdicts.LentLengths.{LentLengths}
 use Rattle.table.specs.declared.verdicts.Verdict.{Verdict}
 use Rattle.table.specs.declared.verdicts.Verdict.the-variants.{Accepted, Refused}
 use Rattle.table.proofs.Meant.{inputs-fit, results-fit, work-fits, numbers-finite}
 
 -- ---- the lines, from the first to the last
-module _ (r : ℕ) (t : Settings) (s : Shape) (I : Inputs) (L : Lent) where
+module _ (r : ℕ) (t : Settings) (s : Shape) (I : Inputs) (L : LentLengths) where
   pub line-1 : goodSizes t s ≡ false → tableOf r t s I L ≡ Refused OutOfRange
   unfolding tableOf refuseUnless
   line-1 a = rw a refl
@@ -115,7 +115,7 @@ last-line (familyCarried.Carried g) (linkCarried.Carried k) f l e = (ap (λ (x :
 last-line (familyCarried.Carried g) linkCarried.NotYet f l e = absurd (ff (ap isAccepted e))
 last-line familyCarried.NotYet y f l e = absurd (ff (ap isAccepted e))
 
-pub accepted-sound : (r : ℕ) (t : Settings) (s : Shape) (I : Inputs) (L : Lent) (f : CarriedFamily) (l : CarriedLink) → tableOf r t s I L ≡ Accepted f l → Sound r t s I L f l
+pub accepted-sound : (r : ℕ) (t : Settings) (s : Shape) (I : Inputs) (L : LentLengths) (f : CarriedFamily) (l : CarriedLink) → tableOf r t s I L ≡ Accepted f l → Sound r t s I L f l
 unfolding tableOf carriedPair
 accepted-sound r t s I L f l e =
     let a = passed (goodSizes t s) OutOfRange _ f l e in

@@ -20,7 +20,7 @@ use Rattle.layout.specs.WorkMatrices.{matricesLength}
 use Rattle.layout.specs.WorkTerms.{termsLength}
 use Rattle.table.specs.Tests.{Inputs, absentOr, goodInputs, goodResults, goodWork, allFinite, finiteNumbers, goodNumbers}
 use Rattle.table.specs.Facts.{AbsentOr, InputsFit, ResultsFit, WorkFits, AllFinite, NumbersFinite}
-use Rattle.table.specs.declared.verdicts.Lent.{Lent}
+use Rattle.table.specs.declared.verdicts.LentLengths.{LentLengths}
 
 -- ---- lists that may be absent
 either : (a b : Bool) → a || b ≡ true → (a ≡ true) ⊎ (b ≡ true)
@@ -74,7 +74,7 @@ unfolding goodInputs
 inputs-when r t s I a b c d e f g =
     rw (eq-eqb (length (I .theta)) (thetaLength s) a, eq-eqb (length (I .y)) (r * t .n) b, c, d, eq-eqb (length (I .x)) (t .n * t .p) e, eq-eqb (length (I .starts)) (t .rows + 1) f, eq-eqb (length (I .columns)) (t .entries) g) refl
 
-pub results-fit : (r : ℕ) (t : Settings) (L : Lent) → goodResults r t L ≡ true → ResultsFit r t L
+pub results-fit : (r : ℕ) (t : Settings) (L : LentLengths) → goodResults r t L ≡ true → ResultsFit r t L
 unfolding goodResults
 results-fit r t L e =
     let a : (_ ≡ true) × (eqb (L .v) (r * t .p * t .p) ≡ true) = both e in
@@ -97,11 +97,11 @@ results-fit r t L e =
       v = eqb-true _ _ (a .1);
     }
 
-pub not-results : (r : ℕ) (t : Settings) (L : Lent) → (ResultsFit r t L → ⊥) → false ≡ goodResults r t L
+pub not-results : (r : ℕ) (t : Settings) (L : LentLengths) → (ResultsFit r t L → ⊥) → false ≡ goodResults r t L
 not-results r t L h = false-unless (λ e. h (results-fit r t L e))
 
 -- where all else fits, v decides
-pub results-when : (r : ℕ) (t : Settings) (L : Lent) → L .beta ≡ r * t .p → L .se ≡ r * t .p → L .z ≡ r * t .p → L .u ≡ r * t .rows → L .b ≡ r * t .rows → L .mu ≡ r * t .n → L .eta ≡ r * t .n
+pub results-when : (r : ℕ) (t : Settings) (L : LentLengths) → L .beta ≡ r * t .p → L .se ≡ r * t .p → L .z ≡ r * t .p → L .u ≡ r * t .rows → L .b ≡ r * t .rows → L .mu ≡ r * t .n → L .eta ≡ r * t .n
     → L .residual ≡ r * t .n → eqb (L .v) (r * t .p * t .p) ≡ goodResults r t L
 unfolding goodResults
 results-when r t L a b c d e f g h =
@@ -112,18 +112,18 @@ pub many-few : {r k : ℕ} (c : ℕ) → r ≤ 64 → k ≤ c → r * k ≤ 64 *
 many-few c h l = mul-le-mul {n₂ = 64} {m₂ = c} h l
 
 -- ---- number 7
-pub work-fits : (t : Settings) (L : Lent) → goodWork t L ≡ true → WorkFits t L
+pub work-fits : (t : Settings) (L : LentLengths) → goodWork t L ≡ true → WorkFits t L
 unfolding goodWork
 work-fits t L e =
     let a : (_ ≡ true) × (leb termsLength (L .terms) ≡ true) = both e in
     let b : (leb (rowsLength (t .n)) (L .rows) ≡ true) × (leb (matricesLength (t .p) (t .rows)) (L .matrices) ≡ true) = both (a .0) in
     record { rows = leb-true _ _ (b .0); matrices = leb-true _ _ (b .1); terms = leb-true _ _ (a .1) }
 
-pub not-work : (t : Settings) (L : Lent) → (WorkFits t L → ⊥) → false ≡ goodWork t L
+pub not-work : (t : Settings) (L : LentLengths) → (WorkFits t L → ⊥) → false ≡ goodWork t L
 not-work t L h = false-unless (λ e. h (work-fits t L e))
 
 -- where all else fits, the terms decide
-pub work-when : (t : Settings) (L : Lent) → rowsLength (t .n) ≤ L .rows → matricesLength (t .p) (t .rows) ≤ L .matrices → leb termsLength (L .terms) ≡ goodWork t L
+pub work-when : (t : Settings) (L : LentLengths) → rowsLength (t .n) ≤ L .rows → matricesLength (t .p) (t .rows) ≤ L .matrices → leb termsLength (L .terms) ≡ goodWork t L
 unfolding goodWork
 work-when t L a b = rw (le-leb (rowsLength (t .n)) (L .rows) a, le-leb (matricesLength (t .p) (t .rows)) (L .matrices) b) refl
 

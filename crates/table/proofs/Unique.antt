@@ -6,9 +6,9 @@ use Rattle.model.specs.declared.sizes.Shape.{Shape}
 use Rattle.model.specs.declared.sizes.Settings.{Settings}
 use Rattle.table.specs.Tests.{Inputs}
 use Rattle.table.specs.Table.{tableOf}
-use Rattle.table.specs.declared.verdicts.Lent.{Lent}
+use Rattle.table.specs.declared.verdicts.LentLengths.{LentLengths}
 use Rattle.table.specs.declared.verdicts.Verdict.{Verdict}
 
 -- `verdict_of`
-pub verdict-of-unique : (r : ℕ) (t : Settings) (s : Shape) (I : Inputs) (L : Lent) (a b : Verdict) → a ≡ tableOf r t s I L → b ≡ tableOf r t s I L → a ≡ b
+pub verdict-of-unique : (r : ℕ) (t : Settings) (s : Shape) (I : Inputs) (L : LentLengths) (a b : Verdict) → a ≡ tableOf r t s I L → b ≡ tableOf r t s I L → a ≡ b
 verdict-of-unique r t s I L a b d e = one-value d e

@@ -22,7 +22,7 @@ use Rattle.family.specs.declared.carried.CarriedLink.{CarriedLink}
 use Rattle.family.specs.declared.carried.FamilyCarried.the-variants as familyCarried
 use Rattle.family.specs.declared.carried.LinkCarried.the-variants as linkCarried
 use Rattle.table.specs.Tests.{Inputs}
-use Rattle.table.specs.declared.verdicts.Lent.{Lent}
+use Rattle.table.specs.declared.verdicts.LentLengths.{LentLengths}
 
 -- a list is absent, or has n numbers
 abbrev pub AbsentOr : ℕ → List Float → Type 0
@@ -40,7 +40,7 @@ pub record InputsFit (r : ℕ) (t : Settings) (s : Shape) (I : Inputs) : Type 0 
   pub values : length (I .values) ≡ t .entries
 
 -- each lent result is as long as the sizes say
-pub record ResultsFit (r : ℕ) (t : Settings) (L : Lent) : Type 0 where
+pub record ResultsFit (r : ℕ) (t : Settings) (L : LentLengths) : Type 0 where
   pub beta : L .beta ≡ r * t .p
   pub se : L .se ≡ r * t .p
   pub z : L .z ≡ r * t .p
@@ -52,7 +52,7 @@ pub record ResultsFit (r : ℕ) (t : Settings) (L : Lent) : Type 0 where
   pub v : L .v ≡ r * t .p * t .p
 
 -- each work slice has its named length
-pub record WorkFits (t : Settings) (L : Lent) : Type 0 where
+pub record WorkFits (t : Settings) (L : LentLengths) : Type 0 where
   pub rows : rowsLength (t .n) ≤ L .rows
   pub matrices : matricesLength (t .p) (t .rows) ≤ L .matrices
   pub terms : termsLength ≤ L .terms
@@ -71,7 +71,7 @@ pub record NumbersFinite (I : Inputs) : Type 0 where
   pub values : AllFinite (I .values)
 
 -- what a call has that is accepted with the formulas of f and l
-pub record Sound (r : ℕ) (t : Settings) (s : Shape) (I : Inputs) (L : Lent) (f : CarriedFamily) (l : CarriedLink) : Type 0 where
+pub record Sound (r : ℕ) (t : Settings) (s : Shape) (I : Inputs) (L : LentLengths) (f : CarriedFamily) (l : CarriedLink) : Type 0 where
   pub sized : Sized t s
   pub inputs-fit : InputsFit r t s I
   pub results-fit : ResultsFit r t L

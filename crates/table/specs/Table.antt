@@ -16,7 +16,7 @@ use Rattle.family.specs.declared.carried.FamilyCarried.the-variants as familyCa
 use Rattle.family.specs.declared.carried.LinkCarried.{LinkCarried}
 use Rattle.family.specs.declared.carried.LinkCarried.the-variants as linkCarried
 use Rattle.table.specs.Tests.{Inputs, goodInputs, goodResults, goodWork, goodNumbers}
-use Rattle.table.specs.declared.verdicts.Lent.{Lent}
+use Rattle.table.specs.declared.verdicts.LentLengths.{LentLengths}
 use Rattle.table.specs.declared.verdicts.Verdict.{Verdict}
 use Rattle.table.specs.declared.verdicts.Verdict.the-variants.{Accepted, Refused}
 
@@ -40,7 +40,7 @@ unfoldable pub carriedPair : Family → Link → Verdict
 carriedPair family link = withFamily (carriedFamily family) (carriedLink link)
 
 -- the table, for r responses on one design
-unfoldable pub tableOf : ℕ → Settings → Shape → Inputs → Lent → Verdict
+unfoldable pub tableOf : ℕ → Settings → Shape → Inputs → LentLengths → Verdict
 tableOf r t s I L =
     refuseUnless (goodSizes t s) OutOfRange
     (refuseUnless (goodInputs r t s I && goodResults r t L) Lengths

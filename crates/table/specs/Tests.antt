@@ -12,7 +12,7 @@ use Rattle.model.specs.declared.sizes.Settings.{Settings}
 use Rattle.layout.specs.WorkRows.{rowsLength}
 use Rattle.layout.specs.WorkMatrices.{matricesLength}
 use Rattle.layout.specs.WorkTerms.{termsLength}
-use Rattle.table.specs.declared.verdicts.Lent.{Lent}
+use Rattle.table.specs.declared.verdicts.LentLengths.{LentLengths}
 
 -- the lent inputs; Z' by its row starts, columns and values
 pub record Inputs : Type 0 where
@@ -43,7 +43,7 @@ goodInputs r t s I =
     && eqb (length (I .x)) (t .n * t .p) && eqb (length (I .starts)) (t .rows + 1) && eqb (length (I .columns)) (t .entries) && eqb (length (I .values)) (t .entries)
 
 -- each lent result is as long as the sizes say
-unfoldable pub goodResults : ℕ → Settings → Lent → Bool
+unfoldable pub goodResults : ℕ → Settings → LentLengths → Bool
 goodResults r t L =
     eqb (L .beta) (r * t .p) && eqb (L .se) (r * t .p) && eqb (L .z) (r * t .p) && eqb (L .u) (r * t .rows) && eqb (L .b) (r * t .rows) && eqb (L .mu) (r * t .n)
     && eqb (L .eta) (r * t .n) && eqb (L .residual) (r * t .n) && eqb (L .v) (r * t .p * t .p)
@@ -51,7 +51,7 @@ goodResults r t L =
 -- ---- number 7
 
 -- each work slice has its named length: 16n, 3q² + 4p² + 2qp + 12(q + p), 7,000 numbers
-unfoldable pub goodWork : Settings → Lent → Bool
+unfoldable pub goodWork : Settings → LentLengths → Bool
 goodWork t L = leb (rowsLength (t .n)) (L .rows) && leb (matricesLength (t .p) (t .rows)) (L .matrices) && leb termsLength (L .terms)
 
 -- ---- number 3

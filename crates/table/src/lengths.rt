@@ -1,5 +1,5 @@
 // The tests of lengths, after the sizes have passed theirs.
-use crate::verdicts::Lent;
+use crate::verdicts::LentLengths;
 use model::Settings;
 use model::Shape;
 ghost use mathlib.Core.Path.{_≡_};
@@ -60,7 +60,7 @@ pub fn inputs_ok(
 }
 
 // Whether each lent result is as long as the sizes say.
-pub fn results_ok(responses: usize, settings: Settings, lent: Lent) -> bool
+pub fn results_ok(responses: usize, settings: Settings, lent: LentLengths) -> bool
     requires { ⌜ (Sizes (settings .n) (settings .p) (settings .rows)) × (responses ≤ 64) ⌝ }
     ensures { λ r. ⌜ r ≡ goodResults responses settings lent ⌝ }
 {
@@ -95,7 +95,7 @@ pub fn results_ok(responses: usize, settings: Settings, lent: Lent) -> bool
 }
 
 // Whether each lent work slice has the room that is named.
-pub fn work_ok(settings: Settings, lent: Lent) -> bool
+pub fn work_ok(settings: Settings, lent: LentLengths) -> bool
     requires { ⌜ Sizes (settings .n) (settings .p) (settings .rows) ⌝ }
     ensures { λ r. ⌜ r ≡ goodWork settings lent ⌝ }
 {

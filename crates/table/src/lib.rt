@@ -3,6 +3,6 @@ mod lengths;
 mod numbers;
 mod verdicts;
 
-pub use verdicts::Lent;
+pub use verdicts::LentLengths;
 pub use verdicts::Verdict;
 pub use verdicts::verdict_of;

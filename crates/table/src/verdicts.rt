@@ -17,7 +17,7 @@ ghost use Rattle.table.specs.Tests.{inputs};
 ghost use Rattle.table.specs.Table.{carriedPair, tableOf};
 
 // How long the lent results and the lent work slices are.
-pub struct Lent {
+pub struct LentLengths {
     pub beta: usize,
     pub se: usize,
     pub z: usize,
@@ -63,7 +63,7 @@ pub fn verdict_of(
     starts: &[usize],
     columns: &[usize],
     values: &[f64],
-    lent: Lent,
+    lent: LentLengths,
 ) -> Verdict
     ensures { λ r. ⌜ r ≡ tableOf 1 settings shape (inputs (now (theta .entry)) (now (y .entry)) (now (weights .entry)) (now (offset .entry)) (now (x .entry)) (now (starts .entry)) (now (columns .entry)) (now (values .entry))) lent ⌝ }
 {
