@@ -1,0 +1,2 @@
+-- What an accepted job has, for the proof of `fit`. Assumes nothing.
+pub mod Accepted

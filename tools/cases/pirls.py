@@ -1,0 +1,57 @@
+#!/usr/bin/env python3
+"""usage: pirls.py > crates/cases_pirls/stdout
+What `cases_pirls` must print of the jobs of crates/rule_cases/jobs.json and crates/cases_pirls/jobs.json: document 01's inner fit in Python's doubles
+(tools/glmm/fit.py). Stops where the oracle (tools/oracle) answers other bits. A Gaussian job is fitted at the phi that the oracle's dispersion loop
+ends with, so that the oracle's results are those of that one fit; its counts are of all rounds and are not compared."""
+import json, struct, sys
+
+sys.dont_write_bytecode = True
+from rule import ROOT, answer
+from form import job_bytes
+from reader import read
+from fit import Account, Ended, Problem, laplace_fit
+
+LISTS = ["beta", "u", "eta", "mu"]
+
+
+def hexes(values):
+    return [struct.pack(">d", v).hex().upper() for v in values]
+
+
+def jobs():
+    for crate in ["rule_cases", "cases_pirls"]:
+        yield from json.loads((ROOT / "crates" / crate / "jobs.json").read_text()).items()
+
+
+def fitted(about):
+    """The end's number, the account, and the mode of a fit that stopped."""
+    account = Account()
+    try:
+        return 0, account, laplace_fit(Problem(read(job_bytes(about))), account, about.get("phi", 1.0))
+    except Ended as end:
+        return end.args[0], account, None
+
+
+def compare(name, about, number, account, mode, lists):
+    """With the oracle's answer."""
+    end, vectors = answer(about)
+    assert end["end"] == number, name
+    if "phi" not in about:
+        assert (end["fits"], end["solves"], end["tries"]) == (1, account.solves, account.tries), name
+    if mode:
+        assert end["iters"] == mode.iterations, name
+        assert vectors["phi"] == hexes([about.get("phi", 1.0)]), name
+        assert vectors["deviance"] == hexes([mode.deviance]), name
+        for word, values in lists.items():
+            assert vectors[word] == hexes(values), (name, word)
+
+
+for name, about in jobs():
+    number, account, mode = fitted(about)
+    lists = dict(zip(LISTS, [mode.step.beta, mode.step.u, mode.eta, mode.mu])) if mode else {}
+    compare(name, about, number, account, mode, lists)
+    print(name, number, mode.iterations if mode else 0, account.solves, account.tries)
+    if mode:
+        print("sums", *hexes([mode.deviance_sum, mode.fit_term, mode.deviance]))
+    for word, values in lists.items():
+        print(word, *hexes(values))
