@@ -11,6 +11,8 @@ from form import job_bytes
 from reader import read
 from fit import Account, Ended, Problem, laplace_fit
 
+# jobs that rule_cases alone has: the program shows nothing new with them
+RULE_ALONE = {"PoissonOther", "Packing", "NoIteration"}
 LISTS = ["beta", "u", "eta", "mu"]
 
 
@@ -20,7 +22,8 @@ def hexes(values):
 
 def jobs():
     for crate in ["rule_cases", "cases_pirls"]:
-        yield from json.loads((ROOT / "crates" / crate / "jobs.json").read_text()).items()
+        every = json.loads((ROOT / "crates" / crate / "jobs.json").read_text())
+        yield from ((name, about) for name, about in every.items() if name not in RULE_ALONE)
 
 
 def fitted(about):

@@ -22,7 +22,7 @@ use Rattle.iteration.specs.Iterated.{Asked}
 use Rattle.table.specs.Tests.{inputs}
 use Rattle.table.specs.Facts.{AbsentOr}
 use Rattle.table.specs.Table.{tableOf}
-use Rattle.table.specs.declared.verdicts.Lent.{Lent}
+use Rattle.table.specs.declared.verdicts.LentLengths.{LentLengths}
 use Rattle.table.specs.declared.verdicts.Verdict.the-variants.{Accepted}
 use Rattle.table.proofs.Accepting.{accepted-sound}
 use Rattle.working.specs.Optional.{Optional}
@@ -34,7 +34,7 @@ limit-few : (k : ℕ) → goodLimit (Given k) ≡ true → k ≤ 1000
 unfolding goodLimit
 limit-few k e = leb-true k 1000 e
 
-pub accepted-asked : (t : Settings) (k : ℕ) (s : Shape) (theta y weights offset x : List Float) (starts columns : List ℕ) (values : List Float) (L : Lent) (f : CarriedFamily) (l : CarriedLink) (r m w : List Float)
+pub accepted-asked : (t : Settings) (k : ℕ) (s : Shape) (theta y weights offset x : List Float) (starts columns : List ℕ) (values : List Float) (L : LentLengths) (f : CarriedFamily) (l : CarriedLink) (r m w : List Float)
     → t .limit ≡ Given k → tableOf 1 t s (inputs theta y weights offset x starts columns values) L ≡ Accepted f l → length r ≡ L .rows → length m ≡ L .matrices → length w ≡ L .terms
     → (Asked (t .n) (t .p) (t .rows) s theta starts columns values offset x y r m w) × (k ≤ 1000)
 accepted-asked t k s theta y weights offset x starts columns values L f l r m w g e er em ew =

@@ -1,5 +1,5 @@
 // Runs inner fits on small jobs and prints how each ended, its counts and, where it stopped, every bit of its results.
-// The jobs are those of crates/rule_cases/jobs.json and of this folder's jobs.json; the work slices hold 9 before.
+// The jobs are those of crates/rule_cases/jobs.json, but for three, and of this folder's jobs.json; the work slices hold 9 before.
 use family::CarriedFamily;
 use family::CarriedLink;
 use model::Family;
@@ -9,7 +9,7 @@ use model::Settings;
 use model::Shape;
 use pirls::Ended;
 use pirls::InnerFit;
-use table::Lent;
+use table::LentLengths;
 use table::Verdict;
 ghost use Prim.Native.Nat.{_+_, _≤_};
 ghost use lib.ListN.{length};
@@ -173,7 +173,7 @@ fn fit(
         rows: q,
         entries,
     };
-    let lent = Lent {
+    let lent = LentLengths {
         beta: p,
         se: p,
         z: p,
@@ -273,28 +273,6 @@ fn poisson_one() {
     );
 }
 
-// The same with another response: another deviance.
-fn poisson_other() {
-    fit(
-        b"PoissonOther",
-        Family::Poisson,
-        Link::Identity,
-        1.0,
-        100,
-        one_block(1, 1),
-        1,
-        1,
-        &[1.0],
-        &[3.0],
-        &[],
-        &[],
-        &[1.0],
-        &[0, 1],
-        &[0],
-        &[1.0],
-    );
-}
-
 // Poisson, log, two columns of X, two groups.
 fn log_link() {
     fit(
@@ -380,28 +358,6 @@ fn cloglog() {
         &[0, 2, 3],
         &[0, 1, 2],
         &[1.0, 0.3, 1.0],
-    );
-}
-
-// Three effects in a group: theta is packed by columns.
-fn packing() {
-    fit(
-        b"Packing",
-        Family::Poisson,
-        Link::Log,
-        1.0,
-        100,
-        one_block(1, 3),
-        1,
-        3,
-        &[0.9, 0.2, -0.3, 0.7, 0.1, 0.5],
-        &[1.0, 2.0, 4.0],
-        &[],
-        &[],
-        &[1.0, 1.0, 1.0],
-        &[0, 3, 6, 8],
-        &[0, 1, 2, 0, 1, 2, 0, 2],
-        &[1.0, 1.0, 1.0, 0.3, -0.7, 1.1, 0.5, -0.2],
     );
 }
 
@@ -515,28 +471,6 @@ fn no_stop() {
     );
 }
 
-// End 13 at once: document 01's case J.
-fn no_iteration() {
-    fit(
-        b"NoIteration",
-        Family::Poisson,
-        Link::Log,
-        1.0,
-        0,
-        one_block(1, 1),
-        1,
-        1,
-        &[1.0],
-        &[2.0],
-        &[],
-        &[],
-        &[1.0],
-        &[0, 1],
-        &[0],
-        &[1.0],
-    );
-}
-
 // Poisson, log: steps are halved 18 times, and the fit goes on.
 fn halved() {
     fit(
@@ -636,18 +570,15 @@ fn two_effects() {
 
 fn main() {
     poisson_one();
-    poisson_other();
     log_link();
     root_link();
     logit();
     cloglog();
-    packing();
     blocks();
     system_pivot();
     normal_pivot();
     no_step();
     no_stop();
-    no_iteration();
     halved();
     gaussian();
     inverse();

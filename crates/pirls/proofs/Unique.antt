@@ -1,11 +1,16 @@
 -- The inner fit's contract leaves one answer, and one content of what is read afterwards. Assumes nothing.
 use mathlib.Core.Path.{_≡_, refl, sym, _∙_}
 use mathlib.Core.List.{List}
-use Prim.Native.Nat.{ℕ}
+use Prim.Native.Nat.{ℕ, _*_}
 use lib.Ieee.{Float}
-use Rattle.rule.specs.Given.{Given}
+use Rattle.base.specs.Rows.{row}
+use Rattle.layout.specs.WorkRows.{muRow, devianceRow}
+use Rattle.layout.specs.WorkMatrices.{systemPlace, rootInversePlace, uPlace, betaPlace}
+use Rattle.rule.specs.Given.{Given, nOf, qOf}
+use Rattle.rule.specs.Stop.{Mode}
+use Rattle.stages.specs.Held.{etaRow}
 use Rattle.rule.specs.Run.{Ending, stopped, failed, runOf}
-use Rattle.pirls.specs.Inner.{EndingTold, InnerLeft}
+use Rattle.pirls.specs.Inner.{HoldsMode, EndingTold, InnerLeft}
 use Rattle.pirls.specs.declared.inner.InnerFit.{InnerFit}
 
 same-fit : {a b : InnerFit} → a .end ≡ b .end → a .iterations ≡ b .iterations → a .«in_second» ≡ b .«in_second» → a .«deviance_sum» ≡ b .«deviance_sum» → a .fit ≡ b .fit → a .laplace ≡ b .laplace
@@ -21,3 +26,25 @@ told-once (failed f) G r r' m m' a b e x y = x ∙ rw e refl ∙ sym y
 pub inner-once : (G : Given) (phi : Float) (L : ℕ) (mu r r' r'' m m' m'' t t' t'' : List Float) (a b : InnerFit) → InnerLeft G phi L mu r r' m m' t t' a → InnerLeft G phi L mu r r'' m m'' t t'' b → a ≡ b
 inner-once G phi L mu r r' r'' m m' m'' t t' t'' a b x y =
     told-once (runOf G phi L mu .ending) G r' r'' m' m'' a b (x .counted ∙ sym (y .counted)) (x .told) (y .told)
+
+-- what two such fits leave for the quadrature and the results is the same
+pub record SameMode (G : Given) (r r' m m' : List Float) (a b : InnerFit) : Type 0 where
+  pub eta : row (etaRow (nOf G) (a .«in_second»)) (nOf G) r ≡ row (etaRow (nOf G) (b .«in_second»)) (nOf G) r'
+  pub mu : row (muRow (nOf G)) (nOf G) r ≡ row (muRow (nOf G)) (nOf G) r'
+  pub deviances : row (devianceRow (nOf G)) (nOf G) r ≡ row (devianceRow (nOf G)) (nOf G) r'
+  pub system : row systemPlace (qOf (G .design) * qOf (G .design)) m ≡ row systemPlace (qOf (G .design) * qOf (G .design)) m'
+  pub inverse : row (rootInversePlace (G .design .p) (qOf (G .design))) (G .design .p * G .design .p) m ≡ row (rootInversePlace (G .design .p) (qOf (G .design))) (G .design .p * G .design .p) m'
+  pub beta : row (betaPlace (G .design .p) (qOf (G .design))) (G .design .p) m ≡ row (betaPlace (G .design .p) (qOf (G .design))) (G .design .p) m'
+  pub u : row (uPlace (G .design .p) (qOf (G .design))) (qOf (G .design)) m ≡ row (uPlace (G .design .p) (qOf (G .design))) (qOf (G .design)) m'
+
+pub mode-once : (G : Given) (k : Mode) (r r' m m' : List Float) (a b : InnerFit) → HoldsMode G k r m a → HoldsMode G k r' m' b → SameMode G r r' m m' a b
+mode-once G k r r' m m' a b x y =
+    record {
+      eta = x .eta ∙ sym (y .eta);
+      mu = x .mu ∙ sym (y .mu);
+      deviances = x .deviances ∙ sym (y .deviances);
+      system = x .system ∙ sym (y .system);
+      inverse = x .inverse ∙ sym (y .inverse);
+      beta = x .beta ∙ sym (y .beta);
+      u = x .u ∙ sym (y .u);
+    }
