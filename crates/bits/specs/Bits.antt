@@ -6,7 +6,7 @@ use lib.Ieee.{Float}
 use Rattle.base.specs.Number.{bits}
 use Rattle.base.specs.Sum.{_!!_}
 
--- "bits most significant first": bit p is that of byte p / 8 which counts 2 ^ (7 - p % 8); 0 past the end
+-- the most significant bit of a byte comes first: bit p is that of byte p / 8 which counts 2 ^ (7 - p % 8); 0 past the end
 abbrev pub bitOf : List ℕ → ℕ → ℕ
 bitOf s p = ((s !! (p / 8)) / 2 ^ (7 - p % 8)) % 2
 

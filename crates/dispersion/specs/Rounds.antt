@@ -1,4 +1,4 @@
--- The dispersion loop over any inner fit. Document 01, "The inner fit": "Dispersion (Gaussian): phi from 1, 240 rounds, then one more with `dispersion_converged` false. Counts are summed over inner fits". Assumes nothing.
+-- The dispersion loop over any inner fit. Document 01, "The inner fit", its paragraph on dispersion: where phi begins, how many rounds, the flag, and that counts are summed. Assumes nothing.
 use mathlib.Core.List.{List, _++_}
 use mathlib.Core.Bool.{Bool, true, false}
 use Prim.Native.Nat.{ℕ, zero, suc}

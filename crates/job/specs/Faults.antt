@@ -1,4 +1,4 @@
--- The refusals of a job with their bytes. Document 01, "The job and the program": "25 comes first, then the first fault left to right, except that 1 is tested after the blocks and before any double".
+-- The refusals of a job with their bytes. Document 01, "The job and the program": too long a job first, then what is met first in the file, the sizes between the blocks and the doubles.
 -- Each part of the file demands something; the first demand that fails is the answer. Assumes nothing.
 use mathlib.Core.Bool.{Bool, true, false, not, _&&_}
 use mathlib.Core.List.{List}
@@ -26,15 +26,15 @@ unfoldable pub isSound : Fault → Bool
 isSound Sound = true
 isSound (At r b) = false
 
--- "20 cut short (input length)": the job goes on to bit e at least
+-- 20 at the length of the input, unless the job goes on to bit e at least
 unfoldable pub reaches : List ℕ → ℕ → Fault
 reaches s e = demand (leb e (length s * 8)) 20 (length s)
 
--- "22 a zero bit set (its byte)": the w bits from p on, which lie in one byte, are zero bits
+-- 22 at their byte, unless the w bits from p on, which lie in one byte, are zero bits
 unfoldable pub spare : List ℕ → ℕ → ℕ → Fault
 spare s p w = demand (eqb (bitsOf s p w) 0) 22 (p / 8)
 
--- the header: "21 version (0), 24 link 7 or L (0, 4)", where "1001 to 1022" is refused
+-- the header: 21 and 24 for version and link at byte 0, 24 for a limit from 1001 to 1022 at byte 4
 unfoldable pub headFault : List ℕ → Fault
 headFault s =
     reaches s 4
@@ -66,7 +66,7 @@ entriesFault s p (suc n) = entryFault s p ▹ entriesFault s (p + 10) n
 unfoldable pub rowFault : List ℕ → ℕ → Fault
 rowFault s p = pairFault s p 3 ▹ entriesFault s (p + 2) (short s p)
 
--- n rows from byte p on, and then the end: "23 bytes left over (first of them)"
+-- n rows from byte p on, and then the end: 23 at the first byte behind it
 unfoldable pub rowsFault : List ℕ → ℕ → ℕ → Fault
 rowsFault s p zero = demand (leb (length s) p) 23 p
 rowsFault s p (suc n) = rowFault s p ▹ rowsFault s (afterRow s p) n
@@ -79,6 +79,6 @@ numbersFault s = demand (sizesFit s) 1 0 ▹ reaches s (8 * zAt s) ▹ rowsFault
 unfoldable pub bodyFault : List ℕ → Fault
 bodyFault s = blocksFault s (blocksAt s) (blocks s) ▹ numbersFault s
 
--- the whole job: "25 over 65,536 bytes (65536)" first
+-- the whole job: first 25 at byte 65536 for more bytes than that
 unfoldable pub faultOf : List ℕ → Fault
 faultOf s = demand (leb (length s) 65536) 25 65536 ▹ headFault s ▹ bodyFault s

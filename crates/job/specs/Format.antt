@@ -10,7 +10,7 @@ use Rattle.model.specs.Shape.{within, effectsOf, thetaLength, goodShape}
 use Rattle.model.specs.declared.sizes.Shape.{Shape}
 use Rattle.job.specs.Lists.{counts, laid}
 
--- ---- the header, 48 bits: "version 4, family 2, link 3, weights 1, offset 1, n_agq 5, n 13, p 5, blocks 4, L 10"
+-- ---- the header, 48 bits: version, family, link, weights, offset, n_agq, n, p, blocks and L, one behind the other
 
 abbrev pub version : List ℕ → ℕ
 version s = bitsOf s 0 4
@@ -86,7 +86,7 @@ thetas s = thetaLength (shapeOf s)
 unfoldable pub sizesFit : List ℕ → Bool
 sizesFit s = within 1 512 (obs s) && (within 1 16 (cols s) && goodShape (shapeOf s))
 
--- ---- "then doubles: theta, y, weights, offset, X row by row": at which byte each list begins
+-- ---- the doubles behind the blocks, five lists: at which byte each begins
 
 abbrev pub thetaAt : List ℕ → ℕ
 thetaAt s = blockAt s (blocks s)
@@ -110,7 +110,7 @@ zAt s = xAt s + 8 * (obs s * cols s)
 abbrev pub number : List ℕ → ℕ → ℕ → Float
 number s a i = doubleOf s (a + 8 * i)
 
--- ---- "each Z' row: count 13, three zero bits; each entry column 13, three zero bits, a double"
+-- ---- the rows of Z': each with its count, each entry with its column and its double
 
 -- the 13 bits at byte p: a row's count, an entry's column
 abbrev pub short : List ℕ → ℕ → ℕ

@@ -47,7 +47,7 @@ accountPairs a =
     ∷ pair (112 ∷ 111 ∷ 105 ∷ 110 ∷ 116 ∷ 115 ∷ []) (a .points)
     ∷ []
 
--- "`end` and the number, then effective order, dispersion flag, iterations, inner fits, solves, tries, points"; requests append to this list
+-- the end line as pairs, from the number to the points; requests append to this list
 unfoldable pub endPairs : Answer → List Pair
 endPairs a =
     pair (101 ∷ 110 ∷ 100 ∷ []) (a .number)
@@ -63,7 +63,7 @@ endLine a = lineOf (endPairs a)
 unfoldable pub refusedLine : ℕ → ℕ → List ℕ
 refusedLine r b = lineOf (pair (114 ∷ 101 ∷ 102 ∷ 117 ∷ 115 ∷ 101 ∷ 100 ∷ []) r ∷ pair (97 ∷ 116 ∷ []) b ∷ [])
 
--- "a name, an index from 0 and 16 hex digits"; NaN has the one pattern 7FF8000000000000
+-- a value line: name, index and the digits of the double; NaN has the one pattern 7FF8000000000000
 unfoldable pub valueLine : List ℕ → ℕ → Float → List ℕ
 valueLine w i x = pairText w i ++ (32 ∷ hexDigits 16 (toBits binary64 x) ++ (10 ∷ []))
 

@@ -2,7 +2,6 @@
 use borrow.Author.Needs.{needs}
 use Rattle.bits.proofs.bit_at.Statement.{statement}
 use Rattle.bits.proofs.bit_at.Tie as tie
-use Rattle.bits.proofs.wide.Reads as wide-reads
 
 shared-slice-read-wide : tie.Need-shared-slice-read-wide
 shared-slice-read-wide c = search needs

@@ -7,9 +7,6 @@ use Rattle.bits.specs.Bits.{bitsOf}
 use Rattle.bits.proofs.BitLaws.{next-fits}
 use Rattle.bits.proofs.bits_at.Statement.{statement}
 use Rattle.bits.proofs.bits_at.Tie as tie
-use Rattle.bits.proofs.bits_at.Reads as reads
-use Rattle.bits.proofs.bits_at.Lts as lts
-use Rattle.bits.proofs.bit_at.Reads as bit-at-reads
 
 abbrev Inv-loop : tie.InvT-loop
 Inv-loop s at width v₀ i₀ v i = (i ≤ width) × (v ≡ bitsOf s at i)
