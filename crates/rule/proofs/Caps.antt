@@ -111,3 +111,8 @@ unfolding runOf itemsBefore tally innerCapOf countOf
 run-capped G phi L mu =
     let r = run-from G phi L (startAt G mu) in
     record { fits = omega (arith, r .fits); solves = omega (arith, r .solves); tries = omega (arith, r .tries); points = omega (arith, r .points) }
+
+-- ---- no point is among its items
+pub run-points : (G : Given) (phi : Float) (L : ℕ) (mu : List Float) → countOf isPoint (runOf G phi L mu .items) ≡ 0
+unfolding runOf itemsBefore countOf
+run-points G phi L mu = omega (arith, run-from G phi L (startAt G mu) .points)

@@ -5,5 +5,6 @@ mod sigmas;
 
 pub use scales::Scaling;
 pub use scales::block_scale;
+pub use sections::copy_row;
 pub use sigmas::OneScale;
 pub use sigmas::one_sigma;

@@ -10,7 +10,7 @@ ghost use Rattle.agq_rule.specs.Scale.{sectionOf};
 ghost use Rattle.scale.specs.Tells.{entryFrom};
 
 // The n numbers from `from` on to the n places from `to` on, which lie behind them.
-fn copy_row(from: usize, to: usize, n: usize, m: &mut [f64])
+pub fn copy_row(from: usize, to: usize, n: usize, m: &mut [f64])
     requires { ⌜ (from + n ≤ to) × (to + n ≤ length (now m)) ⌝ }
     ensures { λ _. ⌜ now (m .exit) ≡ fillAt to n (entryFrom (now (m .entry)) from) (now (m .entry)) ⌝ }
 {
