@@ -1,0 +1,2 @@
+-- Which lists of blocks are refused. Assumes nothing.
+pub mod Counts

@@ -1,0 +1,55 @@
+// The blocks of random effects as a list, and the fit that takes them so. A list is turned into a shape first: everything else works with numbers by value.
+use model::Shape;
+ghost use mathlib.Core.Path.{_≡_};
+ghost use Prim.Native.Nat.{_<_};
+ghost use lib.ListN.{getD};
+ghost use Rattle.blocks.specs.Blocks.{noBlock, blankShape, putAt, shapeOf};
+
+// m groups with k effects each.
+pub struct Block {
+    pub m: usize,
+    pub k: usize,
+}
+
+// A place past the end has the block of no group and no effect: a caller needs no bound.
+pub fn block_or(blocks: &[Block], i: usize) -> Block
+    ensures { λ r. ⌜ r ≡ getD (now (blocks .entry)) i noBlock ⌝ }
+{
+    if i < blocks.len() {
+        return blocks[i];
+    }
+    Block { m: 0, k: 0 }
+}
+
+// A shape of `count` blocks, with no numbers yet.
+fn blank(count: usize) -> Shape
+    ensures { λ r. ⌜ r ≡ blankShape count ⌝ }
+{
+    let m = [0usize; 8];
+    let k = [0usize; 8];
+    Shape { count, m, k }
+}
+
+// The shape with a block's numbers at place i.
+fn put(shape: Shape, i: usize, block: Block) -> Shape
+    requires { ⌜ i < 8 ⌝ }
+    ensures { λ r. ⌜ r ≡ putAt shape i block ⌝ }
+{
+    let mut filled = shape;
+    filled.m[i] = block.m;
+    filled.k[i] = block.k;
+    filled
+}
+
+// Refuses nothing: the count is the list's own, whatever it is, and the table refuses a shape of none or of more than eight.
+pub fn shape_of(blocks: &[Block]) -> Shape
+    ensures { λ r. ⌜ r ≡ shapeOf (now (blocks .entry)) ⌝ }
+{
+    let mut shape = blank(blocks.len());
+    let mut i = 0;
+    while i < 8 {
+        shape = put(shape, i, block_or(blocks, i));
+        i += 1;
+    }
+    shape
+}
