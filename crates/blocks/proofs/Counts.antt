@@ -1,18 +1,28 @@
--- A list of no block, or of more than eight, has no good shape: the table refuses it. Assumes nothing.
-use mathlib.Core.Path.{_≡_}
-use mathlib.Core.Bool.{false}
+-- A list of no block, or of more than eight, is refused with number 1, whatever else is given. Assumes nothing.
+use mathlib.Core.Path.{_≡_, refl, sym}
 use mathlib.Core.List.{List}
-use Prim.Native.Nat.{_<_}
+use Prim.Native.Nat.{ℕ, _<_}
 use native.Mathlib.Omega.{arith}
 use lib.ListN.{length}
-use Rattle.model.specs.Shape.{goodShape}
+use Rattle.model.specs.Shape.{InRange}
+use Rattle.model.specs.declared.ends.Refusal.the-variants.{OutOfRange}
+use Rattle.model.specs.declared.sizes.Settings.{Settings}
 use Rattle.model.proofs.Shapes.{in-range}
-use Rattle.model.proofs.Tests.{false-unless}
+use Rattle.model.proofs.Sized.{not-sized}
+use Rattle.table.specs.Tests.{Inputs}
+use Rattle.table.specs.Table.{refuseUnless, tableOf}
+use Rattle.table.specs.declared.verdicts.LentLengths.{LentLengths}
+use Rattle.table.specs.declared.verdicts.Verdict.the-variants.{Refused}
 use Rattle.blocks.specs.Blocks.{shapeOf}
 use Rattle.blocks.specs.declared.Block.{Block}
 
-pub none-refused : (bs : List Block) → length bs ≡ 0 → false ≡ goodShape (shapeOf bs)
-none-refused bs e = false-unless (λ g. let l = in-range (shapeOf bs) g .some in omega (arith, l, e))
+module _ (r : ℕ) (t : Settings) (bs : List Block) (I : Inputs) (L : LentLengths) where
+  refused-unless : (InRange (shapeOf bs) → ⊥) → tableOf r t (shapeOf bs) I L ≡ Refused OutOfRange
+  unfolding tableOf refuseUnless
+  refused-unless bad = rw (sym (not-sized t (shapeOf bs) (λ z. bad (in-range (shapeOf bs) (z .shape))))) refl
 
-pub many-refused : (bs : List Block) → 8 < length bs → false ≡ goodShape (shapeOf bs)
-many-refused bs e = false-unless (λ g. let l = in-range (shapeOf bs) g .few in omega (arith, l, e))
+  pub none-refused : length bs ≡ 0 → tableOf r t (shapeOf bs) I L ≡ Refused OutOfRange
+  none-refused e = refused-unless (λ z. let l = z .some in omega (arith, l, e))
+
+  pub many-refused : 8 < length bs → tableOf r t (shapeOf bs) I L ≡ Refused OutOfRange
+  many-refused e = refused-unless (λ z. let l = z .few in omega (arith, l, e))
