@@ -4,7 +4,7 @@ Writes the walk of a function of crates/CRATE/src/lib.rt of the form
     pub fn FN(first: T, blocks: &[B], .. lent slices ..) -> A { let s = MAKER(blocks); CALLEE(first, s, .. the slices in order ..) }
 where MAKER and CALLEE meet their contracts, neither has a `requires`, CALLEE and FN have the same `ensures` but for MAKER's answer in place of s, and s is what
 MAKER's `ensures` says: λ r. ⌜ r ≡ DEF (now (blocks .entry)) ⌝. The slices are &[f64], &[usize] or &mut [f64], those by & first.
-  MAKER, CALLEE   as the crate's own modules stand: blocks::shape_of, glmm::calls::fit
+  MAKER, CALLEE   as FN calls them: blocks::shape_of, glmm::fit (a function of CRATE with its module)
   TYPE            where T, B, MAKER's answer, A and DEF stand, in this order: model::sizes::Settings blocks::Block model::sizes::Shape model::ends::Answer blocks::Blocks::shapeOf
 Nothing is kept of a parameter: what a lent slice owns goes to a callee, and what CALLEE says of the last values is what FN says of them."""
 import re,sys

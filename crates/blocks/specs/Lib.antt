@@ -1,1 +1,2 @@
+-- The shape of a list of blocks. Assumes nothing.
 pub mod Blocks
