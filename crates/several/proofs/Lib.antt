@@ -4,3 +4,4 @@ pub mod Trials
 pub mod Terms
 pub mod Turns
 pub mod SeveralRuled
+pub mod Unique

@@ -17,7 +17,7 @@ use Rattle.quadrature.specs.declared.orders.Order.{Order}
 use Rattle.quadrature.proofs.Chosen.{size-from}
 use Rattle.quadrature.proofs.Padded.{node-padded, weight-padded}
 use Rattle.agq_rule.specs.Point.{digit, digitEntry, nodeAt, pointOf, logEntry, logWeightAt, logWeightOf}
-use Rattle.several.specs.Several.{nodesAt, weightAt}
+use Rattle.several.specs.Several.{nodesAt, logWeightIn}
 
 digit-below : (b t j : ℕ) → 1 ≤ b → digit b t j < b
 digit-below b t j h =
@@ -38,8 +38,8 @@ pub nodes-ruled : (o : Order) (k t : ℕ) → nodesAt (padded (nodesOf o)) (size
 unfolding nodesAt pointOf nodeAt digitEntry
 nodes-ruled o k t = build-cong (digitEntry (padded (nodesOf o)) (sizeOf o) t) (nodeAt o t) k (λ j l. node-padded o (digit (sizeOf o) t j) (order-digit o t j))
 
-pub weight-ruled : (o : Order) (k t : ℕ) → weightAt (padded (weightsOf o)) (sizeOf o) k t ≡ logWeightOf o k t
-unfolding weightAt logWeightOf logWeightAt logEntry digitEntry
+pub weight-ruled : (o : Order) (k t : ℕ) → logWeightIn (padded (weightsOf o)) (sizeOf o) k t ≡ logWeightOf o k t
+unfolding logWeightIn logWeightOf logWeightAt logEntry digitEntry
 weight-ruled o k t =
     sum-cong k (logEntry (padded (weightsOf o)) (sizeOf o) t) (logWeightAt o t)
     (λ j l. ap (λ (x : Float). lnOf x) (weight-padded o (digit (sizeOf o) t j) (order-digit o t j)))

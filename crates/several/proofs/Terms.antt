@@ -15,7 +15,7 @@ use Rattle.base.proofs.Fills.{length-fillat}
 use Rattle.base.proofs.Rows.{row-length, row-whole, only-row, fillat-wrote}
 use Rattle.agq_rule.specs.Point.{logEntry}
 use Rattle.agq_rule.specs.Term.{deltaOf, penaltyAt, movedAt, groupPenalty}
-use Rattle.several.specs.Several.{Grid, nodesAt, weightAt, movedEffects, TrialIn, PointIn, groupEffects, groupTermWith, groupTermIn, jointEffects, jointTermWith}
+use Rattle.several.specs.Several.{Grid, nodesAt, logWeightIn, movedEffects, TrialIn, PointIn, groupEffects, groupTermWith, groupTermIn, jointEffects, jointTermWith}
 use Rattle.several.proofs.Trials.{stretch-at}
 
 -- a list filled from its first place to its last is built
@@ -42,7 +42,7 @@ module _ (gain : List Float → Float) (n q xbeta s k size l u trial point : ℕ
   -- tp and up: the parts of the slice that the penalty is formed from
   pub group-made : (tp up : List Float) (pen lw x : Float) → tp ≡ row (trial + s) k m' → up ≡ row (u + s) k m' → pen ≡ sumTo k (penaltyAt tp up) → lw ≡ sumTo k (logEntry ws size point) → x ≡ deltaOf inv dd pen
       → PointIn (groupTermIn gain s k inv nodes ws size (row l (k * k) m) (row u q m) (row trial q m) point) T n q xbeta trial r r' m m' (lw ⊕ x)
-  unfolding groupTermIn groupTermWith weightAt
+  unfolding groupTermIn groupTermWith logWeightIn
   group-made tp up pen lw x et eu e w d =
       let parts : sumTo k (penaltyAt tp up) ≡ groupPenalty s k (row trial q m') (row u q m') =
       rw (et, eu) (penalty-of-rows trial u q s k m' (g .within) (omega (arith, g .in-m, p .in-m .len)) (omega (arith, g .hats, g .in-m, p .in-m .len))) in
@@ -59,8 +59,8 @@ module _ (gain : List Float → Float) (n q xbeta size l u trial point : ℕ) (n
   all-moved = whole-filled q (movedAt q (row l (q * q) m) (nodesAt nodes size q point) 0 (row u q m)) (row trial q m) (row-length trial q m (omega (arith, g .in-m)))
 
   pub joint-made : (tp : List Float) (squares lw x : Float) → tp ≡ row trial q m' → squares ≡ dotOf q tp tp → lw ≡ sumTo q (logEntry ws size point) → x ≡ deltaOf inv dd (squares ⊖ hats)
-      → PointIn (jointTermWith gain q (weightAt ws size q point) inv hats J) J n q xbeta trial r r' m m' (lw ⊕ x)
-  unfolding jointTermWith weightAt
+      → PointIn (jointTermWith gain q (logWeightIn ws size q point) inv hats J) J n q xbeta trial r r' m m' (lw ⊕ x)
+  unfolding jointTermWith logWeightIn
   joint-made tp squares lw x et e w d =
       let effects' : row trial q m' ≡ J = p .effects ∙ all-moved in
       record { told = rw (d, w, e, et, effects', p .gained, all-moved) refl; effects = effects'; in-m = p .in-m; in-r = p .in-r }

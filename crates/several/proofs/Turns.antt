@@ -16,7 +16,7 @@ use Rattle.family.specs.declared.carried.CarriedFamily.{CarriedFamily}
 use Rattle.family.specs.declared.carried.CarriedLink.{CarriedLink}
 use Rattle.agq_rule.specs.Term.{movedAt}
 use Rattle.agq.proofs.OneTurns.{filled-same}
-use Rattle.several.specs.Several.{Grid, nodesAt, weightAt, movedEffects, gainIn, PointIn, TermsIn, groupEffects, groupTermIn, jointEffects, jointTermWith, jointTermIn}
+use Rattle.several.specs.Several.{Grid, nodesAt, logWeightIn, movedEffects, gainIn, PointIn, TermsIn, groupEffects, groupTermIn, jointEffects, jointTermWith, jointTermIn}
 
 -- ---- the terms, one after another
 pub terms-none : {f : ℕ → Float} {n q xbeta trial : ℕ} {r m t : List Float} → TermsIn f n q xbeta trial 0 r r m m t t
@@ -74,10 +74,10 @@ module _ (family : CarriedFamily) (link : CarriedLink) (shape : Shape) (theta : 
 
     -- of all effects
     module _ (hats : Float) (g : Grid q 0 q size l u trial nodes m) (h : hats ≡ dotOf q (row u q m) (row u q m)) (p : TermsIn (jointTermIn (gainIn family link shape theta Z y weights offset n q xbeta r) q inv nodes ws size (row l (q * q) m) (row u q m)) n q xbeta trial i r r1 m m1 t t1) where
-      joint-same : jointTermWith (gainIn family link shape theta Z y weights offset n q xbeta r1) q (weightAt ws size q i) inv hats (jointEffects q nodes size (row l (q * q) m1) (row u q m1) i) ≡ jointTermIn (gainIn family link shape theta Z y weights offset n q xbeta r) q inv nodes ws size (row l (q * q) m) (row u q m) i
+      joint-same : jointTermWith (gainIn family link shape theta Z y weights offset n q xbeta r1) q (logWeightIn ws size q i) inv hats (jointEffects q nodes size (row l (q * q) m1) (row u q m1) i) ≡ jointTermIn (gainIn family link shape theta Z y weights offset n q xbeta r) q inv nodes ws size (row l (q * q) m) (row u q m) i
       unfolding jointTermIn
       joint-same = rw (gain-kept (p .in-r), h, only-row l (q * q) trial (q + q + q) (inl (omega (arith, g .factor, g .hats))) (omega (arith, g .factor, g .hats, g .in-m)) (p .in-m), only-row u q trial (q + q + q) (inl (g .hats)) (omega (arith, g .hats, g .in-m)) (p .in-m)) refl
 
-      pub joint-turn : (r2 m2 : List Float) (x : Float) → PointIn (jointTermWith (gainIn family link shape theta Z y weights offset n q xbeta r1) q (weightAt ws size q i) inv hats (jointEffects q nodes size (row l (q * q) m1) (row u q m1) i)) (jointEffects q nodes size (row l (q * q) m1) (row u q m1) i) n q xbeta trial r1 r2 m1 m2 x
+      pub joint-turn : (r2 m2 : List Float) (x : Float) → PointIn (jointTermWith (gainIn family link shape theta Z y weights offset n q xbeta r1) q (logWeightIn ws size q i) inv hats (jointEffects q nodes size (row l (q * q) m1) (row u q m1) i)) (jointEffects q nodes size (row l (q * q) m1) (row u q m1) i) n q xbeta trial r1 r2 m1 m2 x
           → TermsIn (jointTermIn (gainIn family link shape theta Z y weights offset n q xbeta r) q inv nodes ws size (row l (q * q) m) (row u q m)) n q xbeta trial (i + 1) r r2 m m2 t (set t1 i x)
       joint-turn r2 m2 x c = terms-step p c joint-same

@@ -34,8 +34,8 @@ unfoldable pub nodesAt : List Float → ℕ → ℕ → ℕ → List Float
 nodesAt nodes size k point = build (digitEntry nodes size point) k
 
 -- its log weight
-unfoldable pub weightAt : List Float → ℕ → ℕ → ℕ → Float
-weightAt ws size k point = sumTo k (logEntry ws size point)
+unfoldable pub logWeightIn : List Float → ℕ → ℕ → ℕ → Float
+logWeightIn ws size k point = sumTo k (logEntry ws size point)
 
 -- the effects `before` with the k of them from s on moved by L z from û
 unfoldable pub movedEffects : ℕ → ℕ → List Float → List Float → List Float → List Float → List Float
@@ -53,7 +53,7 @@ pub record TrialIn (gain : List Float → Float) (t : List Float) (n q xbeta tri
   pub in-m : Only trial (q + q + q) m m'
   pub in-r : Only (xbeta + n + n) n r r'
 
--- what a point's log term x leaves
+-- what a point answers and leaves: its log term, and its effects t in their places; nothing else changed but Λ times them, the nodes behind, and the row of Zb
 pub record PointIn (term : Float) (t : List Float) (n q xbeta trial : ℕ) (r r' m m' : List Float) (x : Float) : Type 0 where
   pub told : x ≡ term
   pub effects : row trial q m' ≡ t
@@ -79,7 +79,7 @@ groupTermWith gain s k logWeight inv u t = logWeight ⊕ deltaOf inv (gain t) (g
 -- the log term of a point
 unfoldable pub groupTermIn : (List Float → Float) → ℕ → ℕ → Float → List Float → List Float → ℕ → List Float → List Float → List Float → ℕ → Float
 groupTermIn gain s k inv nodes ws size L u before point =
-    groupTermWith gain s k (weightAt ws size k point) inv u (groupEffects s k nodes size L u before point)
+    groupTermWith gain s k (logWeightIn ws size k point) inv u (groupEffects s k nodes size L u before point)
 
 -- ---- all q effects at once
 
@@ -94,4 +94,4 @@ jointTermWith gain q logWeight inv hats t = logWeight ⊕ deltaOf inv (gain t) (
 -- the log term of a point
 unfoldable pub jointTermIn : (List Float → Float) → ℕ → Float → List Float → List Float → ℕ → List Float → List Float → ℕ → Float
 jointTermIn gain q inv nodes ws size L u point =
-    jointTermWith gain q (weightAt ws size q point) inv (dotOf q u u) (jointEffects q nodes size L u point)
+    jointTermWith gain q (logWeightIn ws size q point) inv (dotOf q u u) (jointEffects q nodes size L u point)

@@ -11,7 +11,7 @@ ghost use lib.ListN.{length};
 ghost use Rattle.base.specs.Rows.{row};
 ghost use Rattle.stored.specs.Stored.{sparse};
 ghost use Rattle.agq.specs.Gained.{Room};
-ghost use Rattle.several.specs.Several.{Grid, weightAt, gainIn, jointEffects, jointTermWith, jointTermIn, PointIn, TermsIn};
+ghost use Rattle.several.specs.Several.{Grid, logWeightIn, gainIn, jointEffects, jointTermWith, jointTermIn, PointIn, TermsIn};
 
 // The log term of a point: log weight + delta, the penalty being Σt² less Σû², which is hats.
 pub fn joint_point(
@@ -43,7 +43,7 @@ pub fn joint_point(
     requires { ⌜ Room shape (now theta) (now starts) (now columns) (now values) (now y) (now offset) n q xbeta (now r) trial (now m) ⌝ }
     requires { ⌜ Grid q 0 q size l u trial (now nodes) (now m) ⌝ }
     requires { ⌜ size ≤ length (now «node_weights») ⌝ }
-    ensures { λ x. ⌜ PointIn (jointTermWith (gainIn family link shape (now (theta .entry)) (sparse (now (starts .entry)) (now (columns .entry)) (now (values .entry))) (now (y .entry)) (now (weights .entry)) (now (offset .entry)) n q xbeta (now (r .entry))) q (weightAt (now («node_weights» .entry)) size q point) «inv_phi» hats (jointEffects q (now (nodes .entry)) size (row l (q * q) (now (m .entry))) (row u q (now (m .entry))) point)) (jointEffects q (now (nodes .entry)) size (row l (q * q) (now (m .entry))) (row u q (now (m .entry))) point) n q xbeta trial (now (r .entry)) (now (r .exit)) (now (m .entry)) (now (m .exit)) x ⌝ }
+    ensures { λ x. ⌜ PointIn (jointTermWith (gainIn family link shape (now (theta .entry)) (sparse (now (starts .entry)) (now (columns .entry)) (now (values .entry))) (now (y .entry)) (now (weights .entry)) (now (offset .entry)) n q xbeta (now (r .entry))) q (logWeightIn (now («node_weights» .entry)) size q point) «inv_phi» hats (jointEffects q (now (nodes .entry)) size (row l (q * q) (now (m .entry))) (row u q (now (m .entry))) point)) (jointEffects q (now (nodes .entry)) size (row l (q * q) (now (m .entry))) (row u q (now (m .entry))) point) n q xbeta trial (now (r .entry)) (now (r .exit)) (now (m .entry)) (now (m .exit)) x ⌝ }
 {
     let dd = trial_gain(
         family,
