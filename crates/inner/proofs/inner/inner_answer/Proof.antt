@@ -1,4 +1,5 @@
 -- `inner::inner_answer` meets its contract: the fit's end decides; where it stopped, the work slices hold the mode for the quadrature.
+use mathlib.Core.Path.{_∙_}
 use Rattle.pirls.proofs.Fitted.{asked-kept}
 use Rattle.inner.proofs.Answering.{lent-after, sum-fits, failed-left, stopped-left}
 use borrow.Author.Needs.{needs}
@@ -6,7 +7,7 @@ use Rattle.inner.proofs.inner.inner_answer.Statement.{statement}
 use Rattle.inner.proofs.inner.inner_answer.Tie as tie
 
 inner-fit-requires : tie.Need-inner-fit-requires
-inner-fit-requires c κs = search needs
+inner-fit-requires c κs = c .before .before .before .before .before .before .before .before .before .before .before .before .before .before .pre
 
 enum-known-end : tie.Need-enum-known-end
 enum-known-end c = search needs
@@ -26,13 +27,13 @@ answer-of-requires c κs =
     sum-fits _ (s .args .wish) _ _ _ _ _ _ _ _ _ _ (c .before .before .before .before .before .before .before .before .before .before .before .before .before .before .before .before .before .before .inner-fit .ensures) (s .pre .0 .ready .good) (s .pre .1) _ (c .before .before .before .before .before .before .quadrature-at .ensures .few)
 
 same-length : tie.Need-same-length
-same-length c = search needs
+same-length c = c .before .before .before .before .before .before .before .before .before .before .inner-fit .ensures .rows-only .len
 
 same-length-2 : tie.Need-same-length-2
-same-length-2 c = search needs
+same-length-2 c = c .before .before .before .before .before .before .before .before .before .before .inner-fit .ensures .matrices-only .len
 
 same-length-3 : tie.Need-same-length-3
-same-length-3 c = search needs
+same-length-3 c = c .before .before .before .before .before .before .before .before .before .before .inner-fit .ensures .terms-only .len
 
 returns : tie.Need-returns
 returns c =
@@ -40,13 +41,13 @@ returns c =
     failed-left _ (s .args .wish) _ _ _ _ _ _ _ _ _ _ (c .before .before .before .before .before .before .before .before .before .before .inner-fit .ensures) _ _ (c .before .before .end .given .1) (c .failed-answer .ensures)
 
 same-length-4 : tie.Need-same-length-4
-same-length-4 c = search needs
+same-length-4 c = c .before .before .before .before .before .before .before .quadrature-at .ensures .rows-only .len ∙ c .before .before .before .before .before .before .before .before .before .before .before .before .before .before .before .before .before .before .before .inner-fit .ensures .rows-only .len
 
 same-length-5 : tie.Need-same-length-5
-same-length-5 c = search needs
+same-length-5 c = c .before .before .before .before .before .before .before .quadrature-at .ensures .matrices-only .len ∙ c .before .before .before .before .before .before .before .before .before .before .before .before .before .before .before .before .before .before .before .inner-fit .ensures .matrices-only .len
 
 same-length-6 : tie.Need-same-length-6
-same-length-6 c = search needs
+same-length-6 c = c .before .before .before .before .before .before .before .quadrature-at .ensures .terms-only .len ∙ c .before .before .before .before .before .before .before .before .before .before .before .before .before .before .before .before .before .before .before .inner-fit .ensures .terms-only .len
 
 returns-2 : tie.Need-returns-2
 returns-2 c =

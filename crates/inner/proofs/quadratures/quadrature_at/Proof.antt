@@ -17,13 +17,13 @@ product-at-requires c κs =
     (s .pre, groups-all (s .args .t4) (s .args .q) (eq-eqb _ _ (c .before .before .before .before .before .if1 .taken)) (s .pre .ready .effects))
 
 same-length : tie.Need-same-length
-same-length c = search needs
+same-length c = c .before .before .before .before .before .before .product-at .ensures .rows-only .len
 
 same-length-2 : tie.Need-same-length-2
-same-length-2 c = search needs
+same-length-2 c = c .before .before .before .before .before .before .product-at .ensures .matrices-only .len
 
 same-length-3 : tie.Need-same-length-3
-same-length-3 c = search needs
+same-length-3 c = c .before .before .before .before .before .before .product-at .ensures .terms-only .len
 
 returns : tie.Need-returns
 returns c =
@@ -31,16 +31,16 @@ returns c =
     by-product (s .args .family) (s .args .link) (s .args .t4) (s .args .theta .now) _ (s .args .y .now) (s .args .weights .now) (s .args .offset .now) (s .args .n) (s .args .p) (s .args .q) (s .args .x .now) (s .args .wish) (s .args .phi) (s .args .fit) _ _ _ _ _ _ _ (eq-eqb _ _ (c .before .before .before .before .before .before .before .before .before .before .before .before .if1 .taken)) (c .before .before .before .before .before .before .product-at .ensures)
 
 joint-at-requires : tie.Need-joint-at-requires
-joint-at-requires c κs = search needs
+joint-at-requires c κs = c .before .before .before .before .before .before .before .before .before .before .before .before .before .before .before .pre
 
 same-length-4 : tie.Need-same-length-4
-same-length-4 c = search needs
+same-length-4 c = c .before .before .before .before .before .before .joint-at .ensures .rows-only .len
 
 same-length-5 : tie.Need-same-length-5
-same-length-5 c = search needs
+same-length-5 c = c .before .before .before .before .before .before .joint-at .ensures .matrices-only .len
 
 same-length-6 : tie.Need-same-length-6
-same-length-6 c = search needs
+same-length-6 c = c .before .before .before .before .before .before .joint-at .ensures .terms-only .len
 
 returns-2 : tie.Need-returns-2
 returns-2 c =
