@@ -5,3 +5,4 @@ pub mod Fronts
 pub mod OneSummed
 pub mod SeveralSummed
 pub mod Looped
+pub mod Unique
