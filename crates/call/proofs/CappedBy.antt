@@ -1,0 +1,73 @@
+-- The account of an accepted call by its limit, link and shape: what one inner fit may do, or with a dispersion 241 times that. The request, demand 3. Assumes nothing.
+use mathlib.Core.Path.{_≡_}
+use mathlib.Core.Bool.{true, false}
+use Prim.Native.Nat.{ℕ, suc, _*_, _≤_}
+use native.Mathlib.Omega.{arith}
+use lib.Ieee.{Float}
+use Rattle.base.specs.Number.{oneF}
+use Rattle.model.specs.Account.{AtMost, times}
+use Rattle.model.specs.Caps.{innerCapOf}
+use Rattle.model.specs.Items.{isFit, isSolve, isTry, isPoint, tally}
+use Rattle.model.specs.Names.{limitOf}
+use Rattle.model.specs.declared.counts.Account.{Account}
+use Rattle.model.specs.declared.sizes.Shape.{Shape}
+use Rattle.model.specs.declared.sizes.Settings.{Settings}
+use Rattle.family.specs.Carried.{linkOf}
+use Rattle.family.specs.Family.{usesDispersion}
+use Rattle.family.specs.declared.carried.CarriedFamily.{CarriedFamily}
+use Rattle.family.specs.declared.carried.CarriedLink.{CarriedLink}
+use Rattle.rule.specs.Given.{Given, nOf}
+use Rattle.rule.specs.Run.{startMeans}
+use Rattle.agq_rule.proofs.Caps.{inner-capped}
+use Rattle.table.specs.Tests.{Inputs}
+use Rattle.table.specs.Table.{tableOf}
+use Rattle.table.specs.declared.verdicts.Verdict.the-variants.{Accepted}
+use Rattle.dispersion.specs.Phi.{effectiveN}
+use Rattle.dispersion.specs.Rounds.{lastFit, dispersionOf, fixedOf}
+use Rattle.dispersion.proofs.Capped.{loop-most}
+use Rattle.call.specs.Fit.{sumOf, totalOf, innerAt, fitBy, fitOf}
+use Rattle.call.specs.Call.{Lent, lengthsOf, callGiven, callOf}
+use Rattle.call.proofs.Leaves.{accepted-account}
+
+by-241 : (c x : ℕ) → x ≤ c * suc 240 → x ≤ 241 * c
+by-241 c x l = omega (arith, l)
+
+-- ---- the fit
+module _ (G : Given) (wish L : ℕ) where
+  abbrev cap : Account
+  cap = innerCapOf (G .design .shape) (linkOf (G .link)) L
+
+  each-capped : (phi : Float) → AtMost cap (tally (innerAt G wish L phi .items))
+  unfolding innerAt totalOf
+  each-capped phi = inner-capped G wish phi L (startMeans G)
+
+  pub one-capped-by : usesDispersion (G .family) ≡ false → AtMost cap (tally (fitOf G wish L .items))
+  unfolding fitOf fitBy fixedOf lastFit
+  one-capped-by e = rw e (each-capped oneF)
+
+  rounds-capped-by : AtMost (times 241 cap) (tally (fitBy true G wish L .items))
+  unfolding fitBy dispersionOf tally
+  rounds-capped-by =
+      record {
+        fits = by-241 (cap .fits) _ (loop-most (effectiveN (nOf G) (G .weights)) sumOf (innerAt G wish L) isFit (cap .fits) (λ phi. each-capped phi .fits) 240 oneF);
+        solves = by-241 (cap .solves) _ (loop-most (effectiveN (nOf G) (G .weights)) sumOf (innerAt G wish L) isSolve (cap .solves) (λ phi. each-capped phi .solves) 240 oneF);
+        tries = by-241 (cap .tries) _ (loop-most (effectiveN (nOf G) (G .weights)) sumOf (innerAt G wish L) isTry (cap .tries) (λ phi. each-capped phi .tries) 240 oneF);
+        points = by-241 (cap .points) _ (loop-most (effectiveN (nOf G) (G .weights)) sumOf (innerAt G wish L) isPoint (cap .points) (λ phi. each-capped phi .points) 240 oneF);
+      }
+
+  pub all-capped-by : usesDispersion (G .family) ≡ true → AtMost (times 241 cap) (tally (fitOf G wish L .items))
+  unfolding fitOf
+  all-capped-by e = rw e rounds-capped-by
+
+-- ---- an accepted call, with the limit L that was given or stands for it
+module _ (t : Settings) (s : Shape) (I : Inputs) (A : Lent) (f : CarriedFamily) (l : CarriedLink) (e : tableOf 1 t s I (lengthsOf A) ≡ Accepted f l) where
+  abbrev innerCapIn : Account
+  innerCapIn = innerCapOf s (linkOf l) (limitOf (t .limit) (t .link))
+
+  pub call-one-capped : usesDispersion f ≡ false → AtMost innerCapIn (callOf t s I A .answer .account)
+  unfolding callGiven
+  call-one-capped d = rw (accepted-account t s I A f l e) (one-capped-by (callGiven f l t s I) (t .«n_agq») (limitOf (t .limit) (t .link)) d)
+
+  pub call-all-capped : usesDispersion f ≡ true → AtMost (times 241 innerCapIn) (callOf t s I A .answer .account)
+  unfolding callGiven
+  call-all-capped d = rw (accepted-account t s I A f l e) (all-capped-by (callGiven f l t s I) (t .«n_agq») (limitOf (t .limit) (t .link)) d)
