@@ -1,7 +1,7 @@
 // What an inner fit answers after its quadrature.
-use crate::sums::Quadrature;
 use agq_rule::deviance_by;
 use agq_rule::order_by;
+use groups::Quadrature;
 use model::Account;
 use model::End;
 use pirls::Ended;

@@ -1,10 +1,7 @@
 // The inner fit with its quadrature, as the written rule has it.
 mod answers;
 mod inner;
-mod joint;
-mod product;
 mod quadratures;
-mod sums;
 
 pub use answers::InnerAnswer;
 pub use inner::inner_answer;

@@ -1,10 +1,10 @@
 // The quadrature at the mode that the work slices hold, by the order that the wish and the effects leave.
-use crate::joint::joint_step;
-use crate::product::product_step;
-use crate::sums::Quadrature;
 use agq_rule::Integral;
 use family::CarriedFamily;
 use family::CarriedLink;
+use groups::Quadrature;
+use groups::joint_step;
+use groups::product_step;
 use linear::x_beta;
 use model::Shape;
 use quadrature::Choice;
@@ -22,7 +22,7 @@ ghost use Rattle.layout.specs.WorkRows.{xbetaRow, rowsLength};
 ghost use Rattle.model.specs.Settings.{Sizes};
 ghost use Rattle.stored.specs.Stored.{sparse};
 ghost use Rattle.iteration.specs.Iterated.{Asked};
-ghost use Rattle.inner.specs.Stands.{givenWith};
+ghost use Rattle.groups.specs.Stands.{givenWith};
 ghost use Rattle.inner.specs.Read.{declinedFor, ProductAt, JointAt, QuadratureAt};
 
 // No step is made.
