@@ -1,7 +1,8 @@
 #!/usr/bin/env python3
 """usage: table.py > crates/cases_table/stdout
-What `cases_table` must print: document 01's table of refusals in Python, asked the same calls. Stops unless every number of the table is given."""
-import math
+       table.py --stdin > crates/cases_table/stdin
+What `cases_table` must print, and the calls that it is fed: document 01's table of refusals in Python, asked the same calls. Stops unless every number of the table is given."""
+import math, struct, sys
 
 NAN, INF = math.nan, math.inf
 BIG = 1 << 63
@@ -53,8 +54,31 @@ def numbers(c):
 TABLE = [(1, sizes), (2, lengths), (7, work), (6, sparse), (3, numbers), (4, lambda c: c["link"] in VALID[c["family"]]), (5, lambda c: c["family"] != "gamma" and c["link"] != "probit")]
 
 
+def laid(size, lists):
+    """Each list at its place, zeros between."""
+    whole = [0] * size
+    for at, xs in lists.items():
+        assert not any(whole[at:at + len(xs)])
+        whole[at:at + len(xs)] = xs
+    assert len(whole) == size
+    return whole
+
+
+def fed(word, c):
+    """A call in words of eight bytes, in the order in which crates/cases_table/src/main.rt takes them; a name stands behind its length, the lists at fixed places."""
+    lists = [c[k] for k in ["theta", "y", "weights", "offset", "x", "starts", "columns", "values"]]
+    data = struct.pack(f">Q{len(word)}s", len(word), word.encode())
+    data += struct.pack(">8Q", *laid(8, dict(zip([0, 4], lists[5:7])))) + struct.pack(">25d", *laid(25, dict(zip([0, 2, 6, 10, 14, 21], [*lists[:5], lists[7]]))))
+    settings = [FAMILIES.index(c["family"]), LINKS.index(c["link"]), 2 * BIG - 1 if c["limit"] is None else c["limit"], c["n"], c["p"], c["rows"], c["entries"]]
+    lent = [c[k] for k in [*RESULTS, "work_rows", "work_matrices", "work_terms"]]
+    return data + struct.pack(">29Q", *settings, *c["blocks"][0], *map(len, lists), *lent)
+
+
 def ask(word, **changes):
     c = call(**changes)
+    if "--stdin" in sys.argv:
+        sys.stdout.buffer.write(fed(word, c))
+        return
     for number, good in TABLE:
         if not good(c):
             seen.add(number)
@@ -91,4 +115,4 @@ for family in FAMILIES:
         ask("pair", family=family, link=link)
 for n, beta, terms, column, y in [(513, 1, 6999, 3, NAN), (3, 1, 6999, 3, NAN), (3, 2, 6999, 3, NAN), (3, 2, 7000, 3, NAN), (3, 2, 7000, 2, NAN), (3, 2, 7000, 2, 2.0)]:
     ask("faults", family="gamma", link="probit", n=n, beta=beta, work_terms=terms, columns=[0, column, 1], y=[1.0, y, 3.0])
-assert seen == {1, 2, 3, 4, 5, 6, 7}
+assert "--stdin" in sys.argv or seen == {1, 2, 3, 4, 5, 6, 7}

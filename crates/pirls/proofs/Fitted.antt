@@ -32,8 +32,7 @@ use Rattle.stages.specs.declared.stops.AtStop.{AtStop}
 use Rattle.iteration.specs.Iterated.{Asked, givenOf, IterationLeft, triesMade}
 use Rattle.iteration.specs.declared.iterates.Iteration.{Iteration}
 use Rattle.iteration.specs.declared.iterates.Iteration.the-variants.{Unsolvable, Stuck, Moved}
-use Rattle.pirls.specs.Inner.{failedFit, InnerLeft}
-use Rattle.pirls.specs.declared.inner.Ended.the-variants.{Stopped}
+use Rattle.pirls.specs.Inner.{failedFit, stoppedFit, InnerLeft}
 use Rattle.pirls.specs.declared.inner.InnerFit.{InnerFit}
 use Rattle.pirls.proofs.Turns.{Going, going-starts, spent, unsolved-end, stuck-end, goes-on, fit-stopped}
 
@@ -90,15 +89,14 @@ module _ (family : CarriedFamily) (link : CarriedLink) (phi : Float) (L n p q : 
           pub turn-on : stops old pwrss ≡ false → Going G phi L (row (muRow n) n r') r' r2 m₀ m2 t₀ t2 pwrss (not second) (k + 1) (solves + 1) (tries + j)
           turn-on s = goes-on G phi L (row (muRow n) n r') r₀ r r' r2 m₀ m m2 t₀ t t2 old second k solves tries j pwrss g l (i' .told) (i' .rows-only) (i' .matrices-only) (i' .terms-only) few-tries s
 
-          pub end-stopped : (r3 m3 : List Float) (s : AtStop) (a : Account) → stops old pwrss ≡ true → Lent n p q r2 m2 t2 → Stops family y weights n p q (row (muRow n) n r2) t2 r2 r3 m2 m3 s
-              → a ≡ record { fits = 1; solves = solves + 1; tries = tries + j; points = 0 }
-              → InnerLeft G phi L (row (muRow n) n r₀) r₀ r3 m₀ m3 t₀ t2
-              (record { end = Stopped; iterations = k + 1; «in_second» = not second; «deviance_sum» = s .«deviance_sum»; fit = s .fit; laplace = s .laplace; account = a })
-          end-stopped r3 m3 s a es lent2 st ha =
+          pub end-stopped : (r3 m3 : List Float) (s : AtStop) (a : Account) (b : InnerFit) → stops old pwrss ≡ true → Lent n p q r2 m2 t2 → Stops family y weights n p q (row (muRow n) n r2) t2 r2 r3 m2 m3 s
+              → a ≡ record { fits = 1; solves = solves + 1; tries = tries + j; points = 0 } → b ≡ stoppedFit s (k + 1) (not second) a
+              → InnerLeft G phi L (row (muRow n) n r₀) r₀ r3 m₀ m3 t₀ t2 b
+          end-stopped r3 m3 s a b es lent2 st ha hb =
               let h = i' .told .held in
               let st' : Stops family y weights n p (qOf (G .design)) (row (muRow n) n r2) t2 r2 r3 m2 m3 s = rw e at st in
               let sl : StopLeft G p (qOf (G .design)) (i' .told .v) (row (muRow n) n r2) r2 r3 m2 m3 s = st' link (G .design) (i' .told .v) refl (h .factor) (h .root) (h .u) in
-              rw (← mu-kept)
+              rw (hb, ← mu-kept)
               (fit-stopped G phi L (row (muRow n) n r') r₀ r r' r2 m₀ m m2 t₀ t t2 old second k solves tries j pwrss g l (i' .told) (i' .rows-only) (i' .matrices-only) (i' .terms-only) r3 m3 s (rw e at lent2) sl es a ha rows-wide)
 
 -- a try counted where none was accepted

@@ -17,6 +17,7 @@ use Rattle.rule.specs.Given.{Given, nOf, qOf}
 use Rattle.rule.specs.Stop.{Mode}
 use Rattle.rule.specs.Run.{Ending, stopped, failed, runOf}
 use Rattle.stages.specs.Held.{etaRow}
+use Rattle.stages.specs.declared.stops.AtStop.{AtStop}
 use Rattle.pirls.specs.declared.inner.Ended.the-variants.{Stopped, Failed}
 use Rattle.pirls.specs.declared.inner.InnerFit.{InnerFit}
 
@@ -28,6 +29,10 @@ turned (suc k) = not (turned k)
 -- an inner fit without a result: its end and its account, and zero everywhere else
 abbrev pub failedFit : End → Account → InnerFit
 failedFit e a = record { end = Failed e; iterations = 0; «in_second» = false; «deviance_sum» = zeroF; fit = zeroF; laplace = zeroF; account = a }
+
+-- an inner fit that stopped after so many iterations: its sums as the stop tells them
+abbrev pub stoppedFit : AtStop → ℕ → Bool → Account → InnerFit
+stoppedFit s k second a = record { end = Stopped; iterations = k; «in_second» = second; «deviance_sum» = s .«deviance_sum»; fit = s .fit; laplace = s .laplace; account = a }
 
 -- the answer and the work slices hold the mode: the accepted predictor in the row that the answer names, its means and deviances in theirs, A, β, u and the inverse of the normal matrix's factor in the matrices
 pub record HoldsMode (G : Given) (k : Mode) (rows matrices : List Float) (a : InnerFit) : Type 0 where

@@ -18,7 +18,7 @@ ghost use Rattle.layout.specs.WorkRows.{muRow};
 ghost use Rattle.stored.specs.Stored.{sparse};
 ghost use Rattle.solve.specs.Ready.{designOf};
 ghost use Rattle.iteration.specs.Iterated.{Asked, givenOf};
-ghost use Rattle.pirls.specs.Inner.{failedFit, InnerLeft};
+ghost use Rattle.pirls.specs.Inner.{failedFit, stoppedFit, InnerLeft};
 
 // Whether an inner fit has a result.
 pub enum Ended {
@@ -37,21 +37,9 @@ pub struct InnerFit {
     pub account: Account,
 }
 
-// The account of one inner fit.
-fn account_of(solves: u64, tries: u64) -> Account
-    ensures { λ a. ⌜ a ≡ record { fits = 1; solves = solves; tries = tries; points = 0 } ⌝ }
-{
-    Account {
-        fits: 1,
-        solves,
-        tries,
-        points: 0,
-    }
-}
-
-// An inner fit without a result.
-fn failed_fit(end: End, account: Account) -> InnerFit
-    ensures { λ a. ⌜ a ≡ failedFit end account ⌝ }
+// An inner fit without a result, and the work that it has done.
+fn failed_fit(end: End, solves: u64, tries: u64) -> InnerFit
+    ensures { λ a. ⌜ a ≡ failedFit end (record { fits = 1; solves = solves; tries = tries; points = 0 }) ⌝ }
 {
     InnerFit {
         end: Ended::Failed(end),
@@ -60,7 +48,32 @@ fn failed_fit(end: End, account: Account) -> InnerFit
         deviance_sum: 0.0,
         fit: 0.0,
         laplace: 0.0,
-        account,
+        account: Account {
+            fits: 1,
+            solves,
+            tries,
+            points: 0,
+        },
+    }
+}
+
+// An inner fit that came to rest: what the stop tells, and the work that it has done.
+fn stopped_fit(s: AtStop, iterations: usize, in_second: bool, solves: u64, tries: u64) -> InnerFit
+    ensures { λ a. ⌜ a ≡ stoppedFit s iterations «in_second» (record { fits = 1; solves = solves; tries = tries; points = 0 }) ⌝ }
+{
+    InnerFit {
+        end: Ended::Stopped,
+        iterations,
+        in_second,
+        deviance_sum: s.deviance_sum,
+        fit: s.fit,
+        laplace: s.laplace,
+        account: Account {
+            fits: 1,
+            solves,
+            tries,
+            points: 0,
+        },
     }
 }
 
@@ -119,12 +132,8 @@ pub fn inner_fit(
             t,
         );
         match it {
-            Iteration::Unsolvable(e) => {
-                return failed_fit(e, account_of(solves, tries));
-            }
-            Iteration::Stuck(j) => {
-                return failed_fit(End::NoStep, account_of(solves + 1, tries + j));
-            }
+            Iteration::Unsolvable(e) => return failed_fit(e, solves, tries),
+            Iteration::Stuck(j) => return failed_fit(End::NoStep, solves + 1, tries + j),
             Iteration::Moved(pwrss, j) => {
                 k += 1;
                 solves += 1;
@@ -132,19 +141,11 @@ pub fn inner_fit(
                 in_second = !in_second;
                 if stops(old, pwrss) {
                     let s = stop(family, y, weights, n, p, q, r, m, t);
-                    return InnerFit {
-                        end: Ended::Stopped,
-                        iterations: k,
-                        in_second,
-                        deviance_sum: s.deviance_sum,
-                        fit: s.fit,
-                        laplace: s.laplace,
-                        account: account_of(solves, tries),
-                    };
+                    return stopped_fit(s, k, in_second, solves, tries);
                 }
                 old = pwrss;
             }
         }
     }
-    failed_fit(End::NoStop, account_of(solves, tries))
+    failed_fit(End::NoStop, solves, tries)
 }
