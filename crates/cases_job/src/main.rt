@@ -170,34 +170,6 @@ fn put_accepted(
 }
 
 // What reading answers and leaves in the slices.
-fn told(
-    job: &[u8],
-    theta: &mut [f64],
-    y: &mut [f64],
-    weights: &mut [f64],
-    offset: &mut [f64],
-    x: &mut [f64],
-    starts: &mut [usize],
-    columns: &mut [usize],
-    values: &mut [f64],
-) {
-    match reader::read_job(job, theta, y, weights, offset, x, starts, columns, values) {
-        Reading::Refused(number, byte) => put_refused(number, byte),
-        Reading::Accepted(header) => put_accepted(
-            job,
-            header,
-            theta,
-            y,
-            weights,
-            offset,
-            x,
-            starts,
-            columns,
-            values,
-        ),
-    }
-}
-
 fn one_job(job: &[u8]) {
     let mut theta = [9.0; 289];
     let mut y = [9.0; 513];
@@ -207,7 +179,7 @@ fn one_job(job: &[u8]) {
     let mut starts = [9usize; 34];
     let mut columns = [9usize; 8193];
     let mut values = [9.0; 8193];
-    told(
+    let reading = reader::read_job(
         job,
         &mut theta,
         &mut y,
@@ -218,6 +190,21 @@ fn one_job(job: &[u8]) {
         &mut columns,
         &mut values,
     );
+    match reading {
+        Reading::Refused(number, byte) => put_refused(number, byte),
+        Reading::Accepted(header) => put_accepted(
+            job,
+            header,
+            &theta,
+            &y,
+            &weights,
+            &offset,
+            &x,
+            &starts,
+            &columns,
+            &values,
+        ),
+    }
 }
 
 // Case J's end line, and the longest.
