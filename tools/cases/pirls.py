@@ -49,12 +49,17 @@ def compare(name, about, number, account, mode, lists):
             assert vectors[word] == hexes(values), (name, word)
 
 
-for name, about in jobs():
-    number, account, mode = fitted(about)
-    lists = dict(zip(LISTS, [mode.step.beta, mode.step.u, mode.eta, mode.mu])) if mode else {}
-    compare(name, about, number, account, mode, lists)
-    print(name, number, mode.iterations if mode else 0, account.solves, account.tries)
-    if mode:
-        print("sums", *hexes([mode.deviance_sum, mode.fit_term, mode.deviance]))
-    for word, values in lists.items():
-        print(word, *hexes(values))
+def main():
+    for name, about in jobs():
+        number, account, mode = fitted(about)
+        lists = dict(zip(LISTS, [mode.step.beta, mode.step.u, mode.eta, mode.mu])) if mode else {}
+        compare(name, about, number, account, mode, lists)
+        print(name, number, mode.iterations if mode else 0, account.solves, account.tries)
+        if mode:
+            print("sums", *hexes([mode.deviance_sum, mode.fit_term, mode.deviance]))
+        for word, values in lists.items():
+            print(word, *hexes(values))
+
+
+if __name__ == "__main__":
+    main()
