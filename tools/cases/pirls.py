@@ -87,8 +87,13 @@ def told(name, about):
         print(word, *hexes(values))
 
 
-for name, about in jobs():
-    if "--stdin" in sys.argv:
-        sys.stdout.buffer.write(fed(name, about))
-    else:
-        told(name, about)
+def main():
+    for name, about in jobs():
+        if "--stdin" in sys.argv:
+            sys.stdout.buffer.write(fed(name, about))
+        else:
+            told(name, about)
+
+
+if __name__ == "__main__":
+    main()

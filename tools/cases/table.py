@@ -87,32 +87,37 @@ def ask(word, **changes):
     print(word, 0, FAMILIES.index(c["family"]), LINKS.index(c["link"]))
 
 
-for n, p, rows, entries in [(3, 2, 2, 3), (0, 2, 2, 3), (513, 2, 2, 3), (BIG, 2, 2, 3), (4, 2, 2, 3), (3, 0, 2, 3), (3, 17, 2, 3), (3, 3, 2, 3), (3, 2, 1, 3), (3, 2, 3, 3), (3, 2, 2, 8193),
-                            (3, 2, 2, 8192)]:
-    ask("sizes", n=n, p=p, rows=rows, entries=entries)
-for limit in [0, 1000, 1001]:
-    ask("limit", limit=limit)
-for block in [(0, 1), (2, 0), (1, 2), (2, BIG), (BIG, 2)]:
-    ask("block", blocks=[block])
-for name, length in zip(RESULTS, [1, 3, 0, 3, 1, 2, 4, 2, 3]):
-    ask("results", **{name: length})
-ask("results")
-ask("work", work_rows=47)
-ask("work", work_matrices=83)
-ask("work", work_terms=6999)
-ask("work", work_rows=49, work_matrices=85, work_terms=7001)
-for theta, y, weights, offset in [(0, 3, 0, 0), (2, 3, 0, 0), (1, 2, 0, 0), (1, 4, 0, 0), (1, 3, 1, 0), (1, 3, 3, 0), (1, 3, 0, 2), (1, 3, 3, 3), (1, 3, 0, 4)]:
-    ask("lists", theta=[1.0] * theta, y=[1.0] * y, weights=[1.0] * weights, offset=[1.0] * offset)
-for x, starts, columns, values in [(5, 3, 3, 3), (7, 3, 3, 3), (6, 2, 3, 3), (6, 4, 3, 3), (6, 3, 2, 3), (6, 3, 3, 4), (6, 3, 3, 3)]:
-    ask("design", x=[1.0] * x, starts=[0, 2, 3, 3][:starts], columns=[0, 2, 1, 2][:columns], values=[1.0] * values)
-for starts, columns in [([1, 2, 3], [0, 2, 1]), ([0, 2, 2], [0, 2, 1]), ([0, 4, 3], [0, 2, 1]), ([0, 0, 3], [0, 1, 2]), ([0, 2, 3], [0, 3, 1]), ([0, 2, 3], [2, 0, 1]),
-                        ([0, 2, 3], [2, 2, 1]), ([0, 2, 3], [1, 2, 0]), ([0, 2, 3], [0, 2 * BIG - 1, 1])]:
-    ask("starts and columns", starts=starts, columns=columns)
-for theta, y, weight, offset, x, value in [(1.0,) * 6, (NAN, 1, 1, 1, 1, 1), (1, INF, 1, 1, 1, 1), (1, 1, -INF, 1, 1, 1), (1, 1, 1, NAN, 1, 1), (1, 1, 1, 1, NAN, 1), (1, 1, 1, 1, 1, INF)]:
-    ask("numbers", theta=[theta], y=[1.0, 2.0, y], weights=[1.0, weight, 1.0], offset=[offset, 0.0, 0.0], x=[1.0] * 5 + [x], values=[1.0, value, 1.0])
-for family in FAMILIES:
-    for link in LINKS:
-        ask("pair", family=family, link=link)
-for n, beta, terms, column, y in [(513, 1, 6999, 3, NAN), (3, 1, 6999, 3, NAN), (3, 2, 6999, 3, NAN), (3, 2, 7000, 3, NAN), (3, 2, 7000, 2, NAN), (3, 2, 7000, 2, 2.0)]:
-    ask("faults", family="gamma", link="probit", n=n, beta=beta, work_terms=terms, columns=[0, column, 1], y=[1.0, y, 3.0])
-assert "--stdin" in sys.argv or seen == {1, 2, 3, 4, 5, 6, 7}
+def main():
+    for n, p, rows, entries in [(3, 2, 2, 3), (0, 2, 2, 3), (513, 2, 2, 3), (BIG, 2, 2, 3), (4, 2, 2, 3), (3, 0, 2, 3), (3, 17, 2, 3), (3, 3, 2, 3), (3, 2, 1, 3), (3, 2, 3, 3), (3, 2, 2, 8193),
+                                (3, 2, 2, 8192)]:
+        ask("sizes", n=n, p=p, rows=rows, entries=entries)
+    for limit in [0, 1000, 1001]:
+        ask("limit", limit=limit)
+    for block in [(0, 1), (2, 0), (1, 2), (2, BIG), (BIG, 2)]:
+        ask("block", blocks=[block])
+    for name, length in zip(RESULTS, [1, 3, 0, 3, 1, 2, 4, 2, 3]):
+        ask("results", **{name: length})
+    ask("results")
+    ask("work", work_rows=47)
+    ask("work", work_matrices=83)
+    ask("work", work_terms=6999)
+    ask("work", work_rows=49, work_matrices=85, work_terms=7001)
+    for theta, y, weights, offset in [(0, 3, 0, 0), (2, 3, 0, 0), (1, 2, 0, 0), (1, 4, 0, 0), (1, 3, 1, 0), (1, 3, 3, 0), (1, 3, 0, 2), (1, 3, 3, 3), (1, 3, 0, 4)]:
+        ask("lists", theta=[1.0] * theta, y=[1.0] * y, weights=[1.0] * weights, offset=[1.0] * offset)
+    for x, starts, columns, values in [(5, 3, 3, 3), (7, 3, 3, 3), (6, 2, 3, 3), (6, 4, 3, 3), (6, 3, 2, 3), (6, 3, 3, 4), (6, 3, 3, 3)]:
+        ask("design", x=[1.0] * x, starts=[0, 2, 3, 3][:starts], columns=[0, 2, 1, 2][:columns], values=[1.0] * values)
+    for starts, columns in [([1, 2, 3], [0, 2, 1]), ([0, 2, 2], [0, 2, 1]), ([0, 4, 3], [0, 2, 1]), ([0, 0, 3], [0, 1, 2]), ([0, 2, 3], [0, 3, 1]), ([0, 2, 3], [2, 0, 1]),
+                            ([0, 2, 3], [2, 2, 1]), ([0, 2, 3], [1, 2, 0]), ([0, 2, 3], [0, 2 * BIG - 1, 1])]:
+        ask("starts and columns", starts=starts, columns=columns)
+    for theta, y, weight, offset, x, value in [(1.0,) * 6, (NAN, 1, 1, 1, 1, 1), (1, INF, 1, 1, 1, 1), (1, 1, -INF, 1, 1, 1), (1, 1, 1, NAN, 1, 1), (1, 1, 1, 1, NAN, 1), (1, 1, 1, 1, 1, INF)]:
+        ask("numbers", theta=[theta], y=[1.0, 2.0, y], weights=[1.0, weight, 1.0], offset=[offset, 0.0, 0.0], x=[1.0] * 5 + [x], values=[1.0, value, 1.0])
+    for family in FAMILIES:
+        for link in LINKS:
+            ask("pair", family=family, link=link)
+    for n, beta, terms, column, y in [(513, 1, 6999, 3, NAN), (3, 1, 6999, 3, NAN), (3, 2, 6999, 3, NAN), (3, 2, 7000, 3, NAN), (3, 2, 7000, 2, NAN), (3, 2, 7000, 2, 2.0)]:
+        ask("faults", family="gamma", link="probit", n=n, beta=beta, work_terms=terms, columns=[0, column, 1], y=[1.0, y, 3.0])
+    assert "--stdin" in sys.argv or seen == {1, 2, 3, 4, 5, 6, 7}
+
+
+if __name__ == "__main__":
+    main()

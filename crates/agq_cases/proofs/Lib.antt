@@ -6,4 +6,6 @@ pub mod NoWish
 pub mod ManyEffects
 pub mod AboveTheCap
 pub mod BadSum
+pub mod NoInverse
+pub mod NoFactor
 pub mod NoStop
