@@ -1,0 +1,113 @@
+-- A higher limit changes nothing in a call that did not end with 13, and no count shrinks. Assumes nothing.
+use mathlib.Core.Path.{_≡_, refl, sym, ap, _∙_}
+use mathlib.Core.Bool.{Bool, true, false}
+use Prim.Native.Nat.{ℕ, _≤_}
+use lib.Ieee.{Float}
+use borrow.Author.Tests.{le-leb}
+use Rattle.base.specs.Number.{oneF}
+use Rattle.model.specs.Account.{AtMost}
+use Rattle.model.specs.Answer.{unfittedAnswer}
+use Rattle.model.specs.Items.{Item, isFit, isSolve, isTry, isPoint, countOf, tally}
+use Rattle.model.specs.Names.{limitOf}
+use Rattle.model.specs.Settings.{goodLimit, goodSizes, Sized}
+use Rattle.model.specs.declared.names.Limit.the-variants.{Given}
+use Rattle.model.specs.declared.sizes.Shape.{Shape}
+use Rattle.model.specs.declared.sizes.Settings.{Settings}
+use Rattle.model.proofs.Sized.{sized-when}
+use Rattle.family.specs.Family.{usesDispersion}
+use Rattle.family.specs.declared.carried.CarriedFamily.{CarriedFamily}
+use Rattle.family.specs.declared.carried.CarriedLink.{CarriedLink}
+use Rattle.rule.specs.Given as given
+use Rattle.rule.specs.Run.{startMeans}
+use Rattle.agq_rule.proofs.Limits.{inner-same, inner-grows}
+use Rattle.table.specs.Tests.{Inputs, goodInputs, goodResults, goodWork}
+use Rattle.table.specs.Table.{refuseUnless, tableOf}
+use Rattle.table.specs.declared.verdicts.LentLengths.{LentLengths}
+use Rattle.table.specs.declared.verdicts.Verdict.the-variants.{Accepted}
+use Rattle.table.proofs.Accepting.{accepted-sound}
+use Rattle.dispersion.specs.Phi.{effectiveN}
+use Rattle.dispersion.proofs.Higher.{Stopped, dispersion-same, dispersion-grows, fixed-same, fixed-grows}
+use Rattle.call.specs.Fit.{sumOf, resultBy, totalOf, innerAt, fitBy, fitOf, resultAnswer, answerOf}
+use Rattle.call.specs.Call.{Lent, lengthsOf, callGiven, fitLeft, callOf}
+use Rattle.call.proofs.Leaves.{askedFit, accepted-left, accepted-account}
+
+-- ---- the fit with two limits
+module _ (G : given.Given) (wish L M : ℕ) (l : L ≤ M) where
+  abbrev count : Float
+  count = effectiveN (given.nOf G) (G .weights)
+
+  inner-kept : (phi : Float) → Stopped (innerAt G wish L phi) → innerAt G wish M phi ≡ innerAt G wish L phi
+  unfolding innerAt totalOf resultBy
+  inner-kept phi h = ap totalOf (inner-same G wish phi (startMeans G) L M l (λ e. h (ap resultBy e)))
+
+  inner-more : (t : Item → Bool) (phi : Float) → countOf t (innerAt G wish L phi .items) ≤ countOf t (innerAt G wish M phi .items)
+  unfolding innerAt totalOf
+  inner-more t phi = inner-grows G wish phi (startMeans G) t L M l
+
+  by-same : (b : Bool) → Stopped (fitBy b G wish L) → fitBy b G wish M ≡ fitBy b G wish L
+  unfolding fitBy
+  by-same true h = dispersion-same count sumOf (innerAt G wish L) (innerAt G wish M) inner-kept h
+  by-same false h = fixed-same count sumOf (innerAt G wish L) (innerAt G wish M) inner-kept h
+
+  by-grows : (b : Bool) (t : Item → Bool) → countOf t (fitBy b G wish L .items) ≤ countOf t (fitBy b G wish M .items)
+  unfolding fitBy
+  by-grows true t = dispersion-grows count sumOf (innerAt G wish L) (innerAt G wish M) inner-kept t (inner-more t)
+  by-grows false t = fixed-grows count sumOf (innerAt G wish L) (innerAt G wish M) inner-kept t (inner-more t oneF)
+
+  pub fit-same : Stopped (fitOf G wish L) → fitOf G wish M ≡ fitOf G wish L
+  unfolding fitOf
+  fit-same h = by-same (usesDispersion (G .family)) h
+
+  pub fit-account-grows : AtMost (tally (fitOf G wish M .items)) (tally (fitOf G wish L .items))
+  unfolding fitOf tally
+  fit-account-grows =
+      record {
+        fits = by-grows (usesDispersion (G .family)) isFit;
+        solves = by-grows (usesDispersion (G .family)) isSolve;
+        tries = by-grows (usesDispersion (G .family)) isTry;
+        points = by-grows (usesDispersion (G .family)) isPoint;
+      }
+
+-- ---- the call with another limit
+abbrev pub limited : ℕ → Settings → Settings
+limited M t =
+    record { family = t .family; link = t .link; «n_agq» = t .«n_agq»; limit = Given M; n = t .n; p = t .p; rows = t .rows; entries = t .entries }
+
+good-sizes : (t : Settings) (s : Shape) → Sized t s → goodSizes t s ≡ true
+good-sizes t s z =
+    sym (sized-when t s (z .sizes .n-some, z .sizes .n-few) (z .sizes .p-some, z .sizes .p-few) (z .shape) (z .effects) (z .entries-few)) ∙ z .limit
+
+limited-sized : (M : ℕ) (t : Settings) (s : Shape) → M ≤ 1000 → Sized t s → Sized (limited M t) s
+unfolding goodLimit
+limited-sized M t s m z = record { sizes = z .sizes; shape = z .shape; effects = z .effects; entries-few = z .entries-few; limit = le-leb M 1000 m }
+
+-- a call that is accepted is accepted with any limit up to 1000
+pub limited-accepted : (M : ℕ) (t : Settings) (s : Shape) (I : Inputs) (L : LentLengths) (f : CarriedFamily) (l : CarriedLink) → M ≤ 1000 → tableOf 1 t s I L ≡ Accepted f l
+    → tableOf 1 (limited M t) s I L ≡ Accepted f l
+unfolding tableOf refuseUnless goodInputs goodResults goodWork
+limited-accepted M t s I L f l m e =
+    let z : Sized t s = accepted-sound 1 t s I L f l e .sized in
+    let a : goodSizes t s ≡ true = good-sizes t s z in
+    let b : goodSizes (limited M t) s ≡ true = good-sizes (limited M t) s (limited-sized M t s m z) in
+    rw b (rw a at e)
+
+module _ (t : Settings) (s : Shape) (I : Inputs) (L : Lent) (f : CarriedFamily) (l : CarriedLink) (e : tableOf 1 t s I (lengthsOf L) ≡ Accepted f l) (M : ℕ)
+    (higher : limitOf (t .limit) (t .link) ≤ M) (few : M ≤ 1000) where
+  again : tableOf 1 (limited M t) s I (lengthsOf L) ≡ Accepted f l
+  again = limited-accepted M t s I (lengthsOf L) f l few e
+
+  -- only end 13 is told under 13
+  stopped : (callOf t s I L .answer .number ≡ 13 → ⊥) → Stopped (askedFit f l t s I)
+  unfolding fitLeft answerOf resultAnswer unfittedAnswer
+  stopped h q = h (rw (accepted-left t s I L f l e, q) refl)
+
+  pub call-same : (callOf t s I L .answer .number ≡ 13 → ⊥) → callOf (limited M t) s I L ≡ callOf t s I L
+  unfolding limitOf callGiven
+  call-same h =
+      let same : fitOf (callGiven f l t s I) (t .«n_agq») M ≡ askedFit f l t s I = fit-same (callGiven f l t s I) (t .«n_agq») (limitOf (t .limit) (t .link)) M higher (stopped h) in
+      accepted-left (limited M t) s I L f l again ∙ (rw same refl ∙ sym (accepted-left t s I L f l e))
+
+  pub call-account-grows : AtMost (callOf (limited M t) s I L .answer .account) (callOf t s I L .answer .account)
+  unfolding limitOf callGiven
+  call-account-grows =
+      rw (accepted-account (limited M t) s I L f l again, accepted-account t s I L f l e) (fit-account-grows (callGiven f l t s I) (t .«n_agq») (limitOf (t .limit) (t .link)) M higher)

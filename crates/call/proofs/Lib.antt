@@ -1,0 +1,5 @@
+-- What follows from the definition of a call. Assumes nothing.
+pub mod Leaves
+pub mod Higher
+pub mod Capped
+pub mod Unique
