@@ -1,2 +1,3 @@
 -- Laws of the inner fit with its quadrature. Assumes nothing.
 pub mod Limits
+pub mod Caps
