@@ -36,14 +36,14 @@ pub record QuadratureLeft (G : Given) (rule : Mode → Integrated) (fit : Float)
   pub matrices-only : OnlyTwo (inversePlace (qOf (G .design))) (qOf (G .design) * qOf (G .design)) (trialUPlace (G .design .p) (qOf (G .design))) (qOf (G .design) + qOf (G .design) + qOf (G .design)) m m'
   pub terms-only : Only 0 termsLength t t'
 
--- of the product rule for `groups` groups of k effects
+-- the same of the product rule for `groups` groups of k effects
 abbrev pub ProductAt : Given → (wish groups k : ℕ) → (phi fit : Float) → (r r' m m' t t' : List Float) → Quadrature → Type 0
 ProductAt G wish groups k phi fit r r' m m' t t' a = QuadratureLeft G (λ M. productStep G wish M phi groups k) fit r r' m m' t t' a
 
--- of the joint rule
+-- the same of the joint rule
 abbrev pub JointAt : Given → (wish : ℕ) → (phi fit : Float) → (r r' m m' t t' : List Float) → Quadrature → Type 0
 JointAt G wish phi fit r r' m m' t t' a = QuadratureLeft G (λ M. jointStep G wish M phi) fit r r' m m' t t' a
 
--- of the quadrature
+-- the same of the quadrature by the number of blocks
 abbrev pub QuadratureAt : Given → (wish : ℕ) → (phi fit : Float) → (r r' m m' t t' : List Float) → Quadrature → Type 0
 QuadratureAt G wish phi fit r r' m m' t t' a = QuadratureLeft G (λ M. quadratureOf G wish M phi) fit r r' m m' t t' a
