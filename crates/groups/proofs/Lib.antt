@@ -1,8 +1,3 @@
--- The laws that the proofs of the sums cite. Assumes nothing.
-pub mod Told
-pub mod Framed
-pub mod Fronts
-pub mod OneSummed
+-- The laws that the proofs of the groups cite. Assumes nothing.
 pub mod SeveralSummed
 pub mod Looped
-pub mod Unique

@@ -25,13 +25,14 @@ use Rattle.rule.specs.Given.{Given}
 use Rattle.rule.specs.Stop.{Mode}
 use Rattle.agq_rule.specs.Steps.{Integrated, pointsBefore, groupBy, withSum, groupsFrom}
 use Rattle.agq_rule.specs.declared.answers.Integral.the-variants.{Deviance, Declined}
-use Rattle.groups.specs.Stands.{Stands, givenWith}
-use Rattle.groups.specs.Summed.{carry, integratedOf, StepFrame, GroupLeft, StepLeft, Grouped}
-use Rattle.groups.specs.Rules.{oneRule, severalRule, groupRule, productRule}
-use Rattle.groups.specs.declared.sums.Summed.the-variants.{Sum, NoSum}
-use Rattle.groups.specs.declared.sums.GroupSum.{GroupSum}
-use Rattle.groups.proofs.Framed.{frame-none, frame-trans, stands-kept}
-use Rattle.groups.proofs.Told.{points-add, no-points, step-told}
+use Rattle.sums.specs.Stands.{Stands, givenWith}
+use Rattle.sums.specs.Summed.{carry, integratedOf, StepFrame, GroupLeft, StepLeft}
+use Rattle.sums.specs.Rules.{oneRule}
+use Rattle.groups.specs.Rules.{Grouped, severalRule, groupRule, productRule}
+use Rattle.sums.specs.declared.answers.Summed.the-variants.{Sum, NoSum}
+use Rattle.sums.specs.declared.answers.GroupSum.{GroupSum}
+use Rattle.sums.proofs.Framed.{frame-none, frame-trans, stands-kept}
+use Rattle.sums.proofs.Told.{points-add, no-points, step-told}
 
 power-one : (x : ℕ) → x ^ 1 ≡ x
 power-one x = pow-suc x 0 ∙ rw (pow-zero x) (one-mul x)

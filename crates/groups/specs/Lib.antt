@@ -1,4 +1,2 @@
--- The two quadrature steps over the work slices. Assumes nothing.
-pub mod Stands
-pub mod Summed
+-- The product rule over the work slices. Assumes nothing.
 pub mod Rules

@@ -1,9 +1,4 @@
 // A group with several effects.
-use crate::sums::GroupSum;
-use crate::sums::Summed;
-use crate::sums::inverse_phi;
-use crate::sums::log_sum;
-use crate::sums::power;
 use family::CarriedFamily;
 use family::CarriedLink;
 use layout::inverse_at;
@@ -19,13 +14,18 @@ use scale::Scaling;
 use scale::block_scale;
 use scale::copy_row;
 use several::group_terms;
+use sums::GroupSum;
+use sums::Summed;
+use sums::inverse_phi;
+use sums::log_sum;
+use sums::power;
 ghost use Prim.Native.Nat.{_+_, _*_, _^_, _≤_};
 ghost use Rattle.base.specs.Rows.{row};
 ghost use Rattle.layout.specs.WorkMatrices.{inversePlace};
 ghost use Rattle.stored.specs.Stored.{sparse};
 ghost use Rattle.quadrature.specs.Orders.{sizeOf};
-ghost use Rattle.groups.specs.Stands.{Roomy, givenWith};
-ghost use Rattle.groups.specs.Summed.{SumLeft, GroupLeft};
+ghost use Rattle.sums.specs.Stands.{Roomy, givenWith};
+ghost use Rattle.sums.specs.Summed.{SumLeft, GroupLeft};
 ghost use Rattle.groups.specs.Rules.{severalTerms, severalRule};
 
 // The log sum of the group whose k effects begin at s, L standing at the place of the inverse: the marks of its observations and û go where the points look for them.

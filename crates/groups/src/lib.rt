@@ -1,10 +1,5 @@
-// The two quadrature steps over the work slices: the product rule group by group, and the joint rule.
+// The product rule over the work slices: group by group, each with one effect or with several.
 mod blocks;
-mod joint;
-mod one;
 mod product;
-mod sums;
 
-pub use joint::joint_step;
 pub use product::product_step;
-pub use sums::Quadrature;

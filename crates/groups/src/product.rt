@@ -1,21 +1,21 @@
 // The product rule.
 use crate::blocks::several_group;
-use crate::one::one_group;
-use crate::sums::GroupSum;
-use crate::sums::Quadrature;
-use crate::sums::Summed;
 use agq_rule::Integral;
 use family::CarriedFamily;
 use family::CarriedLink;
 use model::Shape;
 use quadrature::Order;
+use sums::GroupSum;
+use sums::Quadrature;
+use sums::Summed;
+use sums::one_group;
 ghost use mathlib.Core.Path.{_≡_};
 ghost use Prim.Native.Nat.{_+_, _*_, _^_, _≤_};
 ghost use Rattle.stored.specs.Stored.{sparse};
 ghost use Rattle.quadrature.specs.Orders.{sizeOf};
-ghost use Rattle.groups.specs.Stands.{Roomy, givenWith};
-ghost use Rattle.groups.specs.Summed.{Grouped, GroupLeft, StepLeft};
-ghost use Rattle.groups.specs.Rules.{groupRule, productRule};
+ghost use Rattle.sums.specs.Stands.{Roomy, givenWith};
+ghost use Rattle.sums.specs.Summed.{GroupLeft, StepLeft};
+ghost use Rattle.groups.specs.Rules.{Grouped, groupRule, productRule};
 
 // The log sum of group g of k effects.
 fn group(

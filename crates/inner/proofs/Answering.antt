@@ -37,10 +37,10 @@ use Rattle.pirls.specs.declared.inner.Ended.the-variants.{Stopped, Failed}
 use Rattle.pirls.specs.declared.inner.InnerFit.{InnerFit}
 use Rattle.agq_rule.specs.Steps.{quadratureOf}
 use Rattle.agq_rule.specs.Inner.{withMode, withoutMode, devianceBy, withPoints, afterRun, innerWith, innerOf}
-use Rattle.groups.specs.Summed.{integratedOf}
+use Rattle.sums.specs.Summed.{integratedOf}
 use Rattle.inner.specs.Read.{Reads, QuadratureAt}
 use Rattle.inner.specs.Answered.{failedAnswer, answerOf, HoldsAnswer, AnswerLeft}
-use Rattle.groups.specs.declared.sums.Quadrature.{Quadrature}
+use Rattle.sums.specs.declared.answers.Quadrature.{Quadrature}
 use Rattle.inner.specs.declared.answers.InnerAnswer.{InnerAnswer}
 
 -- two changes within the first N places

@@ -36,11 +36,12 @@ use Rattle.rule.specs.Stop.{Mode}
 use Rattle.agq_rule.specs.Steps.{Integrated, answers, productWith, productStep, jointWith, jointStep, stepBy, quadratureOf}
 use Rattle.agq_rule.specs.declared.answers.Integral.the-variants.{Declined}
 use Rattle.iteration.specs.Iterated.{Asked}
-use Rattle.groups.specs.Stands.{Roomy, givenWith, Stands}
-use Rattle.groups.specs.Summed.{integratedOf, StepLeft, Grouped}
-use Rattle.groups.specs.Rules.{productRule, jointRule}
+use Rattle.sums.specs.Stands.{Roomy, givenWith, Stands}
+use Rattle.sums.specs.Summed.{integratedOf, StepLeft}
+use Rattle.groups.specs.Rules.{Grouped, productRule}
+use Rattle.joint.specs.Joint.{jointRule}
 use Rattle.inner.specs.Read.{declinedFor, Reads, QuadratureLeft, ProductAt, JointAt, QuadratureAt}
-use Rattle.groups.specs.declared.sums.Quadrature.{Quadrature}
+use Rattle.sums.specs.declared.answers.Quadrature.{Quadrature}
 
 -- ---- what a step asks
 pub roomy : {n p q : ℕ} {shape : Shape} {theta : List Float} {starts columns : List ℕ} {values offset x y r m t r' : List Float} → Asked n p q shape theta starts columns values offset x y r m t

@@ -15,8 +15,8 @@ use Rattle.stages.specs.Held.{etaRow}
 use Rattle.agq_rule.specs.Steps.{Integrated}
 use Rattle.agq_rule.specs.Inner.{InnerEnd, withMode, withoutMode, innerOf}
 use Rattle.agq_rule.specs.declared.answers.Integral.{Integral}
-use Rattle.groups.specs.Summed.{integratedOf}
-use Rattle.groups.specs.declared.sums.Quadrature.{Quadrature}
+use Rattle.sums.specs.Summed.{integratedOf}
+use Rattle.sums.specs.declared.answers.Quadrature.{Quadrature}
 use Rattle.inner.specs.Read.{Reads, QuadratureLeft}
 use Rattle.inner.specs.Answered.{HoldsAnswer, AnswerTold, AnswerLeft}
 use Rattle.inner.specs.declared.answers.InnerAnswer.{InnerAnswer}

@@ -22,7 +22,7 @@ use Rattle.pirls.specs.declared.inner.Ended.the-variants.{Stopped, Failed}
 use Rattle.pirls.specs.declared.inner.InnerFit.{InnerFit}
 use Rattle.agq_rule.specs.Inner.{InnerEnd, withMode, withoutMode, devianceBy, orderBy, innerOf}
 use Rattle.agq_rule.specs.declared.answers.Integral.{Integral}
-use Rattle.groups.specs.declared.sums.Quadrature.{Quadrature}
+use Rattle.sums.specs.declared.answers.Quadrature.{Quadrature}
 use Rattle.inner.specs.declared.answers.InnerAnswer.{InnerAnswer}
 
 -- an inner fit without a result: its end and its account, and zero everywhere else

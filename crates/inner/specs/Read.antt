@@ -13,8 +13,8 @@ use Rattle.rule.specs.Stop.{Mode}
 use Rattle.columns.specs.Columns.{OnlyTwo}
 use Rattle.agq_rule.specs.Steps.{Integrated, productStep, jointStep, quadratureOf}
 use Rattle.agq_rule.specs.declared.answers.Integral.the-variants.{Declined}
-use Rattle.groups.specs.Summed.{integratedOf}
-use Rattle.groups.specs.declared.sums.Quadrature.{Quadrature}
+use Rattle.sums.specs.Summed.{integratedOf}
+use Rattle.sums.specs.declared.answers.Quadrature.{Quadrature}
 
 -- no step is made: why
 abbrev pub declinedFor : Decline → Quadrature

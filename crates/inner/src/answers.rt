@@ -1,11 +1,11 @@
 // What an inner fit answers after its quadrature.
 use agq_rule::deviance_by;
 use agq_rule::order_by;
-use groups::Quadrature;
 use model::Account;
 use model::End;
 use pirls::Ended;
 use pirls::InnerFit;
+use sums::Quadrature;
 ghost use mathlib.Core.Path.{_≡_};
 ghost use Rattle.model.specs.Account.{pointsOf, SumFits};
 ghost use Rattle.inner.specs.Answered.{failedAnswer, answerOf};

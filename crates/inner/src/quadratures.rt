@@ -2,15 +2,15 @@
 use agq_rule::Integral;
 use family::CarriedFamily;
 use family::CarriedLink;
-use groups::Quadrature;
-use groups::joint_step;
 use groups::product_step;
+use joint::joint_step;
 use linear::x_beta;
 use model::Shape;
 use quadrature::Choice;
 use quadrature::Decline;
 use quadrature::resolve_gh_order_joint;
 use quadrature::resolve_gh_order_product;
+use sums::Quadrature;
 ghost use mathlib.Core.Path.{_≡_};
 ghost use Prim.Native.Nat.{_*_, _≤_};
 ghost use lib.ListN.{length};
@@ -22,7 +22,7 @@ ghost use Rattle.layout.specs.WorkRows.{xbetaRow, rowsLength};
 ghost use Rattle.model.specs.Settings.{Sizes};
 ghost use Rattle.stored.specs.Stored.{sparse};
 ghost use Rattle.iteration.specs.Iterated.{Asked};
-ghost use Rattle.groups.specs.Stands.{givenWith};
+ghost use Rattle.sums.specs.Stands.{givenWith};
 ghost use Rattle.inner.specs.Read.{declinedFor, ProductAt, JointAt, QuadratureAt};
 
 // No step is made.

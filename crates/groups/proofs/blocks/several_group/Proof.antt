@@ -1,7 +1,7 @@
 -- `groups::several_group` meets its contract: the block's scale is the rule's, and so is the sum.
 use mathlib.Core.Path.{refl, _∙_}
 use Rattle.stored.specs.Stored.{sparse}
-use Rattle.groups.proofs.Framed.{roomy-kept, scale-room}
+use Rattle.sums.proofs.Framed.{roomy-kept, scale-room}
 use Rattle.groups.proofs.SeveralSummed.{several-unscaled, several-scaled}
 use borrow.Author.Needs.{needs}
 use Rattle.groups.proofs.blocks.several_group.Statement.{statement}

@@ -5,9 +5,10 @@ use lib.ListN.{length}
 use Rattle.base.proofs.Fills.{length-fillat, length-fill}
 use Rattle.layout.proofs.Inside.{mark-in, trial-u-in}
 use Rattle.stored.specs.Stored.{sparse}
-use Rattle.groups.proofs.Framed.{hats-before, room-of}
-use Rattle.groups.proofs.Fronts.{rule-size, rule-nodes, rule-weights, rule-weights-long}
-use Rattle.groups.proofs.SeveralSummed.{grid-of, count-few, count-in, power-room, several-made}
+use Rattle.sums.proofs.Framed.{hats-before, room-of}
+use Rattle.sums.proofs.Fronts.{rule-size, rule-nodes, rule-weights, rule-weights-long}
+use Rattle.sums.proofs.Grids.{grid-of, count-few, count-in, power-room}
+use Rattle.groups.proofs.SeveralSummed.{several-made}
 use borrow.Author.Needs.{needs}
 use Rattle.groups.proofs.blocks.several_sums.Statement.{statement}
 use Rattle.groups.proofs.blocks.several_sums.Tie as tie

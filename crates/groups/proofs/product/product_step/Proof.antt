@@ -4,7 +4,7 @@ use Prim.Native.Nat.{_-_}
 use borrow.Author.Needs.{needs}
 use native.Mathlib.Omega.{arith}
 use Rattle.stored.specs.Stored.{sparse}
-use Rattle.groups.proofs.Framed.{roomy-kept}
+use Rattle.sums.proofs.Framed.{roomy-kept}
 use Rattle.groups.proofs.Looped.{effects-within, groups-few, Going, begun, room-left, goes-on, declines, ends}
 use Rattle.groups.proofs.product.product_step.Statement.{statement}
 use Rattle.groups.proofs.product.product_step.Tie as tie

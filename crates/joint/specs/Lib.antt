@@ -1,0 +1,2 @@
+-- The joint rule over the work slices. Assumes nothing.
+pub mod Joint

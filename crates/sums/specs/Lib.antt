@@ -1,0 +1,4 @@
+-- The log sums of the quadrature over the work slices. Assumes nothing.
+pub mod Stands
+pub mod Summed
+pub mod Rules
