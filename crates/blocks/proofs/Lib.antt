@@ -1,3 +1,4 @@
--- Which lists of blocks are refused, and examples. Every contract is one equation of the answer with a definition, so base's `one-value` leaves one answer. Assumes nothing.
+-- One answer, which lists of blocks are refused, and examples. Assumes nothing.
+pub mod Unique
 pub mod Counts
 pub mod Examples

@@ -1,8 +1,12 @@
 // The blocks of random effects as a list, and the fit that takes them so. A list is turned into a shape first: everything else works with numbers by value.
+use model::Answer;
+use model::Settings;
 use model::Shape;
 ghost use mathlib.Core.Path.{_≡_};
 ghost use Prim.Native.Nat.{_<_};
 ghost use lib.ListN.{getD};
+ghost use Rattle.table.specs.Tests.{inputs};
+ghost use Rattle.call.specs.Call.{lent, left, callOf};
 ghost use Rattle.blocks.specs.Blocks.{noBlock, blankShape, putAt, shapeOf};
 
 // m groups with k effects each.
@@ -52,4 +56,58 @@ pub fn shape_of(blocks: &[Block]) -> Shape
         i += 1;
     }
     shape
+}
+
+// One call of the fit: `glmm::fit` of the list's shape.
+pub fn fit_blocks(
+    settings: Settings,
+    blocks: &[Block],
+    theta: &[f64],
+    y: &[f64],
+    weights: &[f64],
+    offset: &[f64],
+    x: &[f64],
+    starts: &[usize],
+    columns: &[usize],
+    values: &[f64],
+    beta: &mut [f64],
+    se: &mut [f64],
+    z: &mut [f64],
+    u: &mut [f64],
+    b: &mut [f64],
+    mu: &mut [f64],
+    eta: &mut [f64],
+    residual: &mut [f64],
+    v: &mut [f64],
+    rows: &mut [f64],
+    matrices: &mut [f64],
+    terms: &mut [f64],
+) -> Answer
+    ensures { λ a. ⌜ left a (lent (now (beta .exit)) (now (se .exit)) (now (z .exit)) (now (u .exit)) (now (b .exit)) (now (mu .exit)) (now (eta .exit)) (now (residual .exit)) (now (v .exit)) (now (rows .exit)) (now (matrices .exit)) (now (terms .exit))) ≡ callOf settings (shapeOf (now (blocks .entry))) (inputs (now (theta .entry)) (now (y .entry)) (now (weights .entry)) (now (offset .entry)) (now (x .entry)) (now (starts .entry)) (now (columns .entry)) (now (values .entry))) (lent (now (beta .entry)) (now (se .entry)) (now (z .entry)) (now (u .entry)) (now (b .entry)) (now (mu .entry)) (now (eta .entry)) (now (residual .entry)) (now (v .entry)) (now (rows .entry)) (now (matrices .entry)) (now (terms .entry))) ⌝ }
+{
+    let shape = shape_of(blocks);
+    glmm::fit(
+        settings,
+        shape,
+        theta,
+        y,
+        weights,
+        offset,
+        x,
+        starts,
+        columns,
+        values,
+        beta,
+        se,
+        z,
+        u,
+        b,
+        mu,
+        eta,
+        residual,
+        v,
+        rows,
+        matrices,
+        terms,
+    )
 }
