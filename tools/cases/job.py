@@ -2,7 +2,7 @@
 """usage: job.py > crates/cases_job/stdout
        job.py --stdin > crates/cases_job/stdin
 What `cases_job` must print, by the Python reader of jobs (tools/glmm/reader.py) and document 01's lines, and the jobs that it is given:
-case J, L 1000 and 1001, and every kind of damage to two small jobs, each behind its length in two bytes."""
+case J, L 1000 and 1001, and every kind of damage to two small jobs, each behind one more than its length in eight bytes."""
 import struct, sys
 from pathlib import Path
 
@@ -70,7 +70,7 @@ def told(data):
 def main():
     if "--stdin" in sys.argv:
         for data in jobs():
-            sys.stdout.buffer.write(len(data).to_bytes(2, "big") + data)
+            sys.stdout.buffer.write((len(data) + 1).to_bytes(8, "big") + data)
         return
     print("end 13 order 0 disp 0 iters 0 fits 1 solves 0 tries 0 points 0")
     print("end 18446744073709551615 order 10000000000000000000 disp 1 iters 9999999999999999999 fits 241 solves 241000 tries 24100000 points 1687000")

@@ -1,4 +1,4 @@
-// Reads jobs from standard input, each behind its length in two bytes, and prints what reading answers and leaves in the lent slices.
+// Reads jobs from standard input, each behind one more than its length, and prints what reading answers and leaves in the lent slices.
 // The slices hold 9 before; of each list one number more is printed than the job has, which stays.
 use model::Account;
 use model::Answer;
@@ -45,7 +45,7 @@ fn put_value(name: &[u8], index: usize, x: f64)
     put_front(&buffer, n);
 }
 
-// The first n counts and the one behind them, after a word.
+// The first n counts, after a word.
 fn put_counts(word: &[u8], xs: &[usize], n: usize) {
     text::put_word(word);
     let m = least(n, xs.len());
@@ -57,9 +57,9 @@ fn put_counts(word: &[u8], xs: &[usize], n: usize) {
     text::end_line();
 }
 
-// The first n doubles, after a word.
+// The first n doubles and the one behind them, after a word.
 fn put_doubles(word: &[u8], xs: &[f64], n: usize) {
-    text::put_list(word, xs, least(n, xs.len()));
+    text::put_list(word, xs, least(least(n, 8192) + 1, xs.len()));
 }
 
 fn put_limit(limit: Limit) {
@@ -129,23 +129,20 @@ fn cells(n: usize, p: usize) -> usize
 // The lists of an accepted job.
 fn put_lists(header: Header, theta: &[f64], y: &[f64], weights: &[f64], offset: &[f64], x: &[f64]) {
     let settings = header.settings;
-    let n = least(settings.n, 512);
-    let all = cells(settings.n, settings.p);
-    put_doubles(b"theta", theta, least(header.thetas, 288) + 1);
-    put_doubles(b"y", y, n + 1);
-    put_doubles(b"weights", weights, least(header.weights, 512) + 1);
-    put_doubles(b"offset", offset, least(header.offset, 512) + 1);
-    put_doubles(b"x", x, all + 1);
+    put_doubles(b"theta", theta, header.thetas);
+    put_doubles(b"y", y, settings.n);
+    put_doubles(b"weights", weights, header.weights);
+    put_doubles(b"offset", offset, header.offset);
+    put_doubles(b"x", x, cells(settings.n, settings.p));
 }
 
 // The rows of Z' of an accepted job.
 fn put_rows(header: Header, starts: &[usize], columns: &[usize], values: &[f64]) {
     let settings = header.settings;
-    let rows = least(settings.rows, 32);
-    let entries = least(settings.entries, 8192);
-    put_counts(b"starts", starts, rows + 2);
-    put_counts(b"columns", columns, entries + 1);
-    put_doubles(b"values", values, entries + 1);
+    let entries = settings.entries;
+    put_counts(b"starts", starts, least(settings.rows, 32) + 2);
+    put_counts(b"columns", columns, least(entries, 8192) + 1);
+    put_doubles(b"values", values, entries);
 }
 
 fn put_accepted(
@@ -248,34 +245,28 @@ fn front_job(bytes: &[u8], n: usize) {
     one_job(&bytes[0..m]);
 }
 
-// A length in two bytes, the high byte first.
-fn job_size(high: u8, low: u8) -> usize
-    ensures { λ r. ⌜ r ≤ 1024 ⌝ }
-{
-    let n = high as usize * 256 + low as usize;
-    least(n, 1024)
+// The next n bytes of standard input as a job; at most as many as the space has.
+fn fed_job(space: &mut [u8], n: usize) {
+    let m = least(n, space.len());
+    io::read_full(0, &mut space[0..m]);
+    front_job(space, m);
 }
 
-// One job from standard input; whether there was one.
-fn next_job(size: &mut [u8], space: &mut [u8]) -> bool
-    requires { ⌜ (2 ≤ length (now size)) × (1024 ≤ length (now space)) ⌝ }
-{
-    let had = io::read_full(0, size);
-    if had < 2 {
+// The next job, behind one more than its length; whether there was one.
+fn next_job() -> bool {
+    let n = fed::count();
+    if n == 0 {
         return false;
     }
-    let n = job_size(size[0], size[1]);
-    let got = io::read_full(0, &mut space[0..n]);
-    front_job(space, least(got, n));
+    let mut space = [0u8; 1024];
+    fed_job(&mut space, n - 1);
     true
 }
 
-fn all_jobs(size: &mut [u8], space: &mut [u8])
-    requires { ⌜ (2 ≤ length (now size)) × (1024 ≤ length (now space)) ⌝ }
-{
+fn all_jobs() {
     let mut i: usize = 0;
     while i < 1000 {
-        if !next_job(size, space) {
+        if !next_job() {
             return;
         }
         i += 1;
@@ -286,7 +277,5 @@ fn main() {
     end_lines();
     let long = [0u8; 65537];
     one_job(&long);
-    let mut size = [0u8; 2];
-    let mut space = [0u8; 1024];
-    all_jobs(&mut size, &mut space);
+    all_jobs();
 }

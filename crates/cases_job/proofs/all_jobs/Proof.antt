@@ -1,28 +1,20 @@
--- `cases_job::all_jobs` is safe and ends: each turn counts one on towards 1000.
-use mathlib.Core.Path.{_≡_}
+-- `cases_job::all_jobs` ends: each turn counts one on towards 1000.
 use Prim.Native.Nat.{_≤_, _-_}
-use lib.ListN.{length}
 use borrow.Author.Needs.{needs}
 use Rattle.cases_job.proofs.all_jobs.Statement.{statement}
 use Rattle.cases_job.proofs.all_jobs.Tie as tie
 
 abbrev Inv-loop : tie.InvT-loop
-Inv-loop size₀ space₀ i₀ size space i = (i ≤ 1000) × (length size ≡ length size₀) × (length space ≡ length space₀)
+Inv-loop i₀ i = i ≤ 1000
 
 abbrev μ-loop : tie.MeasureT-loop
-μ-loop size₀ space₀ i₀ size space i = 1000 - i
+μ-loop i₀ i = 1000 - i
 
 loop-holds : tie.Need-loop-holds Inv-loop μ-loop
 loop-holds c = search needs
 
 next-job-requires : tie.Need-next-job-requires Inv-loop μ-loop
 next-job-requires c κs = search needs
-
-same-length : tie.Need-same-length Inv-loop μ-loop
-same-length c = search needs
-
-same-length-2 : tie.Need-same-length-2 Inv-loop μ-loop
-same-length-2 c = search needs
 
 returns : tie.Need-returns Inv-loop μ-loop
 returns c = search needs
@@ -36,12 +28,6 @@ loop-less c = search needs
 loop-again : tie.Need-loop-again Inv-loop μ-loop
 loop-again c = search needs
 
-same-length-3 : tie.Need-same-length-3 Inv-loop μ-loop
-same-length-3 c = search needs
-
-same-length-4 : tie.Need-same-length-4 Inv-loop μ-loop
-same-length-4 c = search needs
-
 returns-2 : tie.Need-returns-2 Inv-loop μ-loop
 returns-2 c = search needs
 
@@ -53,12 +39,8 @@ all-jobs-spec =
     μ-loop
     loop-holds
     next-job-requires
-    same-length
-    same-length-2
     returns
     add-i
     loop-less
     loop-again
-    same-length-3
-    same-length-4
     returns-2)

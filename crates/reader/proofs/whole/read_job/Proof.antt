@@ -1,5 +1,5 @@
 -- `reader::read_job` meets its contract: what is refused changes nothing, a sound job is filled in. Assumes nothing.
-use mathlib.Core.Path.{sym, _∙_}
+use mathlib.Core.Path.{refl, sym, _∙_}
 use borrow.Author.Needs.{needs}
 use borrow.Author.Tests.{not-true, not-false}
 use Rattle.reader.proofs.Rooms.{no-room, with-room, sound-is, refuses, accepts}
@@ -10,28 +10,28 @@ room-in-requires : tie.Need-room-in-requires
 room-in-requires c κs = search needs
 
 same-length : tie.Need-same-length
-same-length c = search needs
+same-length c = refl
 
 same-length-2 : tie.Need-same-length-2
-same-length-2 c = search needs
+same-length-2 c = refl
 
 same-length-3 : tie.Need-same-length-3
-same-length-3 c = search needs
+same-length-3 c = refl
 
 same-length-4 : tie.Need-same-length-4
-same-length-4 c = search needs
+same-length-4 c = refl
 
 same-length-5 : tie.Need-same-length-5
-same-length-5 c = search needs
+same-length-5 c = refl
 
 same-length-6 : tie.Need-same-length-6
-same-length-6 c = search needs
+same-length-6 c = refl
 
 same-length-7 : tie.Need-same-length-7
-same-length-7 c = search needs
+same-length-7 c = refl
 
 same-length-8 : tie.Need-same-length-8
-same-length-8 c = search needs
+same-length-8 c = refl
 
 returns : tie.Need-returns
 returns c =
@@ -55,28 +55,28 @@ header-in-requires c κs =
     (sound-is _ (sym (c .before .before .before .before .before .before .before .before .before .before .before .before .before .before .before .before .before .before .before .before .before .before .before .before .before .before .before .fault-in .ensures) ∙ c .before .before .before .before .before .before .before .before .before .before .before .before .before .before .before .before .before .before .before .before .before .before .before .before .before .enum-told .given .1), c .before .before .before .before .before .before .before .before .before .before .before .before .before .before .before .before .fill-job .ensures .0)
 
 same-length-9 : tie.Need-same-length-9
-same-length-9 c = search needs
+same-length-9 c = refl
 
 same-length-10 : tie.Need-same-length-10
-same-length-10 c = search needs
+same-length-10 c = refl
 
 same-length-11 : tie.Need-same-length-11
-same-length-11 c = search needs
+same-length-11 c = refl
 
 same-length-12 : tie.Need-same-length-12
-same-length-12 c = search needs
+same-length-12 c = refl
 
 same-length-13 : tie.Need-same-length-13
-same-length-13 c = search needs
+same-length-13 c = refl
 
 same-length-14 : tie.Need-same-length-14
-same-length-14 c = search needs
+same-length-14 c = refl
 
 same-length-15 : tie.Need-same-length-15
-same-length-15 c = search needs
+same-length-15 c = refl
 
 same-length-16 : tie.Need-same-length-16
-same-length-16 c = search needs
+same-length-16 c = refl
 
 returns-2 : tie.Need-returns-2
 returns-2 c =
@@ -84,28 +84,28 @@ returns-2 c =
     refuses _ _ _ _ (with-room _ _ room ∙ sym (c .before .before .before .fault-in .ensures) ∙ c .before .number .given .1)
 
 same-length-17 : tie.Need-same-length-17
-same-length-17 c = search needs
+same-length-17 c = c .before .before .before .before .before .before .before .before .before .before .before .before .before .before .before .before .before .fill-job .kept .1 .0
 
 same-length-18 : tie.Need-same-length-18
-same-length-18 c = search needs
+same-length-18 c = c .before .before .before .before .before .before .before .before .before .before .before .before .before .before .before .before .before .fill-job .kept .1 .1 .0
 
 same-length-19 : tie.Need-same-length-19
-same-length-19 c = search needs
+same-length-19 c = c .before .before .before .before .before .before .before .before .before .before .before .before .before .before .before .before .before .fill-job .kept .1 .1 .1 .0
 
 same-length-20 : tie.Need-same-length-20
-same-length-20 c = search needs
+same-length-20 c = c .before .before .before .before .before .before .before .before .before .before .before .before .before .before .before .before .before .fill-job .kept .1 .1 .1 .1 .0
 
 same-length-21 : tie.Need-same-length-21
-same-length-21 c = search needs
+same-length-21 c = c .before .before .before .before .before .before .before .before .before .before .before .before .before .before .before .before .before .fill-job .kept .1 .1 .1 .1 .1 .0
 
 same-length-22 : tie.Need-same-length-22
-same-length-22 c = search needs
+same-length-22 c = c .before .before .before .before .before .before .before .before .before .before .before .before .before .before .before .before .before .fill-job .kept .1 .1 .1 .1 .1 .1 .0
 
 same-length-23 : tie.Need-same-length-23
-same-length-23 c = search needs
+same-length-23 c = c .before .before .before .before .before .before .before .before .before .before .before .before .before .before .before .before .before .fill-job .kept .1 .1 .1 .1 .1 .1 .1 .0
 
 same-length-24 : tie.Need-same-length-24
-same-length-24 c = search needs
+same-length-24 c = c .before .before .before .before .before .before .before .before .before .before .before .before .before .before .before .before .before .fill-job .kept .1 .1 .1 .1 .1 .1 .1 .1 .0
 
 returns-3 : tie.Need-returns-3
 returns-3 c =
