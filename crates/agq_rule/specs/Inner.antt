@@ -1,4 +1,4 @@
--- The inner fit with its quadrature. Document 01, "The inner fit", on stopping: declining keeps Laplace and order 1. Assumes nothing.
+-- The inner fit with its quadrature. Document 01, "The inner fit", what a step that declines leaves to the fit. Assumes nothing.
 use mathlib.Core.List.{List, _++_}
 use Prim.Native.Nat.{ℕ}
 use lib.Ieee.{Float}

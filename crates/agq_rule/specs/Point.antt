@@ -1,4 +1,4 @@
--- A point of the grid: its nodes and its log weight. Document 01, "The inner fit": point t has digits of t in base order, first dimension lowest. Assumes nothing.
+-- A point of the grid: its nodes and its log weight. Document 01, "The inner fit", the sentence on the digits of a point. Assumes nothing.
 use mathlib.Core.List.{List}
 use Prim.Native.Nat.{ℕ, _/_, _%_, _^_}
 use lib.Ieee.{Float}

@@ -1,4 +1,4 @@
--- The two quadrature steps: the product rule for one block, the joint rule for several. Document 01, "The inner fit", on stopping: a step answers with a deviance or declines. Assumes nothing.
+-- The two quadrature steps: the product rule for one block, the joint rule for several. Document 01, "The inner fit", from the sentence on n_agq to the causes of declining. Assumes nothing.
 use mathlib.Core.List.{List, [], _++_}
 use mathlib.Core.Bool.{Bool, true, false}
 use Prim.Native.Nat.{ℕ, zero, suc, _+_, _*_, _^_}

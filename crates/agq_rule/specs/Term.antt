@@ -65,7 +65,7 @@ oneMoved sigma z u = u ⊕ (sigma ⊗ z)
 unfoldable pub oneTrial : Order → ℕ → Float → List Float → ℕ → List Float
 oneTrial o g sigma u t = fillAt g 1 (λ _. oneMoved sigma (nodesOf o ! t) (u ! g)) u
 
--- the log term of a point with the effects `trial`: the log weight is ln w itself, and so is the penalty t² - û²
+-- the log term of a point with the effects `trial`: ln w and t² - û² stand alone, without a sum from +0.0
 unfoldable pub oneTermAt : Given → Mode → Float → Order → ℕ → ℕ → List Float → Float
 oneTermAt G M phi o g t trial =
     termOf G M phi (belongs (G .design .zt) g 1) trial (lnOf (weightsOf o ! t)) (penaltyAt trial (M .u) g)

@@ -18,13 +18,15 @@ abbrev pub putAt : Shape → ℕ → Block → Shape
 putAt s i b = record { count = s .count; m = set (s .m) i (b .m); k = set (s .k) i (b .k) }
 
 -- the first n places filled
-unfoldable pub fillTo : List Block → ℕ → Shape
-fillTo bs zero = blankShape (length bs)
-fillTo bs (suc n) = putAt (fillTo bs n) n (getD bs n noBlock)
+unfoldable pub placedTo : List Block → ℕ → Shape
+placedTo bs zero = blankShape (length bs)
+placedTo bs (suc n) = putAt (placedTo bs n) n (getD bs n noBlock)
 
+-- m of block i
 abbrev mAt : List Block → ℕ → ℕ
 mAt bs i = getD bs i noBlock .m
 
+-- k of block i
 abbrev kAt : List Block → ℕ → ℕ
 kAt bs i = getD bs i noBlock .k
 

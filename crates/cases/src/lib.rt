@@ -1,1 +1,1 @@
-// The thirteen cases that document 01 wants proved stand in proofs/Thirteen: there is no code here.
+// The thirteen cases that document 01 wants proved stand in specs/Thirteen and are proved in proofs/Table: there is no code here.

@@ -3,5 +3,4 @@ pub mod Turns
 pub mod Capped
 pub mod Higher
 pub mod Reported
-pub mod Laplace
 pub mod Unique

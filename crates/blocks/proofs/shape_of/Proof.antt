@@ -46,7 +46,7 @@ use denote.Triple.Spec.{Meets, tripleOf}
 use denote.Triple.Table.{entered, cited}
 use denote.Triple.Walked.{says, Stays, stay-none-slice, walkOf, goes-none-slice, Walks, ends-at, walked, walk-meets}
 use denote.Exit.{yes}
-use Rattle.blocks.specs.Blocks.{noBlock, blankShape, putAt, fillTo}
+use Rattle.blocks.specs.Blocks.{noBlock, blankShape, putAt, placedTo}
 use Rattle.blocks.specs.declared.Block.{Block}
 use Rattle.model.specs.declared.sizes.Shape.{Shape}
 use Rattle.blocks.proofs.Block as B
@@ -156,11 +156,11 @@ module _ {M : Type 1} (𝓤 : URA M) (H : Heap 𝓤) (A : Atoms 𝓤) (W : Given
   put-said : (d : Shape) (i : ℕ) (r : Block) (t : Shape) → ent 𝓤 (ensured 𝓤 H A put.ended (put.clauses 𝓤 H A mem run) tt (d, (i, (r, tt))) tt t) (fact 𝓤 (t ≡ putAt d i r))
   put-said d i r t = exE 𝓤 _ (λ ws. snd∗ 𝓤 (sem 𝓤 H A (lasts put.ended tt (d, (i, (r, tt))) ws)) (fact 𝓤 (t ≡ putAt d i r)))
 
-  exits : ent 𝓤 (⋆ 𝓤 H A (‵ (S.the-row .own (fillTo ys 8) (S′.lowered (fillTo ys 8) ∷ [])) ∷ tok ∷ ‵ Own ∷ [])) (Post (S′.lowered (fillTo ys 8)))
-  unfolding fillTo
+  exits : ent 𝓤 (⋆ 𝓤 H A (‵ (S.the-row .own (placedTo ys 8) (S′.lowered (placedTo ys 8) ∷ [])) ∷ tok ∷ ‵ Own ∷ [])) (Post (S′.lowered (placedTo ys 8)))
+  unfolding placedTo
   exits =
-      qed W (‵ (S.the-row .own (fillTo ys 8) (S′.lowered (fillTo ys 8) ∷ [])) ∷ tok ∷ ‵ Own ∷ []) ∵
-      suffices ! _ (ends-at 𝓤 H A f.ended stayed (f.clauses 𝓤 H A mem run) W (((κ, tt), (q, tt), tt, (s, tt), (v ∷ [], tt)), tt) (S′.lowered (fillTo ys 8)) (fillTo ys 8) (tt, tt) (tt, tt)) $ says ! refl $
+      qed W (‵ (S.the-row .own (placedTo ys 8) (S′.lowered (placedTo ys 8) ∷ [])) ∷ tok ∷ ‵ Own ∷ []) ∵
+      suffices ! _ (ends-at 𝓤 H A f.ended stayed (f.clauses 𝓤 H A mem run) W (((κ, tt), (q, tt), tt, (s, tt), (v ∷ [], tt)), tt) (S′.lowered (placedTo ys 8)) (placedTo ys 8) (tt, tt) (tt, tt)) $ says ! refl $
       move ! (1 ∷ []) $ frame ! $ nothing ! $ move ! (2 ∷ 0 ∷ []) $ fjoin ! $ frame ! $ done !
 
   module _ (𝓣 : Tables 𝓤 H) (known-blank : Triple 𝓤 (𝓣 .C #blocks·blank) (BlankOf 𝓤 H A mem run)) (known-or : Triple 𝓤 (𝓣 .C #blocks·block-or) (Or 𝓤 H A mem run)) (known-put : Triple 𝓤 (𝓣 .C #blocks·put) (Put 𝓤 H A mem run)) where
@@ -185,9 +185,9 @@ module _ {M : Type 1} (𝓤 : URA M) (H : Heap 𝓤) (A : Atoms 𝓤) (W : Given
 
       -- [what the shape owns; the token; what blocks owns; _6 at 3; _5 at 5; _4 at 7; _3 at 9; _2 at 11; _1 at 13; _0 at 15]
       abbrev At : ℕ → List (Item 𝓤)
-      At i = ‵ (S.the-row .own (fillTo ys i) (S′.lowered (fillTo ys i) ∷ [])) ∷ tok ∷ ‵ Own
+      At i = ‵ (S.the-row .own (placedTo ys i) (S′.lowered (placedTo ys i) ∷ [])) ∷ tok ∷ ‵ Own
           ∷ ‵ (froom B′.mir l₆ 0) ∷ ‵ (fdies B′.mir l₆) ∷ ‵ (froom tyBool l₅ 0) ∷ ‵ (fdies tyBool l₅) ∷ ‵ (fat fullShare (tyInt w64) l₄ 0 (vint w64 (length ys))) ∷ ‵ (fdies (tyInt w64) l₄)
-          ∷ ‵ (fat fullShare (tyInt w64) l₃ 0 (vint w64 i)) ∷ ‵ (fdies (tyInt w64) l₃) ∷ ‵ (fat fullShare S′.mir l₂ 0 (S′.lowered (fillTo ys i))) ∷ ‵ (fdies S′.mir l₂)
+          ∷ ‵ (fat fullShare (tyInt w64) l₃ 0 (vint w64 i)) ∷ ‵ (fdies (tyInt w64) l₃) ∷ ‵ (fat fullShare S′.mir l₂ 0 (S′.lowered (placedTo ys i))) ∷ ‵ (fdies S′.mir l₂)
           ∷ ‵ (fat fullShare slice l₁ 0 v) ∷ ‵ (fdies slice l₁) ∷ ‵ (froom S′.mir l₀ 0) ∷ ‵ (fdies S′.mir l₀) ∷ []
 
       abbrev Inv : ℕ → List (Item 𝓤)
@@ -195,7 +195,7 @@ module _ {M : Type 1} (𝓤 : URA M) (H : Heap 𝓤) (A : Atoms 𝓤) (W : Given
 
       -- a turn that fills one place
       more : (i : ℕ) → ltb i 8 ≡ true → Sq W (At i) (runs C Λ E mir.turn-1 (anyQ (afterTurn 𝓤 H (Below 𝓤 H A ≺ Inv i) Left)))
-      unfolding afterTurn fillTo
+      unfolding afterTurn placedTo
       more i yes′ =
           let small : i < 8 = below8 i yes′ in
           let gi : i < 2 ^ 64 = omega arith in
@@ -209,14 +209,14 @@ module _ {M : Type 1} (𝓤 : URA M) (H : Heap 𝓤) (A : Atoms 𝓤) (W : Given
           -- [the block; the token; what blocks owns; what the shape owns; _6 at 4; …]
           peeks ! B.the-row (Is B.the-row) (shows 𝓤 H A B.the-row) r (u ∷ []) (λ is.
           land ! (from ! (stop !)) (init ! 4 refl (LL.lawful B.the-type B′.the-laws 𝓤 H A W .typed r _ is .0)) $
-          move ! (3 ∷ 0 ∷ []) $ use2 W (raw (Put 𝓤 H A mem run .pre (to-put (fillTo ys i) i r u))) (goes-put (fillTo ys i) i r u small gi) $
+          move ! (3 ∷ 0 ∷ []) $ use2 W (raw (Put 𝓤 H A mem run .pre (to-put (placedTo ys i) i r u))) (goes-put (placedTo ys i) i r u small gi) $
           -- [what put asks; the token; what blocks owns; _6 at 3; …]
-          calls-at ! fm (Put 𝓤 H A mem run) known-put (to-put (fillTo ys i) i r u) (and-then ! (load ! (from ! (stop !)) (look ! 11 refl)) (and-then ! (load ! (from ! (stop !)) (look ! 9 refl)) (and-then ! (load ! (from ! (stop !)) (look ! 3 refl)) (no-more !)))) (λ u′.
-          use1 W (later (some (λ (t : Shape). (‵ ftrue ⊛ ‵ (S.the-row .own t (u′ ∷ []))) ⊛ raw (ensured 𝓤 H A put.ended (put.clauses 𝓤 H A mem run) tt (fillTo ys i, (i, (r, tt))) tt t)))) (id⊢ 𝓤 _) $ await ! tt $ pick ! (λ t.
-          split ! $ move ! (1 ∷ []) $ use1 W (raw (fact 𝓤 (t ≡ putAt (fillTo ys i) i r))) (put-said (fillTo ys i) i r t) $ heard ! (t ≡ putAt (fillTo ys i) i r) (λ e′. split ! $ drop ! $
+          calls-at ! fm (Put 𝓤 H A mem run) known-put (to-put (placedTo ys i) i r u) (and-then ! (load ! (from ! (stop !)) (look ! 11 refl)) (and-then ! (load ! (from ! (stop !)) (look ! 9 refl)) (and-then ! (load ! (from ! (stop !)) (look ! 3 refl)) (no-more !)))) (λ u′.
+          use1 W (later (some (λ (t : Shape). (‵ ftrue ⊛ ‵ (S.the-row .own t (u′ ∷ []))) ⊛ raw (ensured 𝓤 H A put.ended (put.clauses 𝓤 H A mem run) tt (placedTo ys i, (i, (r, tt))) tt t)))) (id⊢ 𝓤 _) $ await ! tt $ pick ! (λ t.
+          split ! $ move ! (1 ∷ []) $ use1 W (raw (fact 𝓤 (t ≡ putAt (placedTo ys i) i r))) (put-said (placedTo ys i) i r t) $ heard ! (t ≡ putAt (placedTo ys i) i r) (λ e′. split ! $ drop ! $
           peeks ! S.the-row (Is S.the-row) (shows 𝓤 H A S.the-row) t (u′ ∷ []) (λ is′.
           let whose : u′ ≡ S′.lowered t = ap only (S′.lowers .val-is t (u′ ∷ []) is′) in
-          let filled : t ≡ fillTo ys (suc i) = e′ ∙ ap (putAt (fillTo ys i) i) e in
+          let filled : t ≡ placedTo ys (suc i) = e′ ∙ ap (putAt (placedTo ys i) i) e in
           land ! (from ! (stop !)) (store ! 11 refl (LL.lawful S.the-type S′.the-laws 𝓤 H A W .typed t _ is′ .0)) $
           assigns-last ! (bin ! (load ! (from ! (stop !)) (look ! 9 refl)) (lit ! tt) (record { fits = wide i small })) (from ! (stop !)) (store ! 9 refl (tt, record { fits = wide i small })) $
           forget ! 3 refl $ forget ! 5 refl $ rewrite ! 9 (λ (j : ℕ). ‵ (fat fullShare (tyInt w64) l₃ 0 (vint w64 j))) (add-one i) refl $
@@ -229,8 +229,8 @@ module _ {M : Type 1} (𝓤 : URA M) (H : Heap 𝓤) (A : Atoms 𝓤) (W : Given
       unfolding afterTurn
       ends =
           assigns ! (bin ! (load ! (from ! (stop !)) (look ! 9 refl)) (lit ! tt) tt) (from ! (stop !)) (init ! 5 refl (tt, tt)) $ leaves-loop ! (load ! (from ! (stop !)) (look ! 5 refl)) $ exec ! C Λ E mir.t-5 (atRet E Post) $
-          peeks ! S.the-row (Is S.the-row) (shows 𝓤 H A S.the-row) (fillTo ys 8) (S′.lowered (fillTo ys 8) ∷ []) (λ is.
-          assigns ! (of-opd ! (load ! (from ! (stop !)) (look ! 11 refl))) (from ! (stop !)) (init ! 15 refl (LL.lawful S.the-type S′.the-laws 𝓤 H A W .typed (fillTo ys 8) _ is .0)) $
+          peeks ! S.the-row (Is S.the-row) (shows 𝓤 H A S.the-row) (placedTo ys 8) (S′.lowered (placedTo ys 8) ∷ []) (λ is.
+          assigns ! (of-opd ! (load ! (from ! (stop !)) (look ! 11 refl))) (from ! (stop !)) (init ! 15 refl (LL.lawful S.the-type S′.the-laws 𝓤 H A W .typed (placedTo ys 8) _ is .0)) $
           returns ! (look ! 15 refl) $ forget ! 5 refl $ forget ! 7 refl $ forget ! 9 refl $ forget ! 11 refl $ forget ! 13 refl $ forget ! 15 refl $
           move ! (15 ∷ 16 ∷ []) $ free1 ! $ move ! (13 ∷ 14 ∷ []) $ free1 ! $ move ! (11 ∷ 12 ∷ []) $ free1 ! $ move ! (9 ∷ 10 ∷ []) $ free1 ! $ move ! (7 ∷ 8 ∷ []) $ free1 ! $ move ! (5 ∷ 6 ∷ []) $ free1 ! $ move ! (3 ∷ 4 ∷ []) $ free1 ! $ free0 ! $ by ! exits)
 
@@ -241,7 +241,7 @@ module _ {M : Type 1} (𝓤 : URA M) (H : Heap 𝓤) (A : Atoms 𝓤) (W : Given
       looped = first ! $ blocks ! $ loops ! 𝓣 ≺ falls Inv {q = anyQ Left} turn 0
 
     walk : Is (ShrSlice (named 0) κ B.the-row) s (v ∷ []) → ent 𝓤 (onEntry 𝓤 H A f.signature (κ, tt) (q, tt) (s, tt) (v ∷ [], tt)) (WpFn 𝓤 H C Λ code.function (v ∷ []) Post)
-    unfolding fillTo
+    unfolding placedTo
     walk p =
         qed W (tok ∷ ‵ (owns (ShrSlice (named 0) κ B.the-row ∷ []) (s, tt) (v ∷ [], tt)) ∷ []) ∵ enter ! C Λ code.function (v ∷ []) _ $
         alloc1 ! (λ l₀. alloc1 ! (λ l₁. alloc1 ! (λ l₂. alloc1 ! (λ l₃. alloc1 ! (λ l₄. alloc1 ! (λ l₅. alloc1 ! (λ l₆. alloc0 ! $ params1 ! $
