@@ -1,0 +1,213 @@
+-- The log terms of a group with several effects, or of all effects at once, as they stand at the front of the terms, are the rule's. Assumes nothing.
+use mathlib.Core.Path.{_≡_, refl, ap, _∙_}
+use mathlib.Core.List.{List}
+use mathlib.Core.Logic.{inl}
+use Prim.Native.Nat.{ℕ, _+_, _*_, _^_, _≤_}
+use native.Mathlib.Omega.{arith}
+use lib.ListN.{length}
+use lib.Ieee.{Float}
+use Rattle.base.specs.List.{build, fillAt}
+use Rattle.base.specs.Rows.{row, Wrote}
+use Rattle.base.specs.Sparse.{Sparse}
+use Rattle.base.proofs.Rows.{row-length, only-row, only-none, fillat-only}
+use Rattle.family.specs.declared.carried.CarriedFamily.{CarriedFamily}
+use Rattle.family.specs.declared.carried.CarriedLink.{CarriedLink}
+use Rattle.model.specs.Shape.{effectsOf}
+use Rattle.model.specs.declared.sizes.Shape.{Shape}
+use Rattle.layout.specs.Layout.{Lent}
+use Rattle.layout.specs.WorkRows.{xbetaRow, markRow}
+use Rattle.layout.specs.WorkMatrices.{inversePlace, uPlace, trialUPlace}
+use Rattle.layout.specs.WorkTerms.{termsLength}
+use Rattle.layout.proofs.Inside.{inverse-in, u-in}
+use Rattle.quadrature.specs.Orders.{sizeOf}
+use Rattle.quadrature.specs.Rules.{nodesOf, weightsOf, padded, ruleOf}
+use Rattle.quadrature.specs.declared.rules.Rule.{Rule}
+use Rattle.quadrature.specs.declared.orders.Decline.{Decline}
+use Rattle.quadrature.specs.declared.orders.Order.{Order}
+use Rattle.rule.specs.Given.{Given, nOf, qOf}
+use Rattle.rule.specs.Stop.{Mode}
+use Rattle.agq_rule.specs.Scale.{blockScale, sectionOf}
+use Rattle.agq_rule.specs.Term.{inversePhi, groupTerm, jointTerm}
+use Rattle.points.specs.Gain.{oneAt, markAt}
+use Rattle.scale.specs.Tells.{entryFrom, tellScale, ScaleLeaves}
+use Rattle.scale.specs.declared.scales.Scaling.{Scaling}
+use Rattle.scale.specs.declared.scales.Scaling.the-variants.{Scaled, Unscaled}
+use Rattle.scale.proofs.ScaleFound.{joint-scale}
+use Rattle.scale.proofs.SectionCopied.{square-within}
+use Rattle.agq_rule.specs.declared.answers.Integral.the-variants.{Declined}
+use Rattle.several.specs.Several.{Grid, gainIn, groupTermIn, jointTermIn, TermsIn}
+use Rattle.several.proofs.SeveralRuled.{group-ruled, joint-ruled}
+use Rattle.groups.specs.Stands.{Stands, givenWith}
+use Rattle.groups.specs.Summed.{groupSumOf, jointAnswer, StepFrame, SumLeft, GroupLeft, StepLeft}
+use Rattle.groups.specs.Rules.{severalTerms, severalRule, jointTerms, jointRule}
+use Rattle.groups.specs.declared.sums.Summed.the-variants.{NoSum}
+use Rattle.groups.specs.declared.sums.GroupSum.{GroupSum}
+use Rattle.groups.specs.declared.sums.Quadrature.{Quadrature}
+use Rattle.groups.proofs.Framed.{frame-scaled, frame-trans, frame-terms, square-in, stands-kept}
+use Rattle.groups.proofs.Fronts.{copied-only, copied-u, copied-trial, marked-row, marked-fixed, marked-devs, rule-size, rule-some, rule-nodes-long, rule-finite, sum-made}
+use Rattle.groups.proofs.Told.{several-declined, several-told, joint-declined, joint-told}
+
+-- ---- the places that the points ask for
+
+grid-places : (p q s k l u trial : ℕ) → s + k ≤ q → l ≡ inversePlace q → u ≡ uPlace p q → trial ≡ trialUPlace p q → (l + k * k ≤ u) × (l + k * k ≤ trial) × (u + q ≤ trial)
+grid-places p q s k l u trial h el eu et = (omega (arith, square-within q s k h), omega (arith, square-within q s k h), omega arith)
+
+-- the points of a group, or of all effects: their places and their nodes
+pub grid-of : {n p q : ℕ} {r m t : List Float} (o : Order) (z : Rule) (s k l u trial : ℕ) (m' : List Float) → z ≡ ruleOf o → Lent n p q r m t → length m' ≡ length m → s + k ≤ q → l ≡ inversePlace q → u ≡ uPlace p q
+    → trial ≡ trialUPlace p q → Grid q s k (z .size) l u trial (z .nodes) m'
+grid-of {n} {p} {q} o z s k l u trial m' e lent em h el eu et =
+    record {
+      within = h;
+      factor = grid-places p q s k l u trial h el eu et .0;
+      hats = grid-places p q s k l u trial h el eu et .2;
+      in-m = omega (arith, lent .matrices-long);
+      some = omega (arith, rule-some o z e);
+      in-nodes = rule-nodes-long o z e;
+      finite-nodes = rule-finite o z e;
+    }
+
+-- how many points there are
+pub count-few : (o : Order) (z : Rule) (k most c : ℕ) → z ≡ ruleOf o → sizeOf o ^ k ≤ most → c ≡ z .size ^ k → c ≤ most
+count-few o z k most c e h ec = let p : z .size ^ k ≡ sizeOf o ^ k = ap (λ (x : ℕ). x ^ k) (rule-size o z e) in omega arith
+
+pub count-in : (o : Order) (z : Rule) (k most c : ℕ) (t : List Float) → z ≡ ruleOf o → sizeOf o ^ k ≤ most → c ≡ z .size ^ k → most ≤ 7000 → termsLength ≤ length t → c ≤ length t
+count-in o z k most c t e h ec few long = omega (arith, count-few o z k most c e h ec)
+
+-- what the power asks for
+pub power-room : (o : Order) (z : Rule) (k : ℕ) → z ≡ ruleOf o → sizeOf o ^ k ≤ 7000 → (3 ≤ z .size) × (z .size ^ k ≤ 7000)
+power-room o z k e h = (rule-some o z e, count-few o z k 7000 (z .size ^ k) e h refl)
+
+-- ---- a group of k effects from s on, in the rule's words
+module _ (G : Given) (M : Mode) (phi : Float) (o : Order) (s k size l u trial mark xbeta : ℕ) (nodes ws r r1 m t : List Float)
+    (lent : Lent (nOf G) (G .design .p) (qOf (G .design)) r m t) (stands : Stands G M r m)
+    (h : s + k ≤ qOf (G .design)) (el : l ≡ inversePlace (qOf (G .design)))
+    (eu : u ≡ uPlace (G .design .p) (qOf (G .design))) (et : trial ≡ trialUPlace (G .design .p) (qOf (G .design))) (em : mark ≡ markRow (nOf G)) (ex : xbeta ≡ xbetaRow (nOf G))
+    (en : nodes ≡ padded (nodesOf o)) (ew : ws ≡ padded (weightsOf o)) (es : size ≡ sizeOf o)
+    (wrote : Wrote mark (nOf G) (build (markAt (G .design .zt) s k) (nOf G)) r r1) where
+  abbrev n : ℕ
+  n = nOf G
+
+  abbrev q : ℕ
+  q = qOf (G .design)
+
+  abbrev p : ℕ
+  p = G .design .p
+
+  abbrev m1 : List Float
+  m1 = fillAt trial q (entryFrom m u) m
+
+  hat : row u q m ≡ M .u
+  hat = rw eu (stands .u)
+
+  hat-long : s + k ≤ length (M .u)
+  hat-long = rw (← hat) (omega (arith, row-length u q m (u-in (lent .sizes) m eu (lent .matrices-long))))
+
+  same-factor : row l (k * k) m1 ≡ row (inversePlace q) (k * k) m
+  same-factor =
+      rw (← el)
+      (only-row l (k * k) trial q (inl (grid-places p q s k l u trial h el eu et .1)) (omega (arith, inverse-in (lent .sizes) m el (lent .matrices-long), square-within q s k h)) (fillat-only trial q q (entryFrom m u) m (omega arith)))
+
+  pub group-term-ruled : (i : ℕ)
+      → groupTermIn (gainIn (G .family) (G .link) (G .design .shape) (G .design .theta) (G .design .zt) (G .y) (G .weights) (G .design .offset) n q xbeta r1) s k (inversePhi phi) nodes ws size (row l (k * k) m1) (row u q m1) (row trial q m1) i
+      ≡ groupTerm G M phi o s k (row (inversePlace q) (k * k) m) i
+  group-term-ruled i =
+      rw (same-factor, copied-u n p q u trial r m t lent eu et, copied-trial n p q u trial r m t lent eu et, hat)
+      (group-ruled G M phi o xbeta r1 nodes ws size
+      (marked-fixed n p q mark xbeta _ r r1 m t lent em ex wrote ∙ stands .fixed)
+      (marked-devs n p q mark xbeta _ r r1 m t lent em ex wrote ∙ stands .deviances)
+      en ew es s k (row (inversePlace q) (k * k) m) (M .u) i
+      (marked-row n p q mark xbeta _ r r1 m t lent em ex wrote) (only-none s k (M .u)) hat-long)
+
+-- ---- all effects at once, in the rule's words
+module _ (G : Given) (M : Mode) (phi : Float) (o : Order) (size l u mark xbeta : ℕ) (nodes ws r r1 m t : List Float)
+    (lent : Lent (nOf G) (G .design .p) (qOf (G .design)) r m t) (stands : Stands G M r m) (el : l ≡ inversePlace (qOf (G .design)))
+    (eu : u ≡ uPlace (G .design .p) (qOf (G .design))) (em : mark ≡ markRow (nOf G)) (ex : xbeta ≡ xbetaRow (nOf G))
+    (en : nodes ≡ padded (nodesOf o)) (ew : ws ≡ padded (weightsOf o)) (es : size ≡ sizeOf o)
+    (wrote : Wrote mark (nOf G) (build oneAt (nOf G)) r r1) where
+  all-hat : row u (qOf (G .design)) m ≡ M .u
+  all-hat = rw eu (stands .u)
+
+  all-long : length (M .u) ≡ qOf (G .design)
+  all-long = rw (← all-hat) (row-length u (qOf (G .design)) m (u-in (lent .sizes) m eu (lent .matrices-long)))
+
+  pub joint-term-ruled : (i : ℕ)
+      → jointTermIn (gainIn (G .family) (G .link) (G .design .shape) (G .design .theta) (G .design .zt) (G .y) (G .weights) (G .design .offset) (nOf G) (qOf (G .design)) xbeta r1) (qOf (G .design)) (inversePhi phi) nodes ws size (row l (qOf (G .design) * qOf (G .design)) m) (row u (qOf (G .design)) m) i
+      ≡ jointTerm G M phi o (row (inversePlace (qOf (G .design))) (qOf (G .design) * qOf (G .design)) m) i
+  joint-term-ruled i =
+      rw (all-hat, el)
+      (joint-ruled G M phi o xbeta r1 nodes ws size
+      (marked-fixed (nOf G) (G .design .p) (qOf (G .design)) mark xbeta _ r r1 m t lent em ex wrote ∙ stands .fixed)
+      (marked-devs (nOf G) (G .design .p) (qOf (G .design)) mark xbeta _ r r1 m t lent em ex wrote ∙ stands .deviances)
+      en ew es (row (inversePlace (qOf (G .design))) (qOf (G .design) * qOf (G .design)) m) i
+      (marked-row (nOf G) (G .design .p) (qOf (G .design)) mark xbeta _ r r1 m t lent em ex wrote) all-long)
+
+-- ---- the same for the arguments of the code, of which q is the number of effects
+module _ (family : CarriedFamily) (link : CarriedLink) (shape : Shape) (theta : List Float) (zt : Sparse) (y weights offset : List Float) (n p q : ℕ) (o : Order) (phi : Float) where
+  abbrev G : List Float → Given
+  G = givenWith family link shape theta zt y weights offset n p
+
+  module _ (inv : Float) (l u trial mark xbeta size count : ℕ) (nodes ws r r1 r2 m m1 m2 t t' : List Float) (a : GroupSum)
+      (eq : q ≡ effectsOf shape) (lent : Lent n p q r m t) (few : count ≤ 7000) (em : mark ≡ markRow n)
+      (eu : u ≡ uPlace p q) (et : trial ≡ trialUPlace p q) (el : l ≡ inversePlace q) (ex : xbeta ≡ xbetaRow n) (ei : inv ≡ inversePhi phi)
+      (es : size ≡ sizeOf o) (en : nodes ≡ padded (nodesOf o)) (ew : ws ≡ padded (weightsOf o)) (ea : a ≡ groupSumOf (row 0 count t')) where
+    pub several-made : (s k : ℕ) → s + k ≤ q → count ≡ size ^ k → Wrote mark n (build (markAt zt s k) n) r r1 → m1 ≡ fillAt trial q (entryFrom m u) m
+        → TermsIn (groupTermIn (gainIn family link shape theta zt y weights offset n q xbeta r1) s k inv nodes ws size (row l (k * k) m1) (row u q m1) (row trial q m1)) n q xbeta trial count r1 r2 m1 m2 t t'
+        → SumLeft G (severalTerms phi o s k (row (inversePlace q) (k * k) m)) n p q (sizeOf o ^ k) r r2 m m2 t t' a
+    several-made s k h ec wrote copied made =
+        sum-made G (severalTerms phi o s k (row (inversePlace q) (k * k) m)) n p q (sizeOf o ^ k) count
+        (groupTermIn (gainIn family link shape theta zt y weights offset n q xbeta r1) s k inv nodes ws size (row l (k * k) m1) (row u q m1) (row trial q m1)) r r2 m m2 t t' a (ec ∙ ap (λ (z : ℕ). z ^ k) es) few lent (made .terms) ea
+        (λ x M st i d. rw (copied, ei, eq) (group-term-ruled (G x) M phi o s k size l u trial mark xbeta nodes ws r r1 m t (rw eq at lent) st (rw eq at h) (rw eq at el) (rw eq at eu) (rw eq at et) em ex en ew es wrote i))
+        (frame-terms n p q mark xbeta trial count _ r r1 r2 m m1 m2 t t' em ex et few (wrote .only) (made .in-r) (rw copied (copied-only n p q u trial r m t lent eu et)) (made .in-m) (made .terms))
+
+    pub joint-made : count ≡ size ^ q → Wrote mark n (build oneAt n) r r1
+        → TermsIn (jointTermIn (gainIn family link shape theta zt y weights offset n q xbeta r1) q inv nodes ws size (row l (q * q) m) (row u q m)) n q xbeta trial count r1 r2 m m2 t t'
+        → SumLeft G (jointTerms phi o (row (inversePlace q) (q * q) m)) n p q (sizeOf o ^ q) r r2 m m2 t t' a
+    joint-made ec wrote made =
+        sum-made G (jointTerms phi o (row (inversePlace q) (q * q) m)) n p q (sizeOf o ^ q) count
+        (jointTermIn (gainIn family link shape theta zt y weights offset n q xbeta r1) q inv nodes ws size (row l (q * q) m) (row u q m)) r r2 m m2 t t' a (ec ∙ ap (λ (z : ℕ). z ^ q) es) few lent (made .terms) ea
+        (λ x M st i d. rw (ei, eq) (joint-term-ruled (G x) M phi o size l u mark xbeta nodes ws r r1 m t (rw eq at lent) st (rw eq at el) (rw eq at eu) em ex en ew es wrote i))
+        (frame-terms n p q mark xbeta trial count _ r r1 r2 m m m2 t t' em ex et few (wrote .only) (made .in-r) (only-none trial (q + q + q) m) (made .in-m) (made .terms))
+
+  -- ---- a group, from the scale of its block
+  module _ (s k : ℕ) (r m m1 t t1 : List Float) (c : Scaling) (eq : q ≡ effectsOf shape) (lent : Lent n p q r m t) (h : s + k ≤ q) (scale : ScaleLeaves q s k m m1 t t1 c) where
+    told-scale : (x : List Float) (M : Mode) → Stands (G x) M r m → tellScale c (row (inversePlace q) (k * k) m1) ≡ blockScale k (sectionOf (effectsOf shape) (M .system) s k)
+    told-scale x M st = scale .scale ∙ rw (eq, st .system) refl
+
+    frame-first : StepFrame n p q r r m m1 t t1
+    frame-first = frame-scaled n p q s k r m m1 t t1 c (lent .sizes) h scale
+
+    pub several-unscaled : (d : Decline) → c ≡ Unscaled d → GroupLeft G (severalRule phi o s k) n p q (sizeOf o ^ k) r r m m1 t t1 (record { sum = NoSum d; points = 0 })
+    several-unscaled d e =
+        record { told = λ x M st rest. several-declined (G x) M phi o s k c (row (inversePlace q) (k * k) m1) rest (told-scale x M st) d e; few = omega arith; frame = frame-first }
+
+    pub several-scaled : (r2 m2 t2 : List Float) (a : GroupSum) → c ≡ Scaled → SumLeft G (severalTerms phi o s k (row (inversePlace q) (k * k) m1)) n p q (sizeOf o ^ k) r r2 m1 m2 t1 t2 a
+        → GroupLeft G (severalRule phi o s k) n p q (sizeOf o ^ k) r r2 m m2 t t2 a
+    several-scaled r2 m2 t2 a e left =
+        record {
+          told = λ x M st rest. several-told (G x) M phi o s k c (row (inversePlace q) (k * k) m1) rest (told-scale x M st) a e (left .told x M (stands-kept (G x) M r r m m1 t t1 (rw eq at lent) (rw eq at frame-first) st));
+          few = omega (arith, left .many);
+          frame = frame-trans frame-first (left .frame);
+        }
+
+  -- ---- all effects, from the scale of A
+  module _ (fit : Float) (r m m1 t t1 : List Float) (c : Scaling) (eq : q ≡ effectsOf shape) (lent : Lent n p q r m t) (scale : ScaleLeaves q 0 q m m1 t t1 c) where
+    all-scale : (x : List Float) (M : Mode) → Stands (G x) M r m → tellScale c (row (inversePlace q) (q * q) m1) ≡ blockScale (effectsOf shape) (M .system)
+    all-scale x M st = joint-scale q m m1 t t1 c (square-in lent) scale ∙ rw (eq, st .system) refl
+
+    all-frame : StepFrame n p q r r m m1 t t1
+    all-frame = frame-scaled n p q 0 q r m m1 t t1 c (lent .sizes) (omega arith) scale
+
+    pub joint-unscaled : (d : Decline) → c ≡ Unscaled d → StepLeft G (jointRule phi o) n p q fit r r m m1 t t1 (record { answer = Declined d; points = 0 })
+    joint-unscaled d e = record { told = λ x M st f. joint-declined (G x) M phi fit o c (row (inversePlace q) (q * q) m1) (all-scale x M st) f d e; few = omega arith; frame = all-frame }
+
+    pub joint-scaled : (r2 m2 t2 : List Float) (a : GroupSum) (b : Quadrature) → sizeOf o ^ q ≤ 7000 → c ≡ Scaled → SumLeft G (jointTerms phi o (row (inversePlace q) (q * q) m1)) n p q (sizeOf o ^ q) r r2 m1 m2 t1 t2 a → b ≡ jointAnswer a o fit
+        → StepLeft G (jointRule phi o) n p q fit r r2 m m2 t t2 b
+    unfolding jointAnswer
+    joint-scaled r2 m2 t2 a b few e left eb =
+        record {
+          told = λ x M st f.
+              let st' : Stands (G x) M r m1 = stands-kept (G x) M r r m m1 t t1 (rw eq at lent) (rw eq at all-frame) st in
+              rw eb (joint-told (G x) M phi fit o c (row (inversePlace q) (q * q) m1) (all-scale x M st) f a e (left .told x M st' ∙ ap (λ (z : ℕ). groupSumOf (build (jointTerm (G x) M phi o (row (inversePlace q) (q * q) m1)) (sizeOf o ^ z))) eq));
+          few = omega (arith, few, left .many, ap (λ (z : Quadrature). z .points) eb);
+          frame = frame-trans all-frame (left .frame);
+        }

@@ -1,0 +1,168 @@
+// The product rule.
+use crate::blocks::several_group;
+use crate::one::one_group;
+use crate::sums::GroupSum;
+use crate::sums::Quadrature;
+use crate::sums::Summed;
+use agq_rule::Integral;
+use family::CarriedFamily;
+use family::CarriedLink;
+use model::Shape;
+use quadrature::Order;
+ghost use mathlib.Core.Path.{_≡_};
+ghost use Prim.Native.Nat.{_+_, _*_, _^_, _≤_};
+ghost use Rattle.stored.specs.Stored.{sparse};
+ghost use Rattle.quadrature.specs.Orders.{sizeOf};
+ghost use Rattle.groups.specs.Stands.{Roomy, givenWith};
+ghost use Rattle.groups.specs.Summed.{Grouped, GroupLeft, StepLeft};
+ghost use Rattle.groups.specs.Rules.{groupRule, productRule};
+
+// The log sum of group g of k effects.
+fn group(
+    family: CarriedFamily,
+    link: CarriedLink,
+    shape: Shape,
+    theta: &[f64],
+    starts: &[usize],
+    columns: &[usize],
+    values: &[f64],
+    y: &[f64],
+    weights: &[f64],
+    offset: &[f64],
+    n: usize,
+    p: usize,
+    q: usize,
+    order: Order,
+    k: usize,
+    g: usize,
+    phi: f64,
+    r: &mut [f64],
+    m: &mut [f64],
+    t: &mut [f64],
+) -> GroupSum
+    requires { ⌜ Roomy n p q shape (now theta) (now starts) (now columns) (now values) (now offset) (now y) (now r) (now m) (now t) ⌝ }
+    requires { ⌜ (g * k + k ≤ q) × ((k ≡ 1 → ⊥) → sizeOf order ^ k ≤ 400) ⌝ }
+    ensures { λ a. ⌜ GroupLeft (givenWith family link shape (now (theta .entry)) (sparse (now (starts .entry)) (now (columns .entry)) (now (values .entry))) (now (y .entry)) (now (weights .entry)) (now (offset .entry)) n p) (groupRule phi order k g) n p q (sizeOf order ^ k) (now (r .entry)) (now (r .exit)) (now (m .entry)) (now (m .exit)) (now (t .entry)) (now (t .exit)) a ⌝ }
+{
+    if k == 1 {
+        return one_group(
+            family,
+            link,
+            shape,
+            theta,
+            starts,
+            columns,
+            values,
+            y,
+            weights,
+            offset,
+            n,
+            p,
+            q,
+            order,
+            g,
+            phi,
+            r,
+            m,
+            t,
+        );
+    }
+    let s = g * k;
+    several_group(
+        family,
+        link,
+        shape,
+        theta,
+        starts,
+        columns,
+        values,
+        y,
+        weights,
+        offset,
+        n,
+        p,
+        q,
+        order,
+        s,
+        k,
+        phi,
+        r,
+        m,
+        t,
+    )
+}
+
+// All groups of k effects: the fit term with -2·log sum of each added, or why there is none.
+pub fn product_step(
+    family: CarriedFamily,
+    link: CarriedLink,
+    shape: Shape,
+    theta: &[f64],
+    starts: &[usize],
+    columns: &[usize],
+    values: &[f64],
+    y: &[f64],
+    weights: &[f64],
+    offset: &[f64],
+    n: usize,
+    p: usize,
+    q: usize,
+    order: Order,
+    groups: usize,
+    k: usize,
+    phi: f64,
+    fit: f64,
+    r: &mut [f64],
+    m: &mut [f64],
+    t: &mut [f64],
+) -> Quadrature
+    requires { ⌜ Roomy n p q shape (now theta) (now starts) (now columns) (now values) (now offset) (now y) (now r) (now m) (now t) ⌝ }
+    requires { ⌜ Grouped q groups k order ⌝ }
+    ensures { λ a. ⌜ StepLeft (givenWith family link shape (now (theta .entry)) (sparse (now (starts .entry)) (now (columns .entry)) (now (values .entry))) (now (y .entry)) (now (weights .entry)) (now (offset .entry)) n p) (productRule phi order k groups) n p q fit (now (r .entry)) (now (r .exit)) (now (m .entry)) (now (m .exit)) (now (t .entry)) (now (t .exit)) a ⌝ }
+{
+    let mut total = 0.0;
+    let mut points = 0;
+    let mut g = 0;
+    while g < groups {
+        let a = group(
+            family,
+            link,
+            shape,
+            theta,
+            starts,
+            columns,
+            values,
+            y,
+            weights,
+            offset,
+            n,
+            p,
+            q,
+            order,
+            k,
+            g,
+            phi,
+            r,
+            m,
+            t,
+        );
+        points += a.points;
+        let sum = a.sum;
+        match sum {
+            Summed::NoSum(d) => {
+                return Quadrature {
+                    answer: Integral::Declined(d),
+                    points,
+                };
+            }
+            Summed::Sum(s) => {
+                total = total + -2.0 * s;
+            }
+        }
+        g += 1;
+    }
+    Quadrature {
+        answer: Integral::Deviance(fit + total, order),
+        points,
+    }
+}

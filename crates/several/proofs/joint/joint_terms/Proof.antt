@@ -1,0 +1,119 @@
+-- `several::joint_terms` meets its contract: before point i the first i terms are written, and û, whose squares are summed once, stands as it stood.
+use mathlib.Core.Path.{_≡_, refl}
+use Prim.Native.Nat.{_*_, _-_, _≤_}
+use native.Mathlib.Omega.{arith}
+use borrow.Author.Needs.{needs}
+use Rattle.base.specs.Sum.{dotOf}
+use Rattle.base.specs.Rows.{row}
+use Rattle.base.proofs.Rows.{part-is}
+use Rattle.stored.specs.Stored.{sparse}
+use Rattle.several.specs.Several.{gainIn, jointTermIn, TermsIn}
+use Rattle.several.proofs.Trials.{room-kept, grid-kept}
+use Rattle.several.proofs.Turns.{terms-none, terms-end, terms-length, joint-turn, hats-of}
+use Rattle.several.proofs.joint.joint_terms.Statement.{statement}
+use Rattle.several.proofs.joint.joint_terms.Tie as tie
+
+abbrev Inv-loop : tie.InvT-loop
+Inv-loop family link shape theta starts columns values y weights offset n q xbeta r₀ nodes node-weights size count inv-phi l u trial m₀ terms₀ end hats i₀ r m terms i = (i ≤ count) × (hats ≡ dotOf q (row u q m₀) (row u q m₀)) × (TermsIn (jointTermIn (gainIn family link shape theta (sparse starts columns values) y weights offset n q xbeta r₀) q inv-phi nodes node-weights size (row l (q * q) m₀) (row u q m₀)) n q xbeta trial i r₀ r m₀ m terms₀ terms)
+
+abbrev μ-loop : tie.MeasureT-loop
+μ-loop family link shape theta starts columns values y weights offset n q xbeta r₀ nodes node-weights size count inv-phi l u trial m₀ terms₀ end hats i₀ r m terms i = count - i
+
+add-end : tie.Need-add-end Inv-loop μ-loop
+add-end c = omega (arith, c .before .before .before .before .before .before .before .before .before .before .before .before .good .1 .1 .1 .1 .1 .1 .1 .1 .1 .1 .1 .1 .1 .1 .1 .1 .1 .1 .1 .1 .1 .1 .0, c .before .before .before .before .before .before .before .before .before .before .before .before .pre .1 .0 .in-m, c .before .before .before .before .before .before .before .before .before .before .before .before .pre .1 .0 .hats)
+
+mul-dot : tie.Need-mul-dot Inv-loop μ-loop
+mul-dot c = omega (arith, c .before .before .before .before .before .before .before .before .before .before .before .before .good .1 .1 .1 .1 .1 .1 .1 .1 .1 .1 .1 .1 .1 .1 .1 .1 .1 .1 .1 .1 .1 .1 .0, c .before .before .before .before .before .before .before .before .before .before .before .before .pre .1 .0 .in-m, c .before .before .before .before .before .before .before .before .before .before .before .before .pre .1 .0 .hats)
+
+sub-dot : tie.Need-sub-dot Inv-loop μ-loop
+sub-dot c = search needs
+
+part-dot-start : tie.Need-part-dot-start Inv-loop μ-loop
+part-dot-start c = search needs
+
+part-dot-end : tie.Need-part-dot-end Inv-loop μ-loop
+part-dot-end c = omega (arith, c .before .before .before .before .before .before .before .before .before .before .before .before .before .pre .1 .0 .in-m, c .before .before .before .before .before .before .before .before .before .before .before .before .before .pre .1 .0 .hats)
+
+mul-dot-2 : tie.Need-mul-dot-2 Inv-loop μ-loop
+mul-dot-2 c = omega (arith, c .before .before .before .before .before .before .before .before .before .before .before .before .before .before .good .1 .1 .1 .1 .1 .1 .1 .1 .1 .1 .1 .1 .1 .1 .1 .1 .1 .1 .1 .1 .1 .1 .0, c .before .before .before .before .before .before .before .before .before .before .before .before .before .before .pre .1 .0 .in-m, c .before .before .before .before .before .before .before .before .before .before .before .before .before .before .pre .1 .0 .hats)
+
+sub-dot-2 : tie.Need-sub-dot-2 Inv-loop μ-loop
+sub-dot-2 c = search needs
+
+part-dot-start-2 : tie.Need-part-dot-start-2 Inv-loop μ-loop
+part-dot-start-2 c = search needs
+
+part-dot-end-2 : tie.Need-part-dot-end-2 Inv-loop μ-loop
+part-dot-end-2 c = omega (arith, c .before .before .before .before .before .before .before .before .before .before .before .before .before .before .pre .1 .0 .in-m, c .before .before .before .before .before .before .before .before .before .before .before .before .before .before .pre .1 .0 .hats)
+
+dot-requires : tie.Need-dot-requires Inv-loop μ-loop
+dot-requires c κs = search needs
+
+loop-holds : tie.Need-loop-holds Inv-loop μ-loop
+loop-holds c =
+    let a = c .before .before .before .before .before .before .before .before .before .before .before .before .before .before .before .before .args in
+    (omega arith, hats-of (a .u) (a .q) (a .m .now) _ _ (part-is (a .u) (a .q) _ _ refl) (c .dot .ensures), terms-none)
+
+joint-point-requires : tie.Need-joint-point-requires Inv-loop μ-loop
+joint-point-requires c κs =
+    let a = c .before .before .before .before .before .before .before .before .before .before .before .before .before .before .before .before .before .before .before .before .args in
+    let at = c .before .before .before .loop in
+    (room-kept (a .shape) (a .theta .now) (a .starts .now) (a .columns .now) (a .values .now) (a .y .now) (a .offset .now) (a .n) (a .q) (a .xbeta) (a .r .now) (at .r) (a .trial) (a .m .now) (at .m) (at .inv .2 .in-r .len) (at .inv .2 .in-m .len) (c .before .before .before .before .before .before .before .before .before .before .before .before .before .before .before .before .before .before .before .before .pre .0), (grid-kept (a .q) 0 (a .q) (a .size) (a .l) (a .u) (a .trial) (a .nodes .now) (a .m .now) (at .m) (at .inv .2 .in-m .len) (c .before .before .before .before .before .before .before .before .before .before .before .before .before .before .before .before .before .before .before .before .pre .1 .0), c .before .before .before .before .before .before .before .before .before .before .before .before .before .before .before .before .before .before .before .before .pre .1 .1 .0))
+
+mul-terms : tie.Need-mul-terms Inv-loop μ-loop
+mul-terms c = omega (arith, c .before .before .before .before .before .before .before .before .before .before .before .before .before .before .before .before .before .before .before .before .before .before .before .before .before .good .1 .1 .1 .1 .1 .1 .1 .1 .1 .1 .1 .1 .1 .1 .1 .1 .1 .1 .1 .1 .1 .1 .1 .0, c .before .before .before .before .before .before .before .loop-test .taken, c .before .before .before .before .before .before .before .before .before .before .before .before .before .before .before .before .before .before .before .before .before .before .before .before .before .pre .1 .1 .1)
+
+slice-write-terms : tie.Need-slice-write-terms Inv-loop μ-loop
+slice-write-terms c = omega (arith, c .before .before .before .before .before .before .before .loop-test .taken, c .before .before .before .before .before .before .before .before .before .before .before .before .before .before .before .before .before .before .before .before .before .before .before .before .before .pre .1 .1 .1, terms-length (c .before .before .before .before .before .before .before .before .loop .inv .2))
+
+add-i : tie.Need-add-i Inv-loop μ-loop
+add-i c = omega (arith, c .before .before .before .before .before .before .before .before .before .before .before .before .before .before .before .before .before .before .before .before .before .before .before .before .before .good .1 .1 .1 .1 .1 .1 .1 .1 .1 .1 .1 .1 .1 .1 .1 .1 .1 .1 .1 .1 .1 .1 .1 .0, c .before .before .before .before .before .before .before .loop-test .taken, c .before .before .before .before .before .before .before .before .before .before .before .before .before .before .before .before .before .before .before .before .before .before .before .before .before .pre .1 .1 .1)
+
+loop-less : tie.Need-loop-less Inv-loop μ-loop
+loop-less c = omega (arith, c .before .before .before .before .before .before .before .loop-test .taken)
+
+loop-again : tie.Need-loop-again Inv-loop μ-loop
+loop-again c =
+    let a = c .before .before .before .before .before .before .before .before .before .before .before .before .before .before .before .before .before .before .before .before .before .before .before .before .before .args in
+    let at = c .before .before .before .before .before .before .before .before .loop in
+    (omega (arith, c .before .before .before .before .before .before .before .loop-test .taken), at .inv .1, joint-turn (a .family) (a .link) (a .shape) (a .theta .now) (sparse (a .starts .now) (a .columns .now) (a .values .now)) (a .y .now) (a .weights .now) (a .offset .now) (a .n) (a .q) (a .xbeta) (a .r .now) (at .r) (c .before .before .before .before .before .before .before .before .before .before .before .before .before .before .before .before .before .before .before .before .before .before .before .before .before .pre .0 .in-r) (a .size) (a .l) (a .u) (a .trial) (a .nodes .now) (a .node-weights .now) (a .inv-phi) (a .m .now) (at .m) (a .terms .now) (at .terms) (at .i) _ (c .before .before .before .before .before .before .before .before .before .before .before .before .before .before .before .before .before .before .before .before .before .before .before .before .before .pre .1 .0) (at .inv .1) (at .inv .2) _ _ _ (c .before .before .before .before .joint-point .ensures))
+
+same-length : tie.Need-same-length Inv-loop μ-loop
+same-length c = c .before .loop .inv .2 .in-r .len
+
+same-length-2 : tie.Need-same-length-2 Inv-loop μ-loop
+same-length-2 c = c .before .loop .inv .2 .in-m .len
+
+same-length-3 : tie.Need-same-length-3 Inv-loop μ-loop
+same-length-3 c = terms-length (c .before .loop .inv .2)
+
+returns : tie.Need-returns Inv-loop μ-loop
+returns c = terms-end (c .before .loop .inv .2) (c .before .loop .inv .0) (omega arith)
+
+pub joint-terms-spec : {M : Type 1} → statement M
+joint-terms-spec =
+    tie.close
+    (tie.spec
+    Inv-loop
+    μ-loop
+    add-end
+    mul-dot
+    sub-dot
+    part-dot-start
+    part-dot-end
+    mul-dot-2
+    sub-dot-2
+    part-dot-start-2
+    part-dot-end-2
+    dot-requires
+    loop-holds
+    joint-point-requires
+    mul-terms
+    slice-write-terms
+    add-i
+    loop-less
+    loop-again
+    same-length
+    same-length-2
+    same-length-3
+    returns)
