@@ -1,0 +1,172 @@
+#!/usr/bin/env python3
+"""usage: fit.py > crates/cases_fit/stdout
+What `cases_fit` must print: document 01's table of refusals (table.py) asked the same calls, then its fit in Python's doubles (tools/glmm/fit.py).
+Stops where the oracle (tools/oracle) answers other bits, where a number of the table is not given, or where a quadrature declines for another cause
+than the case is for. Every call leaves +0.0 in the named lengths of the work slices, or all of them as lent."""
+import sys
+
+sys.dont_write_bytecode = True
+from pirls import hexes
+from rule import answer
+from table import RESULTS, TABLE
+import fit
+from form import job_bytes
+from reader import read
+
+NAN, INF, NONE = float("nan"), float("inf"), 61
+ONES, SLOPES = [1.0] * 4, [0.3, -0.7, 1.1, 0.2]
+X = [1.0, 0.3, 1.0, -0.7, 1.0, 1.1, 1.0, 0.2]
+NUMBERS = [*ONES, *SLOPES, *ONES, *ONES, *X, 1.0, 3.0, 0.0, 5.0, 0.25, 0.5, 0.0, 1.0, 4.0, 2.0, 3.0, 1.0, 0.1, 0.2, -0.3, 0.0, 1.5, -0.25, 3.0, 0.75, 0.5, 0.75, 0.4, 1.25,
+           0.7, 0.8, 0.3, 0.6, 1e9, 1e9, 3e8, 1e9, 7e8, 3e8, 1e200, NAN, INF]
+ROWS = [[0, 2, 4], [0, 4, 8, 10, 12], [0, 4, 8, 8, 8, 8, 8], [0, 4, 4, 4, 4, 4, 4, 4, 4, 8], [0, 2, 1, 3], [0, 1, 2, 3, 0, 1, 2, 3, 0, 2, 0, 2],
+        [0, 1, 2, 3, 0, 1, 2, 3, 0, 2, 1, 3], [0, 2, 1, 4], [2, 0, 1, 3]]
+INPUTS = ["theta", "y", "weights", "offset", "x", "starts", "columns", "values"]
+WORK = ["rows", "matrices", "terms"]
+given, declines = set(), []
+
+
+def padded(row):
+    """A row of the program has twelve numbers; it fills with the last start, or with 0."""
+    row = ROWS[row]
+    return [*row, *[row[-1] if len(row) in (3, 5, 7, 10) else 0] * (12 - len(row))]
+
+
+def long(theta, weights, offset, x, starts, entries, p, q):
+    work = [64, 3 * q * q + 4 * p * p + 2 * q * p + 12 * (q + p), 7000]
+    return [theta, 4, weights, offset, x, starts, entries, entries, p, p, p, q, q, 4, 4, 4, p * p, *work]
+
+
+def asked(settings, places, lengths):
+    """The call as table.py takes it."""
+    lists = [*(NUMBERS[at:at + n] for at, n in zip(places, lengths[:5])), padded(places[6])[:lengths[5]], padded(places[7])[:lengths[6]], NUMBERS[places[5]:places[5] + lengths[7]]]
+    assert [len(xs) for xs in lists] == lengths[:8]
+    return settings | dict(zip(INPUTS, lists)) | dict(zip(RESULTS, lengths[8:17])) | {"work_" + name: n for name, n in zip(WORK, lengths[17:])}
+
+
+def job_of(c):
+    rows = [[[column, value] for column, value in zip(c["columns"][a:b], c["values"][a:b])] for a, b in zip(c["starts"], c["starts"][1:])]
+    x = [c["x"][i * c["p"]:(i + 1) * c["p"]] for i in range(c["n"])]
+    return {"family": c["family"], "link": c["link"], "n_agq": c["n_agq"], "limit": c["limit"], "blocks": [{"m": m, "k": k} for m, k in c["blocks"]], "theta": c["theta"], "y": c["y"],
+            "weights": c["weights"] or None, "offset": c["offset"] or None, "x": x, "zt": rows}
+
+
+def fitted(c):
+    """What the fit answers, after a look at the oracle's answer."""
+    number, order, flag, iterations, account, results = fit.call(read(job_bytes(job_of(c))))
+    end, vectors = answer(job_of(c))
+    assert end == {"end": number, "order": order, "disp": flag, "iters": iterations, **vars(account)}, (c, end)
+    assert vectors == {name: hexes(values) for name, values in results.items()}, c
+    return number, [order, flag, iterations, account.fits, account.solves, account.tries, account.points], results
+
+
+def told(word, number, counts, results, wiped):
+    named = zip(["order", "disp", "iters", "fits", "solves", "tries", "points"], counts)
+    deviance, phi = (hexes(results[name])[0] if results else "0" * 16 for name in ("deviance", "phi"))
+    print(word + ":", number, *(f"{name} {count}" for name, count in named), "deviance", deviance, "phi", phi)
+    for name in RESULTS:
+        print(*[name, *hexes(results[name])] if results else [name + " as lent;"], end="\n" if results else " ")
+    print("; ".join(f"{name} wiped {n}" if wiped else f"{name} as lent" for name, n in zip(WORK, wiped or [0] * 3)))
+
+
+def run(word, family, link, n_agq, blocks, places, lengths, p=2, q=2, entries=4, n=4, limit=None, cause=None):
+    settings = dict(family=family, link=link, n_agq=n_agq, limit=limit, n=n, p=p, rows=q, entries=entries, blocks=blocks)
+    c = asked(settings, places, lengths)
+    refusal = next((number for number, good in TABLE if not good(c)), None)
+    if refusal:
+        given.add(refusal)
+        return told(word, refusal, [0] * 7, None, None)
+    declines.clear()
+    number, counts, results = fitted(c)
+    assert set(declines) == ({cause} if cause else set()), (word, declines)
+    given.add(number)
+    told(word, number, counts, results, long(0, 0, 0, 0, 0, 0, p, q)[17:])
+
+
+def group_lengths(weights, offset):
+    return long(1, weights, offset, 8, 3, 4, 2, 2)
+
+
+def groups(word, family, link, n_agq, y, weights=NONE, offset=NONE, theta=48, x=16, **others):
+    lengths = group_lengths(0 if weights == NONE else 4, 0 if offset == NONE else 4)
+    run(word, family, link, n_agq, [(2, 1)], [theta, y, weights, offset, x, 8, 0, 4], lengths, **others)
+
+
+def effects(word, link, n_agq, blocks, theta, starts, columns, cause=None):
+    """One column of X."""
+    q, numbers = sum(m * k for m, k in blocks), sum(k * (k + 1) // 2 for _, k in blocks)
+    entries = ROWS[starts][q]
+    run(word, "poisson", link, n_agq, blocks, [theta, 24, NONE, NONE, 0, 0, starts, columns], long(numbers, 0, 0, 4, q + 1, entries, 1, q), 1, q, entries, cause=cause)
+
+
+def good(word, places={}, lengths={}, **sizes):
+    """The call whose faults are tried."""
+    every_place, every_length = [48, 28, 32, 36, 16, 8, 0, 4], group_lengths(4, 4)
+    run(word, "binomial", "logit", 3, [(2, 1)], [places.get(i, at) for i, at in enumerate(every_place)], [lengths.get(i, n) for i, n in enumerate(every_length)], **sizes)
+
+
+def laplace():
+    groups("log", "poisson", "log", 1, 24)
+    groups("identity", "poisson", "identity", 0, 32, offset=36)
+    groups("sqrt", "poisson", "sqrt", 1, 24, offset=36)
+    groups("logit", "binomial", "logit", 1, 28, 32)
+    groups("cloglog", "binomial", "cloglog", 1, 28, 32, 36)
+    groups("Gaussian", "gaussian", "identity", 1, 40, 32, 36)
+    groups("Gaussian log", "gaussian", "log", 1, 44)
+    groups("inverse", "gaussian", "inverse", 1, 44)
+    groups("unsettled", "gaussian", "identity", 1, 25)
+    groups("unsettled log", "gaussian", "log", 1, 22)
+
+
+def quadrature():
+    groups("order 3", "poisson", "log", 2, 24)
+    groups("order 11", "binomial", "logit", 31, 28, 32, 36)
+    groups("order 5", "gaussian", "identity", 4, 40, 32, 36)
+    effects("effects 7", "log", 7, [(1, 2)], 48, 1, 5)
+    effects("effects 11", "sqrt", 12, [(1, 2)], 48, 1, 5)
+    effects("pairs", "log", 3, [(2, 2)], 48, 1, 5)
+    effects("joint 3", "log", 3, [(1, 2), (2, 1)], 48, 1, 6)
+    effects("joint 9", "sqrt", 11, [(1, 2), (2, 1)], 48, 1, 6)
+    effects("nine", "log", 3, [(8, 1), (1, 1)], 48, 3, 5)
+    effects("six", "log", 3, [(1, 6)], 0, 2, 5)
+    groups("sum", "binomial", "logit", 3, 24, cause="log sum")
+    effects("Inverse", "sqrt", 3, [(2, 2)], 52, 1, 5, "inverse")
+    effects("Factor", "sqrt", 3, [(2, 2)], 55, 1, 5, "factor")
+
+
+def ends():
+    groups("theta", "poisson", "log", 3, 24, theta=58)
+    groups("columns", "poisson", "log", 3, 24, x=8)
+    groups("offset", "poisson", "identity", 3, 24, offset=55)
+    groups("no rest", "poisson", "sqrt", 3, 26)
+    for limit in [1, 0]:
+        groups(f"limit {limit}", "poisson", "log", 3, 24, limit=limit)
+
+
+def refusals():
+    for n, p, q, entries in [(0, 2, 2, 4), (513, 2, 2, 4), (4, 0, 2, 4), (4, 17, 2, 4), (4, 2, 3, 4), (4, 2, 2, 8193)]:
+        good("sizes", n=n, p=p, q=q, entries=entries)
+    groups("limit 1001", "poisson", "log", 3, 24, limit=1001)
+    for i, n in enumerate(group_lengths(4, 4)):
+        for other in [n - 1, n + 1]:
+            good(f"slice {i} of {other}", lengths={i: other})
+    for i, at in [(6, 1), (6, 8), (7, 7), (7, 8), (0, 59), (1, 57), (2, 56), (3, 57), (4, 53), (5, 57)]:
+        good(f"list {i} at {at}", {i: at})
+    groups("logit", "poisson", "logit", 3, 24)
+    groups("sqrt", "gaussian", "sqrt", 3, 40)
+    groups("probit", "binomial", "probit", 3, 28)
+    groups("Gamma", "gamma", "log", 3, 44)
+
+
+class Declined(Exception):
+    """As fit.Declined, noted."""
+
+    def __init__(self, cause):
+        declines.append(cause)
+
+
+fit.Declined = Declined
+laplace()
+quadrature()
+ends()
+refusals()
+assert given == {*range(8), *range(10, 14)}
