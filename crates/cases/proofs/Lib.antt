@@ -1,0 +1,2 @@
+-- The thirteen cases, proved. Assumes nothing.
+pub mod Table
