@@ -41,7 +41,7 @@ pub from-front : {p : List ℕ} {r : ℕ} {b w : List ℕ} → Appended p 0 b r 
 from-front x = (x .ends ∙ omega arith, x .text)
 
 -- a pair's text is at most 21 bytes longer than its name
-pair-few : (w : List ℕ) (n : ℕ) → length (pairText w n) ≤ length w + 21
+pub pair-few : (w : List ℕ) (n : ℕ) → length (pairText w n) ≤ length w + 21
 unfolding pairText
 pair-few w n = omega (arith, length-append w (32 ∷ decimalOf n), decimal-few n)
 

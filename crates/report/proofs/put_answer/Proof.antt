@@ -1,0 +1,50 @@
+-- `report::put_answer` meets its contract: the number tells which text is written. Assumes nothing.
+use borrow.Author.Tests.{eq-eqb, ne-eqb, lt-ltb, le-ltb}
+use Rattle.report.specs.Report.{answerText}
+use borrow.Author.Needs.{needs}
+use Rattle.report.proofs.put_answer.Statement.{statement}
+use Rattle.report.proofs.put_answer.Tie as tie
+
+put-fitted-requires : tie.Need-put-fitted-requires
+put-fitted-requires c κs = search needs
+
+same-length : tie.Need-same-length
+same-length c = search needs
+
+returns : tie.Need-returns
+unfolding answerText
+returns c = rw (eq-eqb (c .before .before .before .before .before .before .before .before .before .before .before .before .before .before .before .args .answer .number) 0 (c .before .before .before .before .if1 .taken)) (c .before .before .put-fitted .ensures)
+
+refused-line-requires : tie.Need-refused-line-requires
+refused-line-requires c κs = search needs
+
+same-length-2 : tie.Need-same-length-2
+same-length-2 c = search needs
+
+returns-2 : tie.Need-returns-2
+unfolding answerText
+returns-2 c = let n = c .before .before .before .before .before .before .before .before .before .before .before .before .before .before .before .before .args .answer .number in rw (ne-eqb n 0 (c .before .before .before .before .before .if1 .left), lt-ltb n 10 (c .before .before .before .before .if2 .taken)) (c .before .before .refused-line .ensures)
+
+end-line-requires : tie.Need-end-line-requires
+end-line-requires c κs = search needs
+
+same-length-3 : tie.Need-same-length-3
+same-length-3 c = search needs
+
+returns-3 : tie.Need-returns-3
+unfolding answerText
+returns-3 c = let n = c .before .before .before .before .before .before .before .before .before .before .before .before .before .before .before .before .args .answer .number in rw (ne-eqb n 0 (c .before .before .before .before .before .if1 .left), le-ltb n 10 (c .before .before .before .before .if2 .left)) (c .before .before .end-line .ensures)
+
+pub put-answer-spec : {M : Type 1} → statement M
+put-answer-spec =
+    tie.close
+    (tie.spec
+    put-fitted-requires
+    same-length
+    returns
+    refused-line-requires
+    same-length-2
+    returns-2
+    end-line-requires
+    same-length-3
+    returns-3)
