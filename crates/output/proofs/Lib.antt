@@ -1,0 +1,4 @@
+-- What follows from the definition of the output. Assumes nothing.
+pub mod Long
+pub mod CaseJ
+pub mod Unique
