@@ -7,3 +7,4 @@ pub mod Rows
 pub mod SoundParts
 pub mod Back
 pub mod CaseJ
+pub mod Said
