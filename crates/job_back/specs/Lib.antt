@@ -1,0 +1,2 @@
+-- Which calls the format can say. Assumes nothing.
+pub mod Sayable
