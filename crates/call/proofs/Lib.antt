@@ -2,4 +2,5 @@
 pub mod Leaves
 pub mod Higher
 pub mod Capped
+pub mod Told
 pub mod Unique
