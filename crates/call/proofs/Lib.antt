@@ -3,4 +3,5 @@ pub mod Leaves
 pub mod Higher
 pub mod Capped
 pub mod CappedBy
+pub mod Told
 pub mod Unique

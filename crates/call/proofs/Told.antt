@@ -1,0 +1,81 @@
+-- What a fit reports: the phi is the one that its last inner fit ran with, and a flag that is false tells of 241 inner fits. Assumes nothing.
+use mathlib.Core.Path.{_≡_, refl, sym, ap, _∙_}
+use mathlib.Core.Bool.{Bool, true, false}
+use mathlib.Core.List.{List}
+use Prim.Native.Nat.{ℕ, _≤_}
+use native.Mathlib.Omega.{arith}
+use lib.Ieee.{Float}
+use Rattle.base.specs.Number.{oneF}
+use Rattle.base.proofs.Doubles.{ff}
+use Rattle.model.specs.Caps.{innerCapOf}
+use Rattle.model.specs.Items.{Item, isFit, countOf, tally}
+use Rattle.model.proofs.Tallies.{count-append}
+use Rattle.family.specs.Family.{usesDispersion}
+use Rattle.rule.specs.Given.{Given, nOf}
+use Rattle.rule.specs.Run.{Ending, stopped, failed, itemsBefore, startMeans, runOf}
+use Rattle.agq_rule.specs.Steps.{quadratureOf}
+use Rattle.agq_rule.specs.Inner.{withPoints, afterRun, innerWith, innerOf}
+use Rattle.agq_rule.proofs.Caps.{inner-capped}
+use Rattle.dispersion.specs.Phi.{effectiveN}
+use Rattle.dispersion.specs.Rounds.{Result, result, noResult, Total, Dispersed, withFlag, lastFit, dispersionOf, fixedOf}
+use Rattle.dispersion.proofs.Turns.{isResult}
+use Rattle.dispersion.proofs.Reported.{phi-ran, unsettled-241}
+use Rattle.call.specs.Fit.{Fitted, sumOf, totalOf, innerAt, fitBy, fitOf}
+
+-- ---- an inner fit counts itself once
+run-counts : (G : Given) (phi : Float) (L : ℕ) (mu : List Float) → 1 ≤ countOf isFit (runOf G phi L mu .items)
+unfolding runOf itemsBefore countOf
+run-counts G phi L mu = omega arith
+
+points-after : (x : Ending) (G : Given) (wish : ℕ) (phi : Float) (is : List Item) → countOf isFit is ≤ countOf isFit (afterRun x G wish phi is .items)
+unfolding afterRun withPoints
+points-after (failed e) G wish phi is = omega arith
+points-after (stopped M) G wish phi is = omega (arith, count-append isFit is (quadratureOf G wish M phi .items))
+
+pub inner-counts : (G : Given) (wish L : ℕ) (phi : Float) → countOf isFit (innerAt G wish L phi .items) ≡ 1
+unfolding innerAt totalOf innerOf innerWith tally innerCapOf
+inner-counts G wish L phi =
+    let mu = startMeans G in
+    omega (arith, run-counts G phi L mu, points-after (runOf G phi L mu .ending) G wish phi (runOf G phi L mu .items), inner-capped G wish phi L mu .fits)
+
+-- ---- the one fit without dispersion
+-- the flag of a result, true where there is none
+abbrev flagIn : {F : Type 0} → Result (Dispersed F) → Bool
+flagIn (result d) = d .converged
+flagIn (noResult e) = true
+
+fixed-flag : {F : Type 0} (phi : Float) (x : Result F) → flagIn (withFlag true phi x) ≡ true
+unfolding withFlag
+fixed-flag phi (result f) = refl
+fixed-flag phi (noResult e) = refl
+
+-- the result, d where there is none
+abbrev resultIn : {F : Type 0} → F → Result F → F
+resultIn f (result g) = g
+resultIn f (noResult e) = f
+
+fixed-ran : {F : Type 0} (inner : Float → Total F) (d : Dispersed F) (x : Result F) → inner oneF .outcome ≡ x → withFlag true oneF x ≡ result d → inner (d .phi) .outcome ≡ result (d .last)
+unfolding withFlag
+fixed-ran inner d (result f) q e = let g : record { last = f; phi = oneF; converged = true } ≡ d = ap (resultIn d) e in rw (← g) q
+fixed-ran inner d (noResult n) q e = absurd (ff (ap isResult e))
+
+module _ (G : Given) (wish L : ℕ) (d : Dispersed Fitted) where
+  by-ran : (b : Bool) → fitBy b G wish L .outcome ≡ result d → innerAt G wish L (d .phi) .outcome ≡ result (d .last)
+  unfolding fitBy dispersionOf fixedOf lastFit
+  by-ran true e = phi-ran (effectiveN (nOf G) (G .weights)) sumOf (innerAt G wish L) d 240 oneF e
+  by-ran false e = fixed-ran (innerAt G wish L) d (innerAt G wish L oneF .outcome) refl e
+
+  by-all : (b : Bool) → fitBy b G wish L .outcome ≡ result d → d .converged ≡ false → countOf isFit (fitBy b G wish L .items) ≡ 241
+  unfolding fitBy fixedOf lastFit
+  by-all true e u = unsettled-241 (effectiveN (nOf G) (G .weights)) sumOf (innerAt G wish L) isFit d (inner-counts G wish L) u e
+  by-all false e u = absurd (ff (sym u ∙ (sym (ap flagIn e) ∙ fixed-flag oneF (innerAt G wish L oneF .outcome))))
+
+  -- at the phi that is reported the inner fit comes to what is reported
+  pub fit-ran : fitOf G wish L .outcome ≡ result d → innerAt G wish L (d .phi) .outcome ≡ result (d .last)
+  unfolding fitOf
+  fit-ran e = by-ran (usesDispersion (G .family)) e
+
+  -- a flag that is false tells of 241 inner fits
+  pub flag-all : fitOf G wish L .outcome ≡ result d → d .converged ≡ false → tally (fitOf G wish L .items) .fits ≡ 241
+  unfolding fitOf tally
+  flag-all e u = by-all (usesDispersion (G .family)) e u
