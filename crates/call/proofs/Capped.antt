@@ -30,7 +30,7 @@ use Rattle.call.specs.Call.{Lent, lengthsOf, callGiven, callOf}
 use Rattle.call.proofs.Leaves.{refused-left, accepted-account}
 
 -- the caps of an inner fit are within those of a call
-one-fit : AtMost callCap innerCap
+pub one-fit : AtMost callCap innerCap
 one-fit = record { fits = omega arith; solves = omega arith; tries = omega arith; points = omega arith }
 
 none-capped : Capped noCounts
