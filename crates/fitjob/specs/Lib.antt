@@ -1,0 +1,2 @@
+-- What the program's reading of its input answers. Assumes nothing.
+pub mod Input

@@ -1,0 +1,54 @@
+-- `respond::respond` meets its contract: its arrays have room for any job. Assumes nothing.
+use Rattle.respond.proofs.Fresh.{fresh-room}
+use borrow.Author.Needs.{needs}
+use Rattle.respond.proofs.whole.respond.Statement.{statement}
+use Rattle.respond.proofs.whole.respond.Tie as tie
+
+slice-aggregate-respond-with : tie.Need-slice-aggregate-respond-with
+slice-aggregate-respond-with c = search needs
+
+slice-aggregate-respond-with-2 : tie.Need-slice-aggregate-respond-with-2
+slice-aggregate-respond-with-2 c = search needs
+
+slice-aggregate-respond-with-3 : tie.Need-slice-aggregate-respond-with-3
+slice-aggregate-respond-with-3 c = search needs
+
+slice-aggregate-respond-with-4 : tie.Need-slice-aggregate-respond-with-4
+slice-aggregate-respond-with-4 c = search needs
+
+slice-aggregate-respond-with-5 : tie.Need-slice-aggregate-respond-with-5
+slice-aggregate-respond-with-5 c = search needs
+
+slice-aggregate-respond-with-6 : tie.Need-slice-aggregate-respond-with-6
+slice-aggregate-respond-with-6 c = search needs
+
+slice-aggregate-respond-with-7 : tie.Need-slice-aggregate-respond-with-7
+slice-aggregate-respond-with-7 c = search needs
+
+slice-aggregate-respond-with-8 : tie.Need-slice-aggregate-respond-with-8
+slice-aggregate-respond-with-8 c = search needs
+
+respond-with-requires : tie.Need-respond-with-requires
+respond-with-requires c κs = (c .before .before .before .before .before .before .before .before .before .before .before .pre, fresh-room)
+
+same-length : tie.Need-same-length
+same-length c = search needs
+
+returns : tie.Need-returns
+returns c = search needs
+
+pub respond-spec : {M : Type 1} → statement M
+respond-spec =
+    tie.close
+    (tie.spec
+    slice-aggregate-respond-with
+    slice-aggregate-respond-with-2
+    slice-aggregate-respond-with-3
+    slice-aggregate-respond-with-4
+    slice-aggregate-respond-with-5
+    slice-aggregate-respond-with-6
+    slice-aggregate-respond-with-7
+    slice-aggregate-respond-with-8
+    respond-with-requires
+    same-length
+    returns)
