@@ -1,2 +1,2 @@
--- What an accepted job has, for the proof of `fit`. Assumes nothing.
-pub mod Accepted
+-- That lengths are kept, for the proof of `run`. Assumes nothing.
+pub mod Kept

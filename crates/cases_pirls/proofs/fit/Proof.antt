@@ -1,6 +1,7 @@
 -- `cases_pirls::fit` is safe: a job that the table accepts is one that an inner fit may be asked for.
-use mathlib.Core.Path.{refl, sym, _∙_}
-use Rattle.cases_pirls.proofs.Accepted.{accepted-asked}
+use mathlib.Core.Path.{sym, _∙_}
+use Rattle.model.specs.Names.{limitOf}
+use Rattle.call.proofs.Asking.{accepted-asked, accepted-limit}
 use borrow.Author.Needs.{needs}
 use Rattle.cases_pirls.proofs.fit.Statement.{statement}
 use Rattle.cases_pirls.proofs.fit.Tie as tie
@@ -24,7 +25,8 @@ slice-aggregate-run-3 : tie.Need-slice-aggregate-run-3
 slice-aggregate-run-3 c = search needs
 
 run-requires : tie.Need-run-requires
-run-requires c κs = accepted-asked _ _ _ _ _ _ _ _ _ _ _ _ _ _ _ _ _ refl (sym (c .before .before .before .before .before .before .verdict-of .ensures) ∙ c .before .before .before .before .verdict .given .1) (search needs) (search needs) (search needs)
+unfolding limitOf
+run-requires c κs = (accepted-asked _ _ _ _ _ _ _ _ _ _ _ _ _ (sym (c .before .before .before .before .before .before .verdict-of .ensures) ∙ c .before .before .before .before .verdict .given .1) _ _ _ (search needs) (search needs) (search needs), accepted-limit _ _ _ _ _ _ _ _ _ _ _ _ _ (sym (c .before .before .before .before .before .before .verdict-of .ensures) ∙ c .before .before .before .before .verdict .given .1))
 
 enum-known-verdict-2 : tie.Need-enum-known-verdict-2
 enum-known-verdict-2 c = search needs

@@ -1,5 +1,5 @@
 -- `cases_pirls::run` is safe: no call changes how long a work slice is.
-use Rattle.cases_pirls.proofs.Accepted.{asked-kept, results-kept}
+use Rattle.cases_pirls.proofs.Kept.{asked-kept, results-kept}
 use borrow.Author.Needs.{needs}
 use Rattle.cases_pirls.proofs.run.Statement.{statement}
 use Rattle.cases_pirls.proofs.run.Tie as tie
