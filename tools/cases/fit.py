@@ -3,10 +3,9 @@
 What `cases_fit` must print: document 01's table of refusals (table.py) asked the same calls, then its fit in Python's doubles (tools/glmm/fit.py).
 Stops where the oracle (tools/oracle) answers other bits, where a number of the table is not given, or where a quadrature declines for another cause
 than the case is for. Every call leaves +0.0 in the named lengths of the work slices, or all of them as lent."""
-import sys
+import struct, sys
 
 sys.dont_write_bytecode = True
-from pirls import hexes
 from rule import answer
 from table import RESULTS, TABLE
 import fit
@@ -23,6 +22,10 @@ ROWS = [[0, 2, 4], [0, 4, 8, 10, 12], [0, 4, 8, 8, 8, 8, 8], [0, 4, 4, 4, 4, 4, 
 INPUTS = ["theta", "y", "weights", "offset", "x", "starts", "columns", "values"]
 WORK = ["rows", "matrices", "terms"]
 given, declines = set(), []
+
+
+def hexes(values):
+    return [struct.pack(">d", v).hex().upper() for v in values]
 
 
 def padded(row):

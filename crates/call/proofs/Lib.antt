@@ -1,4 +1,5 @@
 -- What follows from the definition of a call. Assumes nothing.
+pub mod Asking
 pub mod Leaves
 pub mod Higher
 pub mod Capped

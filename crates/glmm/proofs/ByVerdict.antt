@@ -1,10 +1,8 @@
 -- What the table's verdict gives: of an accepted call the facts that the fit asks for, and what the call is by each verdict. Assumes nothing.
 use mathlib.Core.Path.{_≡_, refl, sym, _∙_}
 use mathlib.Core.List.{List}
-use mathlib.Core.Logic.{inl, inr, ⊎-elim}
 use Prim.Native.Nat.{ℕ, _*_, _≤_}
 use native.Mathlib.Omega.{arith}
-use lib.ListN.{length}
 use lib.Ieee.{Float}
 use Rattle.model.specs.Answer.{refusedAnswer}
 use Rattle.model.specs.Names.{limitOf}
@@ -12,23 +10,18 @@ use Rattle.model.specs.declared.ends.Answer.{Answer}
 use Rattle.model.specs.declared.ends.Refusal.{Refusal}
 use Rattle.model.specs.declared.sizes.Shape.{Shape}
 use Rattle.model.specs.declared.sizes.Settings.{Settings}
-use Rattle.model.proofs.Sized.{limit-few}
 use Rattle.family.specs.declared.carried.CarriedFamily.{CarriedFamily}
 use Rattle.family.specs.declared.carried.CarriedLink.{CarriedLink}
 use Rattle.iteration.specs.Iterated.{Asked}
 use Rattle.results.specs.Room.{Writable}
 use Rattle.table.specs.Tests.{Inputs, inputs}
-use Rattle.table.specs.Facts.{AbsentOr, Sound}
 use Rattle.table.specs.Table.{tableOf}
 use Rattle.table.specs.declared.verdicts.Verdict.{Verdict}
 use Rattle.table.specs.declared.verdicts.Verdict.the-variants.{Accepted, Refused}
 use Rattle.table.proofs.Accepting.{accepted-sound}
-use Rattle.working.specs.Optional.{Optional}
 use Rattle.call.specs.Fit.{fitOf}
 use Rattle.call.specs.Call.{Lent, lent, lengthsOf, left, callGiven, fitLeft, callBy, callOf}
-
-optional : (n : ℕ) (l : List Float) → AbsentOr n l → Optional n l
-optional n l o = ⊎-elim (λ (a : length l ≡ 0). inl a) (λ (a : length l ≡ n). inr (omega (arith, a))) o
+use Rattle.call.proofs.Asking.{accepted-asked, accepted-limit}
 
 module _ (t : Settings) (s : Shape) (theta y weights offset x : List Float) (starts columns : List ℕ) (values beta se z u b mu eta residual v r m w : List Float) where
   abbrev I : Inputs
@@ -42,28 +35,17 @@ module _ (t : Settings) (s : Shape) (theta y weights offset x : List Float) (sta
     table : tableOf 1 t s I (lengthsOf L) ≡ Accepted f l
     table = sym told ∙ given
 
-    sound : Sound 1 t s I (lengthsOf L) f l
-    sound = accepted-sound 1 t s I (lengthsOf L) f l table
-
     pub call-asked : Asked (t .n) (t .p) (t .rows) s theta starts columns values offset x y r m w
     unfolding lengthsOf
-    call-asked =
-        let a = sound in
-        record {
-          ready = record { good = a .sized .shape; effects = sym (a .sized .effects); numbers = omega (arith, a .inputs-fit .theta); rows = a .rows };
-          lent = record { sizes = a .sized .sizes; rows-long = a .work-fits .rows; matrices-long = a .work-fits .matrices; terms-long = a .work-fits .terms };
-          offset-fits = optional (t .n) offset (a .inputs-fit .offset);
-          x-long = omega (arith, a .inputs-fit .x);
-          y-long = omega (arith, a .inputs-fit .y);
-        }
+    call-asked = accepted-asked t s theta y weights offset x starts columns values (lengthsOf L) f l table r m w refl refl refl
 
     pub call-limit : (k : ℕ) → k ≡ limitOf (t .limit) (t .link) → k ≤ 1000
-    call-limit k e = rw e (limit-few (t .limit) (t .link) (sound .sized .limit))
+    call-limit k e = rw e (accepted-limit t s theta y weights offset x starts columns values (lengthsOf L) f l table)
 
     pub call-writable : Writable (t .n) (t .p) (t .rows) beta se z u b mu eta residual v
     unfolding lengthsOf
     call-writable =
-        let a = sound .results-fit in
+        let a = accepted-sound 1 t s I (lengthsOf L) f l table .results-fit in
         let one : 1 * t .p ≡ t .p = omega arith in
         record {
           beta-long = omega (arith, a .beta);

@@ -1,2 +1,0 @@
--- What an accepted job has, for the proof of `fit`. Assumes nothing.
-pub mod Accepted
