@@ -2,7 +2,6 @@
 use mathlib.Core.Path.{refl, _∙_}
 use Rattle.layout.proofs.LaidOut.{lent-kept}
 use Rattle.columns.proofs.OneColumn.{within, few, placed, column-placed}
-use borrow.Author.Needs.{needs}
 use Rattle.columns.proofs.normals.normal_column.Statement.{statement}
 use Rattle.columns.proofs.normals.normal_column.Tie as tie
 
@@ -91,13 +90,13 @@ side-into-requires c κs =
     (f .column-in, f .working-in, f .va-in, f .wy-in, f .ba-in)
 
 same-length : tie.Need-same-length
-same-length c = search needs
+same-length c = c .before .before .before .before .before .before .before .before .before .before .before .before .before .before .before .before .before .before .before .before .before .before .before .before .weighted-into .kept .1 .1 .1 .1 .1 .1 .1 .0
 
 same-length-2 : tie.Need-same-length-2
-same-length-2 c = search needs
+same-length-2 c = c .before .before .side-into .kept .1 .1 .1 .1 .1 .1 .1 .1 .1 .0 ∙ c .before .before .before .before .before .before .before .before .before .before .before .before .before .before .solved-into .kept .1 .1 .1 .1 .0
 
 same-length-3 : tie.Need-same-length-3
-same-length-3 c = search needs
+same-length-3 c = c .before .before .before .before .before .before .before .before .normal-into .kept .1 .1 .1 .1 .1 .1 .1 .1 .1 .1 .1 .0 ∙ c .before .before .before .before .before .before .before .before .before .before .before .before .before .before .before .before .before .before .before .unsolved-into .kept .1 .1 .1 .1 .1 .1 .1 .1 .1 .1 .0
 
 returns : tie.Need-returns
 returns c =
