@@ -150,40 +150,86 @@ fn counts_front<'a>(xs: &'a [usize], n: usize) -> &'a [usize] {
     &xs[..0]
 }
 
-// Writes ys from `at` on, if there is room.
-fn put(xs: &mut [f64], at: usize, ys: &[f64]) {
-    if xs.len() < at {
-        return;
-    }
-    if xs.len() - at < ys.len() {
-        return;
-    }
-    let mut i = 0;
-    while i < ys.len() {
-        xs[at + i] = ys[i];
-        i += 1;
-    }
-}
-
 // What a call's lists of numbers are parts of.
 fn numbers() -> [f64; 61] {
-    let mut all = [1.0; 61];
-    // with the ones around them the values of Z'; eight ones from 8 on are two equal columns of X
-    put(&mut all, 4, &[0.3, -0.7, 1.1, 0.2]);
-    // X
-    put(&mut all, 16, &[1.0, 0.3, 1.0, -0.7, 1.0, 1.1, 1.0, 0.2]);
-    // responses: counts from 24 on, proportions from 28 on
-    put(&mut all, 24, &[1.0, 3.0, 0.0, 5.0, 0.25, 0.5, 0.0, 1.0]);
-    // weights from 32 on, an offset from 36 on
-    put(&mut all, 32, &[4.0, 2.0, 3.0, 1.0, 0.1, 0.2, -0.3, 0.0]);
-    // responses: of either sign from 40 on, positive from 44 on
-    put(&mut all, 40, &[1.5, -0.25, 3.0, 0.75, 0.5, 0.75, 0.4, 1.25]);
-    // theta
-    put(&mut all, 48, &[0.7, 0.8, 0.3, 0.6]);
-    // theta that makes a group's block of A singular, from 52 and from 55 on; an enormous one at 58
-    put(&mut all, 52, &[1e9, 1e9, 3e8, 1e9, 7e8, 3e8, 1e200]);
-    put(&mut all, 59, &[0.0 / 0.0, 1.0 / 0.0]);
-    all
+    let nan = 0.0 / 0.0;
+    let inf = 1.0 / 0.0;
+    [
+        // the values of Z'; the ones are X with one column too
+        1.0,
+        1.0,
+        1.0,
+        1.0,
+        0.3,
+        -0.7,
+        1.1,
+        0.2,
+        // from 8 on: more of them; X with two equal columns
+        1.0,
+        1.0,
+        1.0,
+        1.0,
+        1.0,
+        1.0,
+        1.0,
+        1.0,
+        // from 16 on: X with two columns
+        1.0,
+        0.3,
+        1.0,
+        -0.7,
+        1.0,
+        1.1,
+        1.0,
+        0.2,
+        // from 24 on: counts
+        1.0,
+        3.0,
+        0.0,
+        5.0,
+        // from 28 on: proportions
+        0.25,
+        0.5,
+        0.0,
+        1.0,
+        // from 32 on: weights
+        4.0,
+        2.0,
+        3.0,
+        1.0,
+        // from 36 on: an offset
+        0.1,
+        0.2,
+        -0.3,
+        0.0,
+        // from 40 on: responses of either sign
+        1.5,
+        -0.25,
+        3.0,
+        0.75,
+        // from 44 on: responses above zero
+        0.5,
+        0.75,
+        0.4,
+        1.25,
+        // from 48 on: theta
+        0.7,
+        0.8,
+        0.3,
+        0.6,
+        // from 52 and 55 on: theta that makes a group's block of A singular
+        1e9,
+        1e9,
+        3e8,
+        1e9,
+        7e8,
+        3e8,
+        // at 58: an enormous theta
+        1e200,
+        // from 59 on: not finite
+        nan,
+        inf,
+    ]
 }
 
 // Row starts (0 to 3) and columns (4 to 6) of Z'; columns out of range and out of order.
