@@ -1,0 +1,2 @@
+-- What the program prints in each case. Assumes nothing.
+pub mod Printed

@@ -1,0 +1,1 @@
+// What the program prints in each case is proved in proofs/: there is no code here.
