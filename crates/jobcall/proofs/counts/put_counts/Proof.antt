@@ -1,0 +1,62 @@
+-- `jobcall::put_counts` meets its contract: nine stores from the front on. Assumes nothing.
+use native.Mathlib.Omega.{arith}
+use lib.ListN.{length-set}
+use Rattle.jobcall.specs.Told.{countsOf}
+use Rattle.jobcall.proofs.Behind.{nine-set}
+use borrow.Author.Needs.{needs}
+use Rattle.jobcall.proofs.counts.put_counts.Statement.{statement}
+use Rattle.jobcall.proofs.counts.put_counts.Tie as tie
+
+flag-requires : tie.Need-flag-requires
+flag-requires c κs = search needs
+
+slice-write-counts : tie.Need-slice-write-counts
+slice-write-counts c = omega (arith, c .before .before .before .pre)
+
+slice-write-counts-2 : tie.Need-slice-write-counts-2
+slice-write-counts-2 c = simp length-set (omega (arith, c .before .before .before .pre))
+
+slice-write-counts-3 : tie.Need-slice-write-counts-3
+slice-write-counts-3 c = simp length-set (omega (arith, c .before .before .before .pre))
+
+slice-write-counts-4 : tie.Need-slice-write-counts-4
+slice-write-counts-4 c = simp length-set (omega (arith, c .before .before .before .pre))
+
+slice-write-counts-5 : tie.Need-slice-write-counts-5
+slice-write-counts-5 c = simp length-set (omega (arith, c .before .before .before .pre))
+
+slice-write-counts-6 : tie.Need-slice-write-counts-6
+slice-write-counts-6 c = simp length-set (omega (arith, c .before .before .before .pre))
+
+slice-write-counts-7 : tie.Need-slice-write-counts-7
+slice-write-counts-7 c = simp length-set (omega (arith, c .before .before .before .pre))
+
+slice-write-counts-8 : tie.Need-slice-write-counts-8
+slice-write-counts-8 c = simp length-set (omega (arith, c .before .before .before .pre))
+
+slice-write-counts-9 : tie.Need-slice-write-counts-9
+slice-write-counts-9 c = simp length-set (omega (arith, c .before .before .before .pre))
+
+same-length : tie.Need-same-length
+same-length c = search needs
+
+returns : tie.Need-returns
+unfolding countsOf
+returns c = rw (← (c .flag .ensures)) (nine-set (c .before .before .before .args .counts .now) _ _ _ _ _ _ _ _ _ (c .before .before .before .pre))
+
+pub put-counts-spec : {M : Type 1} → statement M
+put-counts-spec =
+    tie.close
+    (tie.spec
+    flag-requires
+    slice-write-counts
+    slice-write-counts-2
+    slice-write-counts-3
+    slice-write-counts-4
+    slice-write-counts-5
+    slice-write-counts-6
+    slice-write-counts-7
+    slice-write-counts-8
+    slice-write-counts-9
+    same-length
+    returns)

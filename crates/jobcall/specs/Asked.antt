@@ -1,0 +1,20 @@
+-- The lengths of the buffers that a caller must lend, and 0 where the sizes are not carried. Document 01, "What the port carries", its sizes, and "Numbers of an answer", number 7. Assumes nothing.
+use mathlib.Core.Bool.{cond}
+use Prim.Native.Nat.{ℕ}
+use Rattle.model.specs.Shape.{within}
+use Rattle.layout.specs.WorkRows.{rowsLength}
+use Rattle.layout.specs.WorkMatrices.{matricesLength}
+use Rattle.jobcall.specs.Told.{resultsLength}
+
+-- x where k is from 1 to most, else 0
+unfoldable pub whenIn : ℕ → ℕ → ℕ → ℕ
+whenIn most k x = cond (within 1 most k) x 0
+
+abbrev pub rowsAsked : ℕ → ℕ
+rowsAsked n = whenIn 512 n (rowsLength n)
+
+abbrev pub matricesAsked : ℕ → ℕ → ℕ
+matricesAsked p q = whenIn 16 p (whenIn 32 q (matricesLength p q))
+
+abbrev pub resultsAsked : ℕ → ℕ → ℕ → ℕ
+resultsAsked n p q = whenIn 512 n (whenIn 16 p (whenIn 32 q (resultsLength n p q)))

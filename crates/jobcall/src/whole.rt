@@ -1,0 +1,235 @@
+// A whole call: a job is read into arrays of the call's own, then refused or fitted.
+use crate::counts::put_counts;
+use crate::counts::put_refusal;
+use crate::counts::returned;
+use crate::fronts::fit_fronts;
+use reader::Header;
+use reader::Reading;
+ghost use mathlib.Core.Path.{_≡_};
+ghost use mathlib.Core.Bool.{true};
+ghost use Prim.Native.Nat.{_≤_};
+ghost use lib.ListN.{length};
+ghost use Rattle.job.specs.Format.{shapeOf};
+ghost use Rattle.job.specs.Faults.{faultOf};
+ghost use Rattle.job.specs.Job.{readOf};
+ghost use Rattle.reader.specs.Reading.{lent as slices, roomy, shapeBy};
+ghost use Rattle.jobcall.specs.Told.{buffers, told, doneFor, toldBy, answered, withTheta, fitJobOf, fitJobThetaOf};
+ghost use Rattle.jobcall.specs.Room.{Fronts, frontsOf};
+
+// The fit of a job that has been read, and its counts.
+fn fit_read(
+    job: &[u8],
+    header: Header,
+    theta: &[f64],
+    y: &[f64],
+    weights: &[f64],
+    offset: &[f64],
+    x: &[f64],
+    starts: &[usize],
+    columns: &[usize],
+    values: &[f64],
+    rows: &mut [f64],
+    matrices: &mut [f64],
+    terms: &mut [f64],
+    results: &mut [f64],
+    counts: &mut [u64],
+) -> u64
+    requires { ⌜ (9 ≤ length (now counts)) × Fronts header (slices (now theta) (now y) (now weights) (now offset) (now x) (now starts) (now columns) (now values)) ⌝ }
+    ensures { λ r. ⌜ told r (buffers (now (rows .exit)) (now (matrices .exit)) (now (terms .exit)) (now (results .exit)) (now (counts .exit))) ≡ toldBy (doneFor (header .settings) (shapeBy (faultOf (now (job .entry))) (shapeOf (now (job .entry)))) (frontsOf header (slices (now (theta .entry)) (now (y .entry)) (now (weights .entry)) (now (offset .entry)) (now (x .entry)) (now (starts .entry)) (now (columns .entry)) (now (values .entry)))) (now (rows .entry)) (now (matrices .entry)) (now (terms .entry)) (now (results .entry))) (now (counts .entry)) ⌝ }
+{
+    let shape = reader::read_shape(job);
+    let answer = fit_fronts(
+        header,
+        shape,
+        theta,
+        y,
+        weights,
+        offset,
+        x,
+        starts,
+        columns,
+        values,
+        rows,
+        matrices,
+        terms,
+        results,
+    );
+    put_counts(answer, 0, counts);
+    returned(answer.number)
+}
+
+// A job with its own theta, read into lent slices.
+fn call_own(
+    job: &[u8],
+    theta: &mut [f64],
+    y: &mut [f64],
+    weights: &mut [f64],
+    offset: &mut [f64],
+    x: &mut [f64],
+    starts: &mut [usize],
+    columns: &mut [usize],
+    values: &mut [f64],
+    rows: &mut [f64],
+    matrices: &mut [f64],
+    terms: &mut [f64],
+    results: &mut [f64],
+    counts: &mut [u64],
+) -> u64
+    requires { ⌜ (9 ≤ length (now counts)) × (roomy (slices (now theta) (now y) (now weights) (now offset) (now x) (now starts) (now columns) (now values)) ≡ true) ⌝ }
+    ensures { λ r. ⌜ told r (buffers (now (rows .exit)) (now (matrices .exit)) (now (terms .exit)) (now (results .exit)) (now (counts .exit))) ≡ answered (readOf (now (job .entry))) (buffers (now (rows .entry)) (now (matrices .entry)) (now (terms .entry)) (now (results .entry)) (now (counts .entry))) ⌝ }
+{
+    match reader::read_job(job, theta, y, weights, offset, x, starts, columns, values) {
+        Reading::Refused(number, byte) => {
+            put_refusal(number, byte, counts);
+            number
+        }
+        Reading::Accepted(header) => {
+            let thetas = header.thetas;
+            fit_read(
+                job,
+                header,
+                &theta[0..thetas],
+                y,
+                weights,
+                offset,
+                x,
+                starts,
+                columns,
+                values,
+                rows,
+                matrices,
+                terms,
+                results,
+                counts,
+            )
+        }
+    }
+}
+
+// A job with another theta, which is passed on as it is.
+fn call_given(
+    job: &[u8],
+    given: &[f64],
+    theta: &mut [f64],
+    y: &mut [f64],
+    weights: &mut [f64],
+    offset: &mut [f64],
+    x: &mut [f64],
+    starts: &mut [usize],
+    columns: &mut [usize],
+    values: &mut [f64],
+    rows: &mut [f64],
+    matrices: &mut [f64],
+    terms: &mut [f64],
+    results: &mut [f64],
+    counts: &mut [u64],
+) -> u64
+    requires { ⌜ (9 ≤ length (now counts)) × (roomy (slices (now theta) (now y) (now weights) (now offset) (now x) (now starts) (now columns) (now values)) ≡ true) ⌝ }
+    ensures { λ r. ⌜ told r (buffers (now (rows .exit)) (now (matrices .exit)) (now (terms .exit)) (now (results .exit)) (now (counts .exit))) ≡ answered (withTheta (now (given .entry)) (readOf (now (job .entry)))) (buffers (now (rows .entry)) (now (matrices .entry)) (now (terms .entry)) (now (results .entry)) (now (counts .entry))) ⌝ }
+{
+    match reader::read_job(job, theta, y, weights, offset, x, starts, columns, values) {
+        Reading::Refused(number, byte) => {
+            put_refusal(number, byte, counts);
+            number
+        }
+        Reading::Accepted(header) => fit_read(
+            job,
+            header,
+            given,
+            y,
+            weights,
+            offset,
+            x,
+            starts,
+            columns,
+            values,
+            rows,
+            matrices,
+            terms,
+            results,
+            counts,
+        ),
+    }
+}
+
+// The fit of a job; nothing is required.
+pub fn fit_job(
+    job: &[u8],
+    rows: &mut [f64],
+    matrices: &mut [f64],
+    terms: &mut [f64],
+    results: &mut [f64],
+    counts: &mut [u64],
+) -> u64
+    ensures { λ r. ⌜ told r (buffers (now (rows .exit)) (now (matrices .exit)) (now (terms .exit)) (now (results .exit)) (now (counts .exit))) ≡ fitJobOf (now (job .entry)) (buffers (now (rows .entry)) (now (matrices .entry)) (now (terms .entry)) (now (results .entry)) (now (counts .entry))) ⌝ }
+{
+    if counts.len() < 9 {
+        return 2;
+    }
+    let mut theta = [0.0; 288];
+    let mut y = [0.0; 512];
+    let mut weights = [0.0; 512];
+    let mut offset = [0.0; 512];
+    let mut x = [0.0; 8192];
+    let mut starts = [0usize; 33];
+    let mut columns = [0usize; 8192];
+    let mut values = [0.0; 8192];
+    call_own(
+        job,
+        &mut theta,
+        &mut y,
+        &mut weights,
+        &mut offset,
+        &mut x,
+        &mut starts,
+        &mut columns,
+        &mut values,
+        rows,
+        matrices,
+        terms,
+        results,
+        counts,
+    )
+}
+
+// The fit of a job at a theta beside it; nothing is required.
+pub fn fit_job_theta(
+    job: &[u8],
+    given: &[f64],
+    rows: &mut [f64],
+    matrices: &mut [f64],
+    terms: &mut [f64],
+    results: &mut [f64],
+    counts: &mut [u64],
+) -> u64
+    ensures { λ r. ⌜ told r (buffers (now (rows .exit)) (now (matrices .exit)) (now (terms .exit)) (now (results .exit)) (now (counts .exit))) ≡ fitJobThetaOf (now (job .entry)) (now (given .entry)) (buffers (now (rows .entry)) (now (matrices .entry)) (now (terms .entry)) (now (results .entry)) (now (counts .entry))) ⌝ }
+{
+    if counts.len() < 9 {
+        return 2;
+    }
+    let mut theta = [0.0; 288];
+    let mut y = [0.0; 512];
+    let mut weights = [0.0; 512];
+    let mut offset = [0.0; 512];
+    let mut x = [0.0; 8192];
+    let mut starts = [0usize; 33];
+    let mut columns = [0usize; 8192];
+    let mut values = [0.0; 8192];
+    call_given(
+        job,
+        given,
+        &mut theta,
+        &mut y,
+        &mut weights,
+        &mut offset,
+        &mut x,
+        &mut starts,
+        &mut columns,
+        &mut values,
+        rows,
+        matrices,
+        terms,
+        results,
+        counts,
+    )
+}
