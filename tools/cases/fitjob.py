@@ -4,7 +4,7 @@
        fitjob.py --into FOLDER
 What `cases_fitjob` must print, by the oracle, and the jobs that it is given, each behind its length in three bytes; or the jobs as files, named by their numbers.
 Job 0 is one byte too long and stands in the program. Then: case J, L 1000 and 1001, every refusal that a job can meet with its byte, the closed fits of
-rule_cases and agq_cases (every end), and random jobs of every kind (tools/glmm/kinds.py), the largest of them of 65,536 bytes."""
+rule_cases and agq_cases (every end), the fits of crates/cases_fitjob/jobs.json, and random jobs of every kind (tools/glmm/kinds.py), the largest of them of 65,536 bytes."""
 import json, random, subprocess, sys, tempfile
 from pathlib import Path
 
@@ -65,7 +65,7 @@ def jobs():
     """The jobs of standard input, in this order."""
     one = job_bytes(CASE_J)
     found = [one, with_field(one, 38, 10, 1000), with_field(one, 38, 10, 1001), *job_refusals(), *map(job_bytes, table_refusals())]
-    for crate in ("rule_cases", "agq_cases"):
+    for crate in ("rule_cases", "agq_cases", "cases_fitjob"):
         found += [job_bytes(about) for about in json.loads((ROOT / "crates" / crate / "jobs.json").read_text()).values()]
     found += map(job_bytes, pairs())
     for kind, share in SHARES.items():
