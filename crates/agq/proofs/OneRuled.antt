@@ -14,6 +14,7 @@ use Rattle.rule.specs.Given.{Given, qOf, nOf}
 use Rattle.rule.specs.Stop.{Mode}
 use Rattle.agq_rule.specs.Term.{inversePhi, termOf, oneTrial, oneTermAt, oneTerm}
 use Rattle.points.specs.Gain.{markAt}
+use Rattle.agq.specs.Gained.{gainIn}
 use Rattle.agq.specs.One.{oneEffects, oneTermIn, oneTermAtNode}
 use Rattle.agq.proofs.OneTurns.{filled-same}
 use Rattle.agq.proofs.Ruled.{group-gain}
@@ -30,7 +31,7 @@ module _ (G : Given) (M : Mode) (phi : Float) (o : Order) (g : ℕ) (sigma : Flo
   same-trial = rw node (filled-same g 1 _ (M .u) before within kept)
 
   pub one-ruled : oneTermAtNode (G .family) (G .link) (G .design .shape) (G .design .theta) (G .design .zt) (G .y) (G .weights) (G .design .offset) (nOf G) (qOf (G .design)) xbeta g sigma (inversePhi phi) (M .u) r before nodes ws i ≡ oneTerm G M phi o g sigma i
-  unfolding oneTermAtNode oneTermIn oneTerm oneTermAt termOf
+  unfolding oneTermAtNode oneTermIn gainIn oneTerm oneTermAt termOf
   one-ruled =
       rw (same-trial, weight, mark, fixed, devs, group-gain G (M .beta) (oneTrial o g sigma (M .u) i) (M .devs) g 1)
       refl

@@ -18,6 +18,7 @@ use Rattle.elementary.specs.Log.{lnOf}
 use Rattle.model.specs.declared.sizes.Shape.{Shape}
 use Rattle.family.specs.declared.carried.CarriedFamily.{CarriedFamily}
 use Rattle.family.specs.declared.carried.CarriedLink.{CarriedLink}
+use Rattle.agq.proofs.Gains.{gain-kept}
 use Rattle.agq.specs.One.{oneEffects, oneTermIn, oneTermAtNode, OneIn}
 
 -- a stretch filled over lists that differ in it alone
@@ -52,7 +53,7 @@ module _ (family : CarriedFamily) (link : CarriedLink) (shape : Shape) (theta : 
     unfolding oneTermAtNode oneTermIn
     turn-term =
         p .term
-        ∙ rw (same-effects (nodes ! i), same-u, only-row (xbeta + n + n + n) n (xbeta + n + n) n (inr (omega arith)) (omega arith) or, only-row xbeta n (xbeta + n + n) n (inl (omega arith)) (omega arith) or, only-row (xbeta + n) n (xbeta + n + n) n (inl (omega arith)) (omega arith) or) refl
+        ∙ rw (same-effects (nodes ! i), same-u, gain-kept family link shape theta Z y weights offset n q xbeta r r1 hr or) refl
 
     pub turn-m : Only trial (q + q) m m2
     turn-m = only-trans om (p .only)

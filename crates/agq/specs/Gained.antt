@@ -41,8 +41,13 @@ predictedAt shape theta Z n q u = build (zTimesAt Z q (effectsAt shape theta q u
 unfoldable pub gainFrom : CarriedFamily → CarriedLink → List Float → List Float → List Float → ℕ → List Float → List Float → List Float → List Float → Float
 gainFrom family link y weights offset n marks xb zb devs = sumWhere n (marked marks) (entered family link y weights offset xb zb devs)
 
+-- dd of the effects t: the rows of r at xbeta are Xβ, the deviances at the mode, and (the fourth) the marks
+unfoldable pub gainIn : CarriedFamily → CarriedLink → Shape → List Float → Sparse → List Float → List Float → List Float → ℕ → ℕ → ℕ → List Float → List Float → Float
+gainIn family link shape theta Z y weights offset n q xbeta r t =
+    gainFrom family link y weights offset n (row (xbeta + n + n + n) n r) (row xbeta n r) (predictedAt shape theta Z n q t) (row (xbeta + n) n r)
+
 -- what `point_gain` answers and leaves: dd, Λu behind u, Zb in its row
 pub record GainedIn (family : CarriedFamily) (link : CarriedLink) (shape : Shape) (theta : List Float) (Z : Sparse) (y weights offset : List Float) (n q xbeta trial : ℕ) (r r' m m' : List Float) (g : Float) : Type 0 where
-  pub gain : g ≡ gainFrom family link y weights offset n (row (xbeta + n + n + n) n r) (row xbeta n r) (predictedAt shape theta Z n q (row trial q m)) (row (xbeta + n) n r)
+  pub gain : g ≡ gainIn family link shape theta Z y weights offset n q xbeta r (row trial q m)
   pub b : Wrote (trial + q) q (effectsAt shape theta q (row trial q m)) m m'
   pub zb : Wrote (xbeta + n + n) n (predictedAt shape theta Z n q (row trial q m)) r r'

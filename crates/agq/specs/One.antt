@@ -13,7 +13,7 @@ use Rattle.model.specs.declared.sizes.Shape.{Shape}
 use Rattle.family.specs.declared.carried.CarriedFamily.{CarriedFamily}
 use Rattle.family.specs.declared.carried.CarriedLink.{CarriedLink}
 use Rattle.agq_rule.specs.Term.{deltaOf, penaltyAt, oneMoved}
-use Rattle.agq.specs.Gained.{effectsAt, predictedAt, gainFrom}
+use Rattle.agq.specs.Gained.{effectsAt, predictedAt, gainIn}
 
 -- the effects `before` with that of group g moved from û
 unfoldable pub oneEffects : ℕ → Float → Float → List Float → List Float → List Float
@@ -22,7 +22,7 @@ oneEffects g sigma node u before = fillAt g 1 (λ _. oneMoved sigma node (u ! g)
 -- the log term with the effects t: log weight + delta
 unfoldable pub oneTermIn : CarriedFamily → CarriedLink → Shape → List Float → Sparse → List Float → List Float → List Float → ℕ → ℕ → ℕ → ℕ → Float → Float → List Float → List Float → List Float → Float
 oneTermIn family link shape theta Z y weights offset n q xbeta g logWeight inv u r t =
-    logWeight ⊕ deltaOf inv (gainFrom family link y weights offset n (row (xbeta + n + n + n) n r) (row xbeta n r) (predictedAt shape theta Z n q t) (row (xbeta + n) n r)) (penaltyAt t u g)
+    logWeight ⊕ deltaOf inv (gainIn family link shape theta Z y weights offset n q xbeta r t) (penaltyAt t u g)
 
 -- what `one_point` answers and leaves: the log term, the effects with Λ times them behind, Zb in its row
 pub record OneIn (family : CarriedFamily) (link : CarriedLink) (shape : Shape) (theta : List Float) (Z : Sparse) (y weights offset : List Float) (n q xbeta g : ℕ) (sigma node logWeight inv : Float) (u trial : ℕ) (r r' m m' : List Float) (x : Float) : Type 0 where

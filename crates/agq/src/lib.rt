@@ -3,5 +3,4 @@ mod gain;
 mod one;
 
 pub use gain::point_gain;
-pub use one::one_point;
 pub use one::one_terms;

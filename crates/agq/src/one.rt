@@ -14,7 +14,7 @@ ghost use Rattle.agq.specs.One.{OneIn, oneTermAtNode, OnesIn};
 
 // The log term at a node of group g: its effect moves by sigma·node from û, which stands in the q places of m at u, to its place among the
 // q effects at trial; the others there stay.
-pub fn one_point(
+fn one_point(
     family: CarriedFamily,
     link: CarriedLink,
     shape: Shape,

@@ -16,7 +16,7 @@ use Rattle.base.proofs.Fills.{row-fits, build-at, matrix-at}
 use Rattle.base.proofs.Rows.{row-at, row-length, row-build, only-none, only-trans, only-row}
 use Rattle.model.specs.Shape.{effectsOf}
 use Rattle.model.specs.declared.sizes.Shape.{Shape}
-use Rattle.layout.specs.Layout.{Lent, LaidOut}
+use Rattle.layout.specs.Layout.{WorkRoom, LaidOut}
 use Rattle.layout.specs.WorkRows.{columnRow, workingRow}
 use Rattle.layout.specs.WorkMatrices.{systemPlace, solvedPlace, wyPlace, betaPlace}
 use Rattle.layout.specs.WorkTerms.{factorPlace, wPlace, unsolvedPlace, normalPlace}
@@ -131,7 +131,7 @@ module _ (q a : ℕ) (D : Design) (F w target wy r r' r'' m m' m'' t t' t'' : Li
         };
       }
 
-module _ (q : ℕ) (D : Design) (F w target wy r r' m m' t t' : List Float) (e : q ≡ qOf D) (lent : Lent (D .n) (D .p) q r m t) (done : ColumnsTo q (D .p) D F w target wy r r' m m' t t') where
+module _ (q : ℕ) (D : Design) (F w target wy r r' m m' t t' : List Float) (e : q ≡ qOf D) (lent : WorkRoom (D .n) (D .p) q r m t) (done : ColumnsTo q (D .p) D F w target wy r r' m m' t t') where
   all-laid : LaidOut (D .n) (D .p) q
   all-laid = laid-out (lent .sizes)
 
@@ -186,7 +186,7 @@ abbrev pub ColumnsUpTo : ℕ → ℕ → ℕ → ℕ → Shape → List Float �
 ColumnsUpTo a n p q shape theta x zt r r' m m' t t' = (F offset : List Float) → SameBelow q (row factorPlace (q * q) t) F
     → ColumnsTo q a (designOf n p shape theta offset x zt) F (row (wPlace q) n t) (row (workingRow n) n r) (row (wyPlace p q) q m) r r' m m' t t'
 
-module _ (n p q a : ℕ) (shape : Shape) (theta x : List Float) (zt : Sparse) (r r' r'' m m' m'' t t' t'' : List Float) (e : q ≡ effectsOf shape) (lent : Lent n p q r m t) where
+module _ (n p q a : ℕ) (shape : Shape) (theta x : List Float) (zt : Sparse) (r r' r'' m m' m'' t t' t'' : List Float) (e : q ≡ effectsOf shape) (lent : WorkRoom n p q r m t) where
   pub columns-turn : a < p → length r' ≡ length r → length m' ≡ length m → length t' ≡ length t → ColumnsUpTo a n p q shape theta x zt r r' m m' t t'
       → ColumnOf a n p q shape theta x zt r' r'' m' m'' t' t'' → ColumnsUpTo (a + 1) n p q shape theta x zt r r'' m m'' t t''
   columns-turn l lr lm lt before column F offset same =

@@ -17,7 +17,7 @@ use Rattle.base.proofs.Fills.{row-fits}
 use Rattle.base.proofs.Rows.{only-row}
 use Rattle.model.specs.Shape.{effectsOf}
 use Rattle.model.specs.declared.sizes.Shape.{Shape}
-use Rattle.layout.specs.Layout.{Lent, LaidOut}
+use Rattle.layout.specs.Layout.{WorkRoom, LaidOut}
 use Rattle.layout.specs.WorkRows.{columnRow, workingRow}
 use Rattle.layout.specs.WorkMatrices.{solvedPlace, wyPlace, betaPlace}
 use Rattle.layout.specs.WorkTerms.{factorPlace, wPlace, unsolvedPlace, normalPlace}
@@ -47,7 +47,7 @@ pub record Within (n p q a : ℕ) (r m t : List Float) : Type 0 where
   pub matrices-few : betaPlace p q + p ≤ 7000
   pub terms-few : normalPlace n p q + p * p ≤ 7000
 
-pub within : {n p q a : ℕ} {r m t : List Float} → Lent n p q r m t → a < p → Within n p q a r m t
+pub within : {n p q a : ℕ} {r m t : List Float} → WorkRoom n p q r m t → a < p → Within n p q a r m t
 within {n} {p} {q} {a} h l =
     let laid : LaidOut n p q = laid-out (h .sizes) in
     record {
@@ -63,7 +63,7 @@ within {n} {p} {q} {a} h l =
       terms-few = omega (arith, laid .terms .normal, laid .terms .spare);
     }
 
-pub few : {n p q : ℕ} {r m t : List Float} → Lent n p q r m t → (p * q < 2 ^ 64) × (p * p < 2 ^ 64)
+pub few : {n p q : ℕ} {r m t : List Float} → WorkRoom n p q r m t → (p * q < 2 ^ 64) × (p * p < 2 ^ 64)
 few {n} {p} {q} h = (omega (arith, mul-comm p q, products (h .sizes) .qp), omega (arith, products (h .sizes) .pp))
 
 -- what the steps of column a ask of their places, as the code forms them
@@ -84,7 +84,7 @@ pub record Placed (n p q a : ℕ) (r m t : List Float) (column working w unsolve
   pub wy-in : wy + q ≤ length m
   pub ba-in : beta + a < length m
 
-pub placed : {n p q a : ℕ} {r m t : List Float} {column working w unsolved normal solved wy beta o d : ℕ} → Lent n p q r m t → a < p
+pub placed : {n p q a : ℕ} {r m t : List Float} {column working w unsolved normal solved wy beta o d : ℕ} → WorkRoom n p q r m t → a < p
     → column ≡ columnRow n → working ≡ workingRow n → w ≡ wPlace q → unsolved ≡ unsolvedPlace n q → normal ≡ normalPlace n p q → solved ≡ solvedPlace q
     → wy ≡ wyPlace p q → beta ≡ betaPlace p q → o ≡ a * q → d ≡ a * p → Placed n p q a r m t column working w unsolved normal solved wy beta o d
 placed {n} {p} {q} {a} {r} {m} {t} lent l ec ek ew eu en es ey eb eo ed =

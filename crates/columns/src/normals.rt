@@ -7,7 +7,7 @@ use crate::pieces::weighted_into;
 use model::Shape;
 ghost use Prim.Native.Nat.{_*_, _≤_, _<_};
 ghost use lib.ListN.{length};
-ghost use Rattle.layout.specs.Layout.{Lent};
+ghost use Rattle.layout.specs.Layout.{WorkRoom};
 ghost use Rattle.stored.specs.Stored.{sparse};
 ghost use Rattle.solve.specs.Ready.{Ready};
 ghost use Rattle.columns.specs.Columns.{ColumnOf, ColumnsOf};
@@ -29,7 +29,7 @@ fn normal_column(
     t: &mut [f64],
 )
     requires { ⌜ Ready shape (now theta) (now starts) (now columns) (now values) q n ⌝ }
-    requires { ⌜ Lent n p q (now r) (now m) (now t) ⌝ }
+    requires { ⌜ WorkRoom n p q (now r) (now m) (now t) ⌝ }
     requires { ⌜ (n * p ≤ length (now x)) × (a < p) ⌝ }
     ensures { λ _. ⌜ ColumnOf a n p q shape (now (theta .entry)) (now (x .entry)) (sparse (now (starts .entry)) (now (columns .entry)) (now (values .entry))) (now (r .entry)) (now (r .exit)) (now (m .entry)) (now (m .exit)) (now (t .entry)) (now (t .exit)) ⌝ }
 {
@@ -82,7 +82,7 @@ pub fn normal_columns(
     t: &mut [f64],
 )
     requires { ⌜ Ready shape (now theta) (now starts) (now columns) (now values) q n ⌝ }
-    requires { ⌜ Lent n p q (now r) (now m) (now t) ⌝ }
+    requires { ⌜ WorkRoom n p q (now r) (now m) (now t) ⌝ }
     requires { ⌜ n * p ≤ length (now x) ⌝ }
     ensures { λ _. ⌜ ColumnsOf n p q shape (now (theta .entry)) (now (x .entry)) (sparse (now (starts .entry)) (now (columns .entry)) (now (values .entry))) (now (r .entry)) (now (r .exit)) (now (m .entry)) (now (m .exit)) (now (t .entry)) (now (t .exit)) ⌝ }
 {

@@ -14,28 +14,28 @@ abbrev pub isResult : {F : Type 0} → Result F → Bool
 isResult (result f) = true
 isResult (noResult e) = false
 
-module _ {F : Type 0} (count : Float) (devSum : F → Float) (inner : Float → Total F) (left : ℕ) (phi : Float) where
-  pub round-unfitted : (e : End) → inner phi .outcome ≡ noResult e → dispersionFrom count devSum inner (suc left) phi ≡ record { outcome = noResult e; items = inner phi .items }
+module _ {F : Type 0} (effective : Float) (devSum : F → Float) (inner : Float → Total F) (left : ℕ) (phi : Float) where
+  pub round-unfitted : (e : End) → inner phi .outcome ≡ noResult e → dispersionFrom effective devSum inner (suc left) phi ≡ record { outcome = noResult e; items = inner phi .items }
   unfolding dispersionFrom afterFit
   round-unfitted e a = rw a refl
 
-  pub round-settled : (f : F) → inner phi .outcome ≡ result f → roundOf count phi (devSum f) ≡ Settled
-      → dispersionFrom count devSum inner (suc left) phi ≡ record { outcome = result (record { last = f; phi = phi; converged = true }); items = inner phi .items }
+  pub round-settled : (f : F) → inner phi .outcome ≡ result f → roundOf effective phi (devSum f) ≡ Settled
+      → dispersionFrom effective devSum inner (suc left) phi ≡ record { outcome = result (record { last = f; phi = phi; converged = true }); items = inner phi .items }
   unfolding dispersionFrom afterFit afterRound
   round-settled f a b = rw (a, b) refl
 
-  pub round-next : (f : F) (next : Float) → inner phi .outcome ≡ result f → roundOf count phi (devSum f) ≡ Next next
-      → dispersionFrom count devSum inner (suc left) phi ≡ totalBefore (inner phi .items) (dispersionFrom count devSum inner left next)
+  pub round-next : (f : F) (next : Float) → inner phi .outcome ≡ result f → roundOf effective phi (devSum f) ≡ Next next
+      → dispersionFrom effective devSum inner (suc left) phi ≡ totalBefore (inner phi .items) (dispersionFrom effective devSum inner left next)
   unfolding dispersionFrom afterFit afterRound
   round-next f next a b = rw (a, b) refl
 
   -- the round after all others
-  pub last-unfitted : (e : End) → inner phi .outcome ≡ noResult e → dispersionFrom count devSum inner zero phi ≡ record { outcome = noResult e; items = inner phi .items }
+  pub last-unfitted : (e : End) → inner phi .outcome ≡ noResult e → dispersionFrom effective devSum inner zero phi ≡ record { outcome = noResult e; items = inner phi .items }
   unfolding dispersionFrom lastFit withFlag
   last-unfitted e a = rw a refl
 
   pub last-unsettled : (f : F) → inner phi .outcome ≡ result f
-      → dispersionFrom count devSum inner zero phi ≡ record { outcome = result (record { last = f; phi = phi; converged = false }); items = inner phi .items }
+      → dispersionFrom effective devSum inner zero phi ≡ record { outcome = result (record { last = f; phi = phi; converged = false }); items = inner phi .items }
   unfolding dispersionFrom lastFit withFlag
   last-unsettled f a = rw a refl
 

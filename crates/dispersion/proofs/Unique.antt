@@ -12,5 +12,5 @@ pub effective-n-unique : (weights : List Float) (n : ℕ) (r s : Float) → r �
 effective-n-unique weights n r s d e = one-value d e
 
 -- `round_of`
-pub round-of-unique : (count phi sum : Float) (r s : Round) → r ≡ roundOf count phi sum → s ≡ roundOf count phi sum → r ≡ s
-round-of-unique count phi sum r s d e = one-value d e
+pub round-of-unique : (effective phi sum : Float) (r s : Round) → r ≡ roundOf effective phi sum → s ≡ roundOf effective phi sum → r ≡ s
+round-of-unique effective phi sum r s d e = one-value d e

@@ -27,7 +27,7 @@ unusable v = not (finite v) || le v zeroF
 
 -- phi': max (deviance sum / effective n, E)
 unfoldable pub estimateOf : Float → Float → Float
-estimateOf count sum = maxF (sum ⊘ count) epsF
+estimateOf effective sum = maxF (sum ⊘ effective) epsF
 
 -- |phi' - phi| / max (phi, E) < 1e-8
 unfoldable pub close : Float → Float → Bool
@@ -47,4 +47,4 @@ nextBy phi new = cond (close phi new) Settled (nextAt (mixed phi new))
 
 -- after an inner fit at phi: done where the deviance sum cannot be used
 unfoldable pub roundOf : Float → Float → Float → Round
-roundOf count phi sum = cond (unusable sum) Settled (nextBy phi (estimateOf count sum))
+roundOf effective phi sum = cond (unusable sum) Settled (nextBy phi (estimateOf effective sum))

@@ -48,19 +48,19 @@ module _ {F : Type 0} where
 
   -- by what a round's inner fit comes to: without a result the loop ends so
   unfoldable pub afterFit : Float → (F → Float) → Float → Result F → List Item → (Float → Total (Dispersed F)) → Total (Dispersed F)
-  afterFit count devSum phi (noResult e) is rest = record { outcome = noResult e; items = is }
-  afterFit count devSum phi (result f) is rest = afterRound (roundOf count phi (devSum f)) f phi is rest
+  afterFit effective devSum phi (noResult e) is rest = record { outcome = noResult e; items = is }
+  afterFit effective devSum phi (result f) is rest = afterRound (roundOf effective phi (devSum f)) f phi is rest
 
 module _ {F : Type 0} where
-  -- the loop from phi on, with so many rounds left, then one more with the flag false; count is the effective n, devSum the deviance sum of a fit
+  -- the loop from phi on, with so many rounds left, then one more with the flag false; effective is the effective n, devSum the deviance sum of a fit
   unfoldable pub dispersionFrom : Float → (F → Float) → (Float → Total F) → ℕ → Float → Total (Dispersed F)
-  dispersionFrom count devSum inner zero phi = lastFit false phi (inner phi)
-  dispersionFrom count devSum inner (suc left) phi = afterFit count devSum phi (inner phi .outcome) (inner phi .items) (dispersionFrom count devSum inner left)
+  dispersionFrom effective devSum inner zero phi = lastFit false phi (inner phi)
+  dispersionFrom effective devSum inner (suc left) phi = afterFit effective devSum phi (inner phi .outcome) (inner phi .items) (dispersionFrom effective devSum inner left)
 
 module _ {F : Type 0} where
   -- the dispersion loop: phi from 1, 240 rounds
   unfoldable pub dispersionOf : Float → (F → Float) → (Float → Total F) → Total (Dispersed F)
-  dispersionOf count devSum inner = dispersionFrom count devSum inner 240 oneF
+  dispersionOf effective devSum inner = dispersionFrom effective devSum inner 240 oneF
 
   -- one inner fit at phi 1, for a family without dispersion; the flag is true
   unfoldable pub fixedOf : (Float → Total F) → Total (Dispersed F)

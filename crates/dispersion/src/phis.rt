@@ -33,10 +33,10 @@ pub fn unusable(v: f64) -> bool
 }
 
 // The phi that the deviances ask for, at least E.
-pub fn estimate(count: f64, sum: f64) -> f64
-    ensures { λ r. ⌜ r ≡ estimateOf count sum ⌝ }
+pub fn estimate(effective: f64, sum: f64) -> f64
+    ensures { λ r. ⌜ r ≡ estimateOf effective sum ⌝ }
 {
-    max(sum / count, EPSILON)
+    max(sum / effective, EPSILON)
 }
 
 // Whether phi has come to rest.

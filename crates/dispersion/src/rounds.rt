@@ -32,12 +32,12 @@ fn next_by(phi: f64, new: f64) -> Round
     next_at(mixed(phi, new))
 }
 
-// What follows an inner fit at phi whose deviances sum to sum, where count observations count.
-pub fn round_of(count: f64, phi: f64, sum: f64) -> Round
-    ensures { λ r. ⌜ r ≡ roundOf count phi sum ⌝ }
+// What follows an inner fit at phi whose deviances sum to sum, `effective` being the effective n.
+pub fn round_of(effective: f64, phi: f64, sum: f64) -> Round
+    ensures { λ r. ⌜ r ≡ roundOf effective phi sum ⌝ }
 {
     if unusable(sum) {
         return Round::Settled;
     }
-    next_by(phi, estimate(count, sum))
+    next_by(phi, estimate(effective, sum))
 }

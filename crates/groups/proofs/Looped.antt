@@ -16,7 +16,7 @@ use Rattle.family.specs.declared.carried.CarriedFamily.{CarriedFamily}
 use Rattle.family.specs.declared.carried.CarriedLink.{CarriedLink}
 use Rattle.model.specs.Shape.{effectsOf}
 use Rattle.model.specs.declared.sizes.Shape.{Shape}
-use Rattle.layout.specs.Layout.{Lent}
+use Rattle.layout.specs.Layout.{WorkRoom}
 use Rattle.quadrature.specs.Orders.{sizeOf}
 use Rattle.quadrature.specs.declared.orders.Decline.{Decline}
 use Rattle.quadrature.specs.declared.orders.Order.{Order}
@@ -29,7 +29,7 @@ use Rattle.sums.specs.Stands.{Stands, givenWith}
 use Rattle.sums.specs.Summed.{carry, integratedOf, StepFrame, GroupLeft, StepLeft}
 use Rattle.sums.specs.Rules.{oneRule}
 use Rattle.groups.specs.Rules.{Grouped, severalRule, groupRule, productRule}
-use Rattle.sums.specs.declared.answers.Summed.the-variants.{Sum, NoSum}
+use Rattle.sums.specs.declared.answers.Summed.the-variants.{LogSum, NoSum}
 use Rattle.sums.specs.declared.answers.GroupSum.{GroupSum}
 use Rattle.sums.proofs.Framed.{frame-none, frame-trans, stands-kept}
 use Rattle.sums.proofs.Told.{points-add, no-points, step-told}
@@ -101,7 +101,7 @@ module _ (family : CarriedFamily) (link : CarriedLink) (shape : Shape) (theta : 
       let e : groups - 0 ≡ groups = omega arith in
       record { reached = omega arith; few = omega arith; frame = frame-none n p q r m t; told = λ x M s. rw e (no-points (groupsFrom (G x) M phi o k groups 0 zeroF)) }
 
-  module _ (eq : q ≡ effectsOf shape) (lent : Lent n p q r m t) (all : Grouped q groups k o) (r' m' t' : List Float) (total : Float) (points g : ℕ) (going : Going r' m' t' total points g) where
+  module _ (eq : q ≡ effectsOf shape) (lent : WorkRoom n p q r m t) (all : Grouped q groups k o) (r' m' t' : List Float) (total : Float) (points g : ℕ) (going : Going r' m' t' total points g) where
     pub room-next : (i : ℕ) → i ≤ sizeOf o ^ k → points + i ≤ (g + 1) * (sizeOf o ^ k)
     room-next i h = omega (arith, going .few, row-fits g (g + 1) (sizeOf o ^ k) (omega arith))
 
@@ -139,7 +139,7 @@ module _ (family : CarriedFamily) (link : CarriedLink) (shape : Shape) (theta : 
           ∙ ap (pointsBefore points) (left .told x M (still x M s) (next x M))
           ∙ points-add points (a .points) (carry (a .sum) (next x M))
 
-      pub goes-on : (s : Float) → a .sum ≡ Sum s → Going r'' m'' t'' (total ⊕ (neg twoF ⊗ s)) (points + a .points) (g + 1)
+      pub goes-on : (s : Float) → a .sum ≡ LogSum s → Going r'' m'' t'' (total ⊕ (neg twoF ⊗ s)) (points + a .points) (g + 1)
       unfolding carry withSum
       goes-on s e =
           record {

@@ -14,7 +14,7 @@ use Rattle.family.specs.declared.carried.CarriedFamily.{CarriedFamily}
 use Rattle.family.specs.declared.carried.CarriedLink.{CarriedLink}
 use Rattle.model.specs.Shape.{effectsOf}
 use Rattle.model.specs.declared.sizes.Shape.{Shape}
-use Rattle.layout.specs.Layout.{Lent}
+use Rattle.layout.specs.Layout.{WorkRoom}
 use Rattle.layout.specs.WorkRows.{xbetaRow, markRow}
 use Rattle.layout.specs.WorkMatrices.{inversePlace, uPlace, trialUPlace}
 use Rattle.layout.proofs.Inside.{inverse-in, u-in}
@@ -32,7 +32,8 @@ use Rattle.scale.specs.Tells.{entryFrom, tellScale, ScaleLeaves}
 use Rattle.scale.specs.declared.scales.Scaling.{Scaling}
 use Rattle.scale.specs.declared.scales.Scaling.the-variants.{Scaled, Unscaled}
 use Rattle.scale.proofs.SectionCopied.{square-within}
-use Rattle.several.specs.Several.{gainIn, groupTermIn, TermsIn}
+use Rattle.agq.specs.Gained.{gainIn}
+use Rattle.several.specs.Several.{groupTermIn, TermsIn}
 use Rattle.several.proofs.SeveralRuled.{group-ruled}
 use Rattle.sums.specs.Stands.{Stands, givenWith}
 use Rattle.sums.specs.Summed.{groupSumOf, StepFrame, SumLeft, GroupLeft, tellsThen}
@@ -57,7 +58,7 @@ module _ (G : Given) (M : Mode) (phi : Float) (o : Order) (s k : ℕ) (c : Scali
 
 -- ---- a group of k effects from s on, in the rule's words
 module _ (G : Given) (M : Mode) (phi : Float) (o : Order) (s k size l u trial mark xbeta : ℕ) (nodes ws r r1 m t : List Float)
-    (lent : Lent (nOf G) (G .design .p) (qOf (G .design)) r m t) (stands : Stands G M r m)
+    (lent : WorkRoom (nOf G) (G .design .p) (qOf (G .design)) r m t) (stands : Stands G M r m)
     (h : s + k ≤ qOf (G .design)) (el : l ≡ inversePlace (qOf (G .design)))
     (eu : u ≡ uPlace (G .design .p) (qOf (G .design))) (et : trial ≡ trialUPlace (G .design .p) (qOf (G .design))) (em : mark ≡ markRow (nOf G)) (ex : xbeta ≡ xbetaRow (nOf G))
     (en : nodes ≡ padded (nodesOf o)) (ew : ws ≡ padded (weightsOf o)) (es : size ≡ sizeOf o)
@@ -102,7 +103,7 @@ module _ (family : CarriedFamily) (link : CarriedLink) (shape : Shape) (theta : 
   G = givenWith family link shape theta zt y weights offset n p
 
   module _ (inv : Float) (l u trial mark xbeta size count : ℕ) (nodes ws r r1 r2 m m1 m2 t t' : List Float) (a : GroupSum)
-      (eq : q ≡ effectsOf shape) (lent : Lent n p q r m t) (few : count ≤ 7000) (em : mark ≡ markRow n)
+      (eq : q ≡ effectsOf shape) (lent : WorkRoom n p q r m t) (few : count ≤ 7000) (em : mark ≡ markRow n)
       (eu : u ≡ uPlace p q) (et : trial ≡ trialUPlace p q) (el : l ≡ inversePlace q) (ex : xbeta ≡ xbetaRow n) (ei : inv ≡ inversePhi phi)
       (es : size ≡ sizeOf o) (en : nodes ≡ padded (nodesOf o)) (ew : ws ≡ padded (weightsOf o)) (ea : a ≡ groupSumOf (row 0 count t')) where
     pub several-made : (s k : ℕ) → s + k ≤ q → count ≡ size ^ k → Wrote mark n (build (markAt zt s k) n) r r1 → m1 ≡ fillAt trial q (entryFrom m u) m
@@ -115,7 +116,7 @@ module _ (family : CarriedFamily) (link : CarriedLink) (shape : Shape) (theta : 
         (frame-terms n p q mark xbeta trial count _ r r1 r2 m m1 m2 t t' em ex et few (wrote .only) (made .in-r) (rw copied (copied-only n p q u trial r m t lent eu et)) (made .in-m) (made .terms))
 
   -- ---- a group, from the scale of its block
-  module _ (s k : ℕ) (r m m1 t t1 : List Float) (c : Scaling) (eq : q ≡ effectsOf shape) (lent : Lent n p q r m t) (h : s + k ≤ q) (scale : ScaleLeaves q s k m m1 t t1 c) where
+  module _ (s k : ℕ) (r m m1 t t1 : List Float) (c : Scaling) (eq : q ≡ effectsOf shape) (lent : WorkRoom n p q r m t) (h : s + k ≤ q) (scale : ScaleLeaves q s k m m1 t t1 c) where
     told-scale : (x : List Float) (M : Mode) → Stands (G x) M r m → tellScale c (row (inversePlace q) (k * k) m1) ≡ blockScale k (sectionOf (effectsOf shape) (M .system) s k)
     told-scale x M st = scale .scale ∙ rw (eq, st .system) refl
 

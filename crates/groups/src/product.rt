@@ -155,7 +155,7 @@ pub fn product_step(
                     points,
                 };
             }
-            Summed::Sum(s) => {
+            Summed::LogSum(s) => {
                 total = total + -2.0 * s;
             }
         }

@@ -12,7 +12,7 @@ use Rattle.base.proofs.Rows.{only-trans}
 use Rattle.columns.specs.Columns.{OnlyTwo}
 use Rattle.columns.proofs.Laws.{two-row}
 use Rattle.family.specs.Carried.{linkOf}
-use Rattle.layout.specs.Layout.{Lent, MatricesLaid}
+use Rattle.layout.specs.Layout.{WorkRoom, MatricesLaid}
 use Rattle.layout.specs.WorkMatrices.{inversePlace, rootInversePlace, uPlace, trialUPlace, betaPlace, matricesLength}
 use Rattle.layout.specs.WorkRows.{muRow, xbetaRow, pointRow, rowsLength}
 use Rattle.layout.proofs.LaidOut.{laid-out, lent-kept}
@@ -32,14 +32,14 @@ use Rattle.rule.proofs.Caps.{run-capped}
 use Rattle.stages.specs.Held.{etaRow}
 use Rattle.iteration.specs.Iterated.{Asked}
 use Rattle.iteration.proofs.IterationMade.{eta-before}
-use Rattle.pirls.specs.Inner.{HoldsMode, EndingTold, InnerLeft}
+use Rattle.pirls.specs.Inner.{HoldsResults, HoldsMode, EndingTold, InnerLeft}
 use Rattle.pirls.specs.declared.inner.Ended.the-variants.{Stopped, Failed}
 use Rattle.pirls.specs.declared.inner.InnerFit.{InnerFit}
 use Rattle.agq_rule.specs.Steps.{quadratureOf}
 use Rattle.agq_rule.specs.Inner.{withMode, withoutMode, devianceBy, withPoints, afterRun, innerWith, innerOf}
 use Rattle.sums.specs.Summed.{integratedOf}
 use Rattle.inner.specs.Read.{Reads, QuadratureAt}
-use Rattle.inner.specs.Answered.{failedAnswer, answerOf, HoldsAnswer, AnswerLeft}
+use Rattle.inner.specs.Answered.{failedAnswer, stoppedAnswer, HoldsAnswer, AnswerLeft}
 use Rattle.sums.specs.declared.answers.Quadrature.{Quadrature}
 use Rattle.inner.specs.declared.answers.InnerAnswer.{InnerAnswer}
 
@@ -53,9 +53,9 @@ two-within b n c k N h h' p =
 
 -- the slices after an inner fit have room still
 module _ {n p q a b d : ℕ} {shape : Shape} {theta : List Float} {starts columns : List ℕ} {values offset x y r m t r' m' t' : List Float} (k : Asked n p q shape theta starts columns values offset x y r m t) where
-  pub lent-after : Only 0 a r r' → Only 0 b m m' → Only 0 d t t' → Lent n p (effectsOf shape) r' m' t'
+  pub lent-after : Only 0 a r r' → Only 0 b m m' → Only 0 d t t' → WorkRoom n p (effectsOf shape) r' m' t'
   lent-after er em et =
-      let l : Lent n p q r' m' t' = lent-kept (k .lent) (er .len) (em .len) (et .len) in
+      let l : WorkRoom n p q r' m' t' = lent-kept (k .lent) (er .len) (em .len) (et .len) in
       rw (k .ready .effects) at l
 
 module _ (G : Given) (wish : ℕ) (phi : Float) (L : ℕ) (mu r r1 m m1 t t1 : List Float) (fit : InnerFit) (x : InnerLeft G phi L mu r r1 m m1 t t1 fit) where
@@ -108,9 +108,9 @@ module _ (G : Given) (wish : ℕ) (phi : Float) (L : ℕ) (mu r r1 m m1 t t1 : L
       absurd (let z : _≡_ {A = ℕ} 0 1 = cc in omega arith)
 
   reads : (k : Mode) → HoldsMode G k r1 m1 fit → Reads G k (fit .fit) r1 m1
-  reads k h = record { fit-term = sym (h .fit-term); deviances = h .deviances; system = h .system; beta = h .beta; u = h .u }
+  reads k h = record { fit-term = sym (h .fit-term); deviances = h .deviances; system = h .system; beta = h .results .beta; u = h .results .u }
 
-  module _ (lent : Lent n p q r1 m1 t1) (r2 m2 t2 : List Float) (a : Quadrature) (s : QuadratureAt G wish phi (fit .fit) r1 r2 m1 m2 t1 t2 a) where
+  module _ (lent : WorkRoom n p q r1 m1 t1) (r2 m2 t2 : List Float) (a : Quadrature) (s : QuadratureAt G wish phi (fit .fit) r1 r2 m1 m2 t1 t2 a) where
     laid : MatricesLaid p q
     laid = laid-out (lent .sizes) .matrices
 
@@ -130,26 +130,33 @@ module _ (G : Given) (wish : ℕ) (phi : Float) (L : ℕ) (mu r r1 m m1 t t1 : L
       unfolding innerOf innerWith afterRun withPoints integratedOf
       inner-is = rw (e, integral) refl
 
-      holds : HoldsAnswer G k (a .answer) r2 m2 (answerOf fit a)
+      results-kept : HoldsResults G k (fit .«in_second») r2 m2
+      results-kept =
+          let d = h .results in
+          record {
+            place = d .place;
+            eta = row-kept (etaRow n (fit .«in_second»)) (omega (arith, eta-before n (fit .«in_second»))) ∙ d .eta;
+            mu = row-kept (muRow n) (omega arith) ∙ d .mu;
+            inverse = matrix-kept (rootInversePlace p q) (p * p) (inr (omega (arith, laid .inverse, laid .solved))) (inl (omega (arith, laid .root-inverse))) (omega (arith, laid .log-weights)) ∙ d .inverse;
+            beta = matrix-kept (betaPlace p q) p (inr (omega arith)) (inr (omega arith)) (omega (arith, laid .log-weights)) ∙ d .beta;
+            u = matrix-kept (uPlace p q) q (inr (omega arith)) (inl (omega arith)) (omega (arith, laid .log-weights)) ∙ d .u;
+          }
+
+      holds : HoldsAnswer G k (a .answer) r2 m2 (stoppedAnswer fit a)
       holds =
           record {
             end = refl;
             iterations = h .iterations;
-            place = h .place;
-            eta = row-kept (etaRow n (fit .«in_second»)) (omega (arith, eta-before n (fit .«in_second»))) ∙ h .eta;
-            mu = row-kept (muRow n) (omega arith) ∙ h .mu;
+            results = results-kept;
             sum = h .sum;
             deviance = ap (devianceBy (a .answer)) (h .laplace-deviance);
             order = refl;
-            inverse = matrix-kept (rootInversePlace p q) (p * p) (inr (omega (arith, laid .inverse, laid .solved))) (inl (omega (arith, laid .root-inverse))) (omega (arith, laid .log-weights)) ∙ h .inverse;
-            beta = matrix-kept (betaPlace p q) p (inr (omega arith)) (inr (omega arith)) (omega (arith, laid .log-weights)) ∙ h .beta;
-            u = matrix-kept (uPlace p q) q (inr (omega arith)) (inl (omega arith)) (omega (arith, laid .log-weights)) ∙ h .u;
           }
 
       counted : fit .account ⊞ pointsOf (a .points) ≡ tally (runOf G phi L mu .items ++ replicate (a .points) aPoint)
       counted = sym (tally-append (runOf G phi L mu .items) (replicate (a .points) aPoint) ∙ rw (← x .counted, tally-points (a .points)) refl)
 
-      mode-left : (b : InnerAnswer) → b ≡ answerOf fit a → AnswerLeft G wish phi L mu r r2 m m2 t t2 b
+      mode-left : (b : InnerAnswer) → b ≡ stoppedAnswer fit a → AnswerLeft G wish phi L mu r r2 m m2 t t2 b
       mode-left b hb =
           let lr : rowsLength n ≤ length r1 = lent .rows-long in
           rw hb
@@ -161,7 +168,7 @@ module _ (G : Given) (wish : ℕ) (phi : Float) (L : ℕ) (mu r r1 m m1 t t1 : L
             terms-only = only-trans (x .terms-only) (s .terms-only);
           })
 
-    pub stopped-left : (b : InnerAnswer) → fit .end ≡ Stopped → b ≡ answerOf fit a → AnswerLeft G wish phi L mu r r2 m m2 t t2 b
+    pub stopped-left : (b : InnerAnswer) → fit .end ≡ Stopped → b ≡ stoppedAnswer fit a → AnswerLeft G wish phi L mu r r2 m m2 t t2 b
     stopped-left b d hb =
         let h : Held = run-stopped (runOf G phi L mu .ending) refl (x .told) d in
         mode-left (h .mode) (h .ending) (h .holds) b hb

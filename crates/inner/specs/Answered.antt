@@ -2,13 +2,12 @@
 use mathlib.Core.Path.{_≡_}
 use mathlib.Core.List.{List}
 use mathlib.Core.Bool.{false}
-use Prim.Native.Nat.{ℕ, _*_}
+use Prim.Native.Nat.{ℕ}
 use lib.Ieee.{Float}
 use Rattle.base.specs.Number.{zeroF}
-use Rattle.base.specs.Rows.{row, Only}
-use Rattle.factor.specs.Inverse.{choleskyInverse}
-use Rattle.layout.specs.WorkRows.{muRow, rowsLength}
-use Rattle.layout.specs.WorkMatrices.{rootInversePlace, uPlace, betaPlace, matricesLength}
+use Rattle.base.specs.Rows.{Only}
+use Rattle.layout.specs.WorkRows.{rowsLength}
+use Rattle.layout.specs.WorkMatrices.{matricesLength}
 use Rattle.layout.specs.WorkTerms.{termsLength}
 use Rattle.model.specs.Account.{_⊞_, pointsOf}
 use Rattle.model.specs.Items.{tally}
@@ -16,8 +15,7 @@ use Rattle.model.specs.declared.counts.Account.{Account}
 use Rattle.model.specs.declared.ends.End.{End}
 use Rattle.rule.specs.Given.{Given, nOf, qOf}
 use Rattle.rule.specs.Stop.{Mode}
-use Rattle.stages.specs.Held.{etaRow}
-use Rattle.pirls.specs.Inner.{turned}
+use Rattle.pirls.specs.Inner.{HoldsResults}
 use Rattle.pirls.specs.declared.inner.Ended.the-variants.{Stopped, Failed}
 use Rattle.pirls.specs.declared.inner.InnerFit.{InnerFit}
 use Rattle.agq_rule.specs.Inner.{InnerEnd, withMode, withoutMode, devianceBy, orderBy, innerOf}
@@ -30,22 +28,17 @@ abbrev pub failedAnswer : End → Account → InnerAnswer
 failedAnswer e a = record { end = Failed e; iterations = 0; «in_second» = false; «deviance_sum» = zeroF; deviance = zeroF; order = 0; account = a }
 
 -- a fit that stopped, with what its quadrature answers: the points are counted, whatever became of them
-abbrev pub answerOf : InnerFit → Quadrature → InnerAnswer
-answerOf f a = record { end = Stopped; iterations = f .iterations; «in_second» = f .«in_second»; «deviance_sum» = f .«deviance_sum»; deviance = devianceBy (a .answer) (f .laplace); order = orderBy (a .answer); account = f .account ⊞ pointsOf (a .points) }
+abbrev pub stoppedAnswer : InnerFit → Quadrature → InnerAnswer
+stoppedAnswer f a = record { end = Stopped; iterations = f .iterations; «in_second» = f .«in_second»; «deviance_sum» = f .«deviance_sum»; deviance = devianceBy (a .answer) (f .laplace); order = orderBy (a .answer); account = f .account ⊞ pointsOf (a .points) }
 
--- the answer holds the mode k with what the quadrature answered, i; the accepted predictor stands in the row that the answer names, its means in theirs, β, u and the inverse of the normal matrix's factor in the matrices
+-- the answer holds the mode k with what the quadrature answered, i; the work slices hold what the results are made of
 pub record HoldsAnswer (G : Given) (k : Mode) (i : Integral) (rows matrices : List Float) (a : InnerAnswer) : Type 0 where
   pub end : a .end ≡ Stopped
   pub iterations : a .iterations ≡ k .iterations
-  pub place : a .«in_second» ≡ turned (k .iterations)
-  pub eta : row (etaRow (nOf G) (a .«in_second»)) (nOf G) rows ≡ k .eta
-  pub mu : row (muRow (nOf G)) (nOf G) rows ≡ k .mu
+  pub results : HoldsResults G k (a .«in_second») rows matrices
   pub sum : a .«deviance_sum» ≡ k .devSum
   pub deviance : a .deviance ≡ devianceBy i (k .laplace)
   pub order : a .order ≡ orderBy i
-  pub inverse : row (rootInversePlace (G .design .p) (qOf (G .design))) (G .design .p * G .design .p) matrices ≡ choleskyInverse (G .design .p) (k .root)
-  pub beta : row (betaPlace (G .design .p) (qOf (G .design))) (G .design .p) matrices ≡ k .beta
-  pub u : row (uPlace (G .design .p) (qOf (G .design))) (qOf (G .design)) matrices ≡ k .u
 
 -- the answer says how the inner fit ended
 abbrev pub AnswerTold : InnerEnd → Given → (rows matrices : List Float) → InnerAnswer → Type 0

@@ -8,7 +8,7 @@ use pirls::InnerFit;
 use sums::Quadrature;
 ghost use mathlib.Core.Path.{_≡_};
 ghost use Rattle.model.specs.Account.{pointsOf, SumFits};
-ghost use Rattle.inner.specs.Answered.{failedAnswer, answerOf};
+ghost use Rattle.inner.specs.Answered.{failedAnswer, stoppedAnswer};
 
 // What an inner fit answers beside what stands in the work slices; without a result all but end and account is zero.
 pub struct InnerAnswer {
@@ -39,7 +39,7 @@ pub fn failed_answer(end: End, account: Account) -> InnerAnswer
 // A fit that stopped, with its quadrature: declining keeps Laplace and order 1, and the points are counted either way.
 pub fn answer_of(fit: InnerFit, quadrature: Quadrature) -> InnerAnswer
     requires { ⌜ SumFits (fit .account) (pointsOf (quadrature .points)) ⌝ }
-    ensures { λ a. ⌜ a ≡ answerOf fit quadrature ⌝ }
+    ensures { λ a. ⌜ a ≡ stoppedAnswer fit quadrature ⌝ }
 {
     let integral = quadrature.answer;
     let points = Account::of_points(quadrature.points as u64);

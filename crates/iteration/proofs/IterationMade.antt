@@ -10,7 +10,7 @@ use lib.Ieee.{Float}
 use Rattle.base.specs.Rows.{row, Out, Only}
 use Rattle.base.specs.Sparse.{Sparse}
 use Rattle.base.proofs.Rows.{only-row, only-wide, only-trans}
-use Rattle.layout.specs.Layout.{Lent}
+use Rattle.layout.specs.Layout.{WorkRoom}
 use Rattle.layout.specs.WorkRows.{muRow, rawRow, weightedRow, rowsLength}
 use Rattle.layout.specs.WorkMatrices.{uPlace}
 use Rattle.layout.specs.WorkTerms.{wPlace, zPlace, termsLength}
@@ -88,7 +88,7 @@ unfolding etaRow
 eta-before n false = omega arith
 eta-before n true = omega arith
 
-module _ (G : Given) (phi : Float) (second : Bool) (r r1 r2 m m2 t t1 t2 : List Float) (lent : Lent (nOf G) (G .design .p) (qOf (G .design)) r m t) where
+module _ (G : Given) (phi : Float) (second : Bool) (r r1 r2 m m2 t t1 t2 : List Float) (lent : WorkRoom (nOf G) (G .design .p) (qOf (G .design)) r m t) where
   abbrev n : ℕ
   n = nOf G
 
@@ -214,12 +214,12 @@ module _ (G : Given) (phi : Float) (second : Bool) (r r1 r2 m m2 t t1 t2 : List 
 
 -- ---- the same for the arguments of the code, of which q is the number of effects
 module _ (family : CarriedFamily) (link : CarriedLink) (phi : Float) (n p q' : ℕ) (shape : Shape) (theta offset x y weights : List Float) (zt : Sparse) (second : Bool) (r r1 r2 m m2 t t1 t2 : List Float)
-    (a : Solving) (e : q' ≡ effectsOf shape) (lent : Lent n p q' r m t) (wd : Weighs family link phi y weights offset n q' (row (etaRow n second) n r) (row (muRow n) n r) r r1 t t1)
+    (a : Solving) (e : q' ≡ effectsOf shape) (lent : WorkRoom n p q' r m t) (wd : Weighs family link phi y weights offset n q' (row (etaRow n second) n r) (row (muRow n) n r) r r1 t t1)
     (f : SolvesWorking (designOf n p shape theta offset x zt) r1 r2 m m2 t1 t2 a) where
   abbrev G : Given
   G = givenOf family link y weights (designOf n p shape theta offset x zt)
 
-  lent' : Lent n p (qOf (G .design)) r m t
+  lent' : WorkRoom n p (qOf (G .design)) r m t
   lent' = rw e at lent
 
   wd' : Weighed G phi (qOf (G .design)) (row (etaRow n second) n r) (row (muRow n) n r) r r1 t t1

@@ -16,7 +16,7 @@ use Rattle.lambda.specs.Product.{lambdaTimesAt}
 use Rattle.stored.specs.Stored.{zTimesAt}
 use Rattle.model.specs.Shape.{effectsOf}
 use Rattle.model.specs.declared.sizes.Shape.{Shape}
-use Rattle.layout.specs.Layout.{Lent}
+use Rattle.layout.specs.Layout.{WorkRoom}
 use Rattle.layout.specs.WorkRows.{rawRow}
 use Rattle.layout.specs.WorkMatrices.{solvedPlace, wyPlace, uPlace, bPlace, betaPlace}
 use Rattle.layout.specs.WorkTerms.{sparePlace}
@@ -39,7 +39,7 @@ raw-row-wrote n p raw re beta be offset x m r ys er hr eb l y =
     filled-part raw n re (rawAt offset x p (take (be - beta) (drop beta m)) (midOf raw (re - raw) r)) r ys er hr l y in
     rw (← part-is beta p be m eb, ← part-is raw n re r er) w
 
-module _ (n p q : ℕ) (shape : Shape) (theta offset x : List Float) (zt : Sparse) (r r' r'' m m' t t' : List Float) (eq : q ≡ effectsOf shape) (lent : Lent n p q r m t) where
+module _ (n p q : ℕ) (shape : Shape) (theta offset x : List Float) (zt : Sparse) (r r' r'' m m' t t' : List Float) (eq : q ≡ effectsOf shape) (lent : WorkRoom n p q r m t) where
   abbrev wy : List Float
   wy = row (wyPlace p q) q m
 

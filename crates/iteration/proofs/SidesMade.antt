@@ -11,7 +11,7 @@ use Rattle.base.specs.Sparse.{Sparse}
 use Rattle.base.proofs.Rows.{part-is, front-is, only-row, only-wide, only-trans}
 use Rattle.factor.specs.Substitution.{ldlSolve}
 use Rattle.factor.specs.Triangle.{SameBelow}
-use Rattle.layout.specs.Layout.{Lent}
+use Rattle.layout.specs.Layout.{WorkRoom}
 use Rattle.layout.specs.WorkRows.{weightedRow, workingRow}
 use Rattle.layout.specs.WorkMatrices.{systemPlace, wyPlace, matricesLength}
 use Rattle.layout.specs.WorkTerms.{wPlace}
@@ -29,7 +29,7 @@ solved-side-at : (q b : ℕ) (D : Design) (v L m m' F : List Float) → q ≡ qO
 solved-side-at q b D v L m m' F e s same = rw e (s F (rw e at same))
 
 module _ (n p q weighted end wy : ℕ) (shape : Shape) (theta x : List Float) (zt : Sparse) (r r' m m' m'' t t' : List Float) where
-  pub sides-made : q ≡ effectsOf shape → Lent n p q r m t → weighted ≡ weightedRow n → end ≡ weighted + n → wy ≡ wyPlace p q
+  pub sides-made : q ≡ effectsOf shape → WorkRoom n p q r m t → weighted ≡ weightedRow n → end ≡ weighted + n → wy ≡ wyPlace p q
       → Whatever n shape theta zt (SolvedSide (take (end - weighted) (drop weighted r)) (take (q * q - 0) (drop 0 t)) wy m m') → ColumnsOf n p q shape theta x zt r r' m' m'' t t'
       → SidesOf n p q shape theta x zt r r' m m'' t t'
   sides-made e lent ew ee ey s c F offset same =

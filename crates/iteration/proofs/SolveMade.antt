@@ -14,7 +14,7 @@ use Rattle.base.proofs.Rows.{only-none, only-row, only-wide, only-trans}
 use Rattle.factor.specs.Factor.{choleskyOf}
 use Rattle.factor.specs.declared.pivots.Factored.{Factored}
 use Rattle.factor.specs.declared.pivots.Factored.the-variants.{Done, Bad}
-use Rattle.layout.specs.Layout.{Lent, MatricesLaid, TermsLaid}
+use Rattle.layout.specs.Layout.{WorkRoom, MatricesLaid, TermsLaid}
 use Rattle.layout.specs.WorkRows.{rawRow, weightedRow, columnRow, workingRow}
 use Rattle.layout.specs.WorkMatrices.{systemPlace, solvedPlace, wyPlace, uPlace, betaPlace, matricesLength}
 use Rattle.layout.specs.WorkTerms.{factorPlace, wPlace, zPlace, unsolvedPlace, normalPlace, sparePlace, termsLength}
@@ -65,7 +65,7 @@ module _ (D : Design) (w z : List Float) where
   rule-found q m m' t t' l = rw (← l .end) refl
 
 -- ---- what stands in the work slices after each part
-module _ (D : Design) (w z r m t : List Float) (lent : Lent (D .n) (D .p) (qOf D) r m t) (ready : Prepared D w z r t) where
+module _ (D : Design) (w z r m t : List Float) (lent : WorkRoom (D .n) (D .p) (qOf D) r m t) (ready : Prepared D w z r t) where
   abbrev n : ℕ
   n = D .n
 
@@ -206,12 +206,12 @@ module _ (D : Design) (w z r m t : List Float) (lent : Lent (D .n) (D .p) (qOf D
           }
 
 -- ---- the same for the arguments of the code, of which q is the number of effects
-module _ (n p q at i : ℕ) (shape : Shape) (theta offset x : List Float) (zt : Sparse) (r m t t1 m1 : List Float) (f : Factored) (e : q ≡ effectsOf shape) (lent : Lent n p q r m t) (ew : at ≡ wPlace q)
+module _ (n p q at i : ℕ) (shape : Shape) (theta offset x : List Float) (zt : Sparse) (r m t t1 m1 : List Float) (f : Factored) (e : q ≡ effectsOf shape) (lent : WorkRoom n p q r m t) (ew : at ≡ wPlace q)
     (s : Whatever n shape theta zt (SystemLeaves (row at n t) t t1 m m1 f)) where
   abbrev D : Design
   D = designOf n p shape theta offset x zt
 
-  lent' : Lent n p (qOf D) r m t
+  lent' : WorkRoom n p (qOf D) r m t
   lent' = rw e at lent
 
   left : SystemLeaves (row (wPlace (qOf D)) n t) t t1 m m1 f D

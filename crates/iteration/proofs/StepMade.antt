@@ -10,7 +10,7 @@ use lib.Ieee.{Float}
 use Rattle.base.specs.Rows.{row}
 use Rattle.base.proofs.Rows.{part-is, row-length}
 use Rattle.family.specs.declared.carried.CarriedLink.{CarriedLink}
-use Rattle.layout.specs.Layout.{Lent}
+use Rattle.layout.specs.Layout.{WorkRoom}
 use Rattle.layout.specs.WorkRows.{muRow, rawRow, rowsLength}
 use Rattle.layout.specs.WorkMatrices.{uPlace, bPlace}
 use Rattle.layout.specs.WorkTerms.{wPlace, zPlace, unsolvedPlace}
@@ -52,7 +52,7 @@ rows-room n q true u w z r h hu hw hz =
       z-long = hz;
     }
 
-module _ (n p q : ℕ) (second : Bool) (prev next raw mu u b w z unsolved : ℕ) (r m t : List Float) (lent : Lent n p q r m t) (e1 : prev ≡ etaRow n second) (e2 : next ≡ etaRow n (not second)) (e3 : raw ≡ rawRow n)
+module _ (n p q : ℕ) (second : Bool) (prev next raw mu u b w z unsolved : ℕ) (r m t : List Float) (lent : WorkRoom n p q r m t) (e1 : prev ≡ etaRow n second) (e2 : next ≡ etaRow n (not second)) (e3 : raw ≡ rawRow n)
     (e4 : mu ≡ muRow n) (e5 : u ≡ uPlace p q) (e6 : b ≡ bPlace p q) (e7 : w ≡ wPlace q) (e8 : z ≡ zPlace n q) (e9 : unsolved ≡ unsolvedPlace n q) where
   u-part : take (b - u) (drop u m) ≡ row u q m
   u-part = part-is u q b m (omega arith)

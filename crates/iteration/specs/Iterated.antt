@@ -7,7 +7,7 @@ use lib.Ieee.{Float}
 use Rattle.base.specs.Rows.{row, Only}
 use Rattle.family.specs.declared.carried.CarriedFamily.{CarriedFamily}
 use Rattle.family.specs.declared.carried.CarriedLink.{CarriedLink}
-use Rattle.layout.specs.Layout.{Lent}
+use Rattle.layout.specs.Layout.{WorkRoom}
 use Rattle.layout.specs.WorkRows.{muRow, rowsLength}
 use Rattle.layout.specs.WorkMatrices.{matricesLength}
 use Rattle.layout.specs.WorkTerms.{termsLength}
@@ -27,7 +27,7 @@ use Rattle.iteration.specs.declared.iterates.Iteration.the-variants.{Uns
 -- the lists are as long as the sizes say, Z' is in order, and the work slices have room
 pub record Asked (n p q : ℕ) (shape : Shape) (theta : List Float) (starts columns : List ℕ) (values offset x y r m t : List Float) : Type 0 where
   pub ready : Ready shape theta starts columns values q n
-  pub lent : Lent n p q r m t
+  pub lent : WorkRoom n p q r m t
   pub offset-fits : Optional n offset
   pub x-long : n * p ≤ length x
   pub y-long : n ≤ length y

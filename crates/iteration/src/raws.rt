@@ -13,7 +13,7 @@ use solve::zb_into;
 ghost use Prim.Native.Nat.{_*_, _≤_};
 ghost use lib.ListN.{length};
 ghost use Rattle.base.specs.Rows.{row};
-ghost use Rattle.layout.specs.Layout.{Lent};
+ghost use Rattle.layout.specs.Layout.{WorkRoom};
 ghost use Rattle.layout.specs.WorkMatrices.{solvedPlace, wyPlace, betaPlace};
 ghost use Rattle.stored.specs.Stored.{sparse};
 ghost use Rattle.working.specs.Optional.{Optional};
@@ -37,7 +37,7 @@ pub fn raw_into(
     t: &mut [f64],
 )
     requires { ⌜ Ready shape (now theta) (now starts) (now columns) (now values) q n ⌝ }
-    requires { ⌜ Lent n p q (now r) (now m) (now t) ⌝ }
+    requires { ⌜ WorkRoom n p q (now r) (now m) (now t) ⌝ }
     requires { ⌜ (Optional n (now offset)) × (n * p ≤ length (now x)) ⌝ }
     ensures { λ _. ⌜ RawLeft (designOf n p shape (now (theta .entry)) (now (offset .entry)) (now (x .entry)) (sparse (now (starts .entry)) (now (columns .entry)) (now (values .entry)))) (row (wyPlace p q) q (now (m .entry))) (row (solvedPlace q) (p * q) (now (m .entry))) (row (betaPlace p q) p (now (m .entry))) (now (r .entry)) (now (r .exit)) (now (m .entry)) (now (m .exit)) (now (t .entry)) (now (t .exit)) ⌝ }
 {

@@ -6,7 +6,7 @@ use model::Shape;
 use solve::solve_side;
 ghost use Prim.Native.Nat.{_*_, _≤_};
 ghost use lib.ListN.{length};
-ghost use Rattle.layout.specs.Layout.{Lent};
+ghost use Rattle.layout.specs.Layout.{WorkRoom};
 ghost use Rattle.stored.specs.Stored.{sparse};
 ghost use Rattle.solve.specs.Ready.{Ready};
 ghost use Rattle.iteration.specs.Solving.{SidesOf};
@@ -27,7 +27,7 @@ pub fn right_sides(
     t: &mut [f64],
 )
     requires { ⌜ Ready shape (now theta) (now starts) (now columns) (now values) q n ⌝ }
-    requires { ⌜ Lent n p q (now r) (now m) (now t) ⌝ }
+    requires { ⌜ WorkRoom n p q (now r) (now m) (now t) ⌝ }
     requires { ⌜ n * p ≤ length (now x) ⌝ }
     ensures { λ _. ⌜ SidesOf n p q shape (now (theta .entry)) (now (x .entry)) (sparse (now (starts .entry)) (now (columns .entry)) (now (values .entry))) (now (r .entry)) (now (r .exit)) (now (m .entry)) (now (m .exit)) (now (t .entry)) (now (t .exit)) ⌝ }
 {

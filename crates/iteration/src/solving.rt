@@ -9,7 +9,7 @@ use model::Shape;
 use solve::factor_system;
 ghost use Prim.Native.Nat.{_*_, _≤_};
 ghost use lib.ListN.{length};
-ghost use Rattle.layout.specs.Layout.{Lent};
+ghost use Rattle.layout.specs.Layout.{WorkRoom};
 ghost use Rattle.stored.specs.Stored.{sparse};
 ghost use Rattle.working.specs.Optional.{Optional};
 ghost use Rattle.solve.specs.Ready.{Ready, designOf};
@@ -38,7 +38,7 @@ pub fn solve_into(
     t: &mut [f64],
 ) -> Solving
     requires { ⌜ Ready shape (now theta) (now starts) (now columns) (now values) q n ⌝ }
-    requires { ⌜ Lent n p q (now r) (now m) (now t) ⌝ }
+    requires { ⌜ WorkRoom n p q (now r) (now m) (now t) ⌝ }
     requires { ⌜ (Optional n (now offset)) × (n * p ≤ length (now x)) ⌝ }
     ensures { λ a. ⌜ SolvesWorking (designOf n p shape (now (theta .entry)) (now (offset .entry)) (now (x .entry)) (sparse (now (starts .entry)) (now (columns .entry)) (now (values .entry)))) (now (r .entry)) (now (r .exit)) (now (m .entry)) (now (m .exit)) (now (t .entry)) (now (t .exit)) a ⌝ }
 {

@@ -14,7 +14,7 @@ ghost use mathlib.Core.Path.{_≡_};
 ghost use mathlib.Core.Bool.{not};
 ghost use Prim.Native.Nat.{_≤_};
 ghost use Rattle.base.specs.Rows.{row};
-ghost use Rattle.layout.specs.Layout.{Lent};
+ghost use Rattle.layout.specs.Layout.{WorkRoom};
 ghost use Rattle.layout.specs.WorkRows.{muRow, rawRow};
 ghost use Rattle.layout.specs.WorkMatrices.{uPlace};
 ghost use Rattle.layout.specs.WorkTerms.{wPlace, zPlace};
@@ -43,7 +43,7 @@ pub fn step(
     t: &[f64],
     r: &mut [f64],
 ) -> TriesEnd
-    requires { ⌜ Lent n p q (now r) (now m) (now t) ⌝ }
+    requires { ⌜ WorkRoom n p q (now r) (now m) (now t) ⌝ }
     ensures { λ a. ⌜ TriesDone (trialIn link n q (etaRow n «in_second») (rawRow n) (row (uPlace p q) q (now (m .entry))) (row (wPlace q) n (now (t .entry))) (row (zPlace n q) n (now (t .entry))) (now (r .entry))) (etaRow n (not «in_second»)) (muRow n) (now (r .entry)) (now (r .exit)) a ⌝ }
 {
     let prev = eta_row(n, in_second);

@@ -13,7 +13,7 @@ use Rattle.family.specs.declared.carried.CarriedFamily.{CarriedFamily}
 use Rattle.family.specs.declared.carried.CarriedLink.{CarriedLink}
 use Rattle.model.specs.Shape.{effectsOf}
 use Rattle.model.specs.declared.sizes.Shape.{Shape}
-use Rattle.layout.specs.Layout.{Lent}
+use Rattle.layout.specs.Layout.{WorkRoom}
 use Rattle.layout.specs.WorkRows.{xbetaRow, markRow}
 use Rattle.layout.specs.WorkMatrices.{inversePlace, uPlace, trialUPlace}
 use Rattle.layout.proofs.Inside.{u-in}
@@ -32,11 +32,12 @@ use Rattle.scale.specs.Tells.{tellScale, ScaleLeaves}
 use Rattle.scale.specs.declared.scales.Scaling.{Scaling}
 use Rattle.scale.specs.declared.scales.Scaling.the-variants.{Scaled, Unscaled}
 use Rattle.scale.proofs.ScaleFound.{joint-scale}
-use Rattle.several.specs.Several.{gainIn, jointTermIn, TermsIn}
+use Rattle.agq.specs.Gained.{gainIn}
+use Rattle.several.specs.Several.{jointTermIn, TermsIn}
 use Rattle.several.proofs.SeveralRuled.{joint-ruled}
 use Rattle.sums.specs.Stands.{Stands, givenWith}
 use Rattle.sums.specs.Summed.{carry, groupSumOf, integratedOf, StepFrame, SumLeft, StepLeft}
-use Rattle.sums.specs.declared.answers.Summed.the-variants.{NoSum, Sum}
+use Rattle.sums.specs.declared.answers.Summed.the-variants.{NoSum, LogSum}
 use Rattle.sums.specs.declared.answers.GroupSum.{GroupSum}
 use Rattle.sums.specs.declared.answers.Quadrature.{Quadrature}
 use Rattle.sums.specs.declared.answers.Summed.{Summed}
@@ -49,7 +50,7 @@ use Rattle.joint.specs.Joint.{jointBy, jointAnswer, jointTerms, jointRul
 
 joint-carried : (s : Summed) (i : ℕ) (o : Order) (M : Mode) → pointsBefore i (carry s (jointTotal M o)) ≡ integratedOf (record { answer = jointBy s o (M .fit); points = i })
 unfolding carry jointTotal jointBy
-joint-carried (Sum v) i o M = step-told i _
+joint-carried (LogSum v) i o M = step-told i _
 joint-carried (NoSum d) i o M = step-told i _
 
 module _ (G : Given) (M : Mode) (phi fit : Float) (o : Order) (c : Scaling) (L : List Float) (e : tellScale c L ≡ blockScale (qOf (G .design)) (M .system)) (ef : M .fit ≡ fit) where
@@ -67,7 +68,7 @@ module _ (G : Given) (M : Mode) (phi fit : Float) (o : Order) (c : Scaling) (L :
 
 -- ---- all effects at once, in the rule's words
 module _ (G : Given) (M : Mode) (phi : Float) (o : Order) (size l u mark xbeta : ℕ) (nodes ws r r1 m t : List Float)
-    (lent : Lent (nOf G) (G .design .p) (qOf (G .design)) r m t) (stands : Stands G M r m) (el : l ≡ inversePlace (qOf (G .design)))
+    (lent : WorkRoom (nOf G) (G .design .p) (qOf (G .design)) r m t) (stands : Stands G M r m) (el : l ≡ inversePlace (qOf (G .design)))
     (eu : u ≡ uPlace (G .design .p) (qOf (G .design))) (em : mark ≡ markRow (nOf G)) (ex : xbeta ≡ xbetaRow (nOf G))
     (en : nodes ≡ padded (nodesOf o)) (ew : ws ≡ padded (weightsOf o)) (es : size ≡ sizeOf o)
     (wrote : Wrote mark (nOf G) (build oneAt (nOf G)) r r1) where
@@ -94,7 +95,7 @@ module _ (family : CarriedFamily) (link : CarriedLink) (shape : Shape) (theta : 
   G = givenWith family link shape theta zt y weights offset n p
 
   module _ (inv : Float) (l u trial mark xbeta size count : ℕ) (nodes ws r r1 r2 m m1 m2 t t' : List Float) (a : GroupSum)
-      (eq : q ≡ effectsOf shape) (lent : Lent n p q r m t) (few : count ≤ 7000) (em : mark ≡ markRow n)
+      (eq : q ≡ effectsOf shape) (lent : WorkRoom n p q r m t) (few : count ≤ 7000) (em : mark ≡ markRow n)
       (eu : u ≡ uPlace p q) (et : trial ≡ trialUPlace p q) (el : l ≡ inversePlace q) (ex : xbeta ≡ xbetaRow n) (ei : inv ≡ inversePhi phi)
       (es : size ≡ sizeOf o) (en : nodes ≡ padded (nodesOf o)) (ew : ws ≡ padded (weightsOf o)) (ea : a ≡ groupSumOf (row 0 count t')) where
     pub joint-made : count ≡ size ^ q → Wrote mark n (build oneAt n) r r1
@@ -107,7 +108,7 @@ module _ (family : CarriedFamily) (link : CarriedLink) (shape : Shape) (theta : 
         (frame-terms n p q mark xbeta trial count _ r r1 r2 m m m2 t t' em ex et few (wrote .only) (made .in-r) (only-none trial (q + q + q) m) (made .in-m) (made .terms))
 
   -- ---- all effects, from the scale of A
-  module _ (fit : Float) (r m m1 t t1 : List Float) (c : Scaling) (eq : q ≡ effectsOf shape) (lent : Lent n p q r m t) (scale : ScaleLeaves q 0 q m m1 t t1 c) where
+  module _ (fit : Float) (r m m1 t t1 : List Float) (c : Scaling) (eq : q ≡ effectsOf shape) (lent : WorkRoom n p q r m t) (scale : ScaleLeaves q 0 q m m1 t t1 c) where
     all-scale : (x : List Float) (M : Mode) → Stands (G x) M r m → tellScale c (row (inversePlace q) (q * q) m1) ≡ blockScale (effectsOf shape) (M .system)
     all-scale x M st = joint-scale q m m1 t t1 c (square-in lent) scale ∙ rw (eq, st .system) refl
 

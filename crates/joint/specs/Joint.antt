@@ -12,7 +12,7 @@ use Rattle.agq_rule.specs.Steps.{Integrated, afterJoint}
 use Rattle.agq_rule.specs.declared.answers.Integral.{Integral}
 use Rattle.agq_rule.specs.declared.answers.Integral.the-variants.{Deviance, Declined}
 use Rattle.sums.specs.declared.answers.Summed.{Summed}
-use Rattle.sums.specs.declared.answers.Summed.the-variants.{Sum, NoSum}
+use Rattle.sums.specs.declared.answers.Summed.the-variants.{LogSum, NoSum}
 use Rattle.sums.specs.declared.answers.GroupSum.{GroupSum}
 use Rattle.sums.specs.declared.answers.Quadrature.{Quadrature}
 
@@ -27,7 +27,7 @@ jointRule phi o G M = afterJoint (blockScale (qOf (G .design)) (M .system)) G M 
 -- by the log sum over all effects: fit term + total
 unfoldable pub jointBy : Summed → Order → Float → Integral
 jointBy (NoSum d) o fit = Declined d
-jointBy (Sum s) o fit = Deviance (fit ⊕ (neg twoF ⊗ s)) o
+jointBy (LogSum s) o fit = Deviance (fit ⊕ (neg twoF ⊗ s)) o
 
 -- what the joint rule answers, from that sum
 unfoldable pub jointAnswer : GroupSum → Order → Float → Quadrature

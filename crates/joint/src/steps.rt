@@ -106,7 +106,7 @@ fn joint_answer(a: GroupSum, order: Order, fit: f64) -> Quadrature
             answer: Integral::Declined(d),
             points: a.points,
         },
-        Summed::Sum(s) => Quadrature {
+        Summed::LogSum(s) => Quadrature {
             answer: Integral::Deviance(fit + -2.0 * s, order),
             points: a.points,
         },

@@ -19,7 +19,7 @@ use Rattle.model.specs.Shape.{effectsOf, InRange}
 use Rattle.model.specs.declared.sizes.Shape.{Shape}
 use Rattle.lambda.specs.Column.{columnOf, isEntry, lambdaAt}
 use Rattle.lambda.specs.Product.{columnAddedAt, acrossRow, downColumn, timesTerm, lambdaTimesAt, transposedTerm, lambdaTransposedAt, rightTerm, rightAt, rightColumnAt, leftTerm, systemAt}
-use Rattle.lambda.specs.declared.columns.Column.{Column}
+use Rattle.lambda.specs.declared.column.Column.{Column}
 use Rattle.lambda.proofs.ColumnPlaces.{column-rows}
 
 -- above the diagonal there is no place

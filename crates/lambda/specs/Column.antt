@@ -10,7 +10,7 @@ use Rattle.base.specs.Sum.{_!_, _!!_}
 use Rattle.base.specs.Sparse.{findTo}
 use Rattle.model.specs.Shape.{totalTo, firstEffect, firstTheta}
 use Rattle.model.specs.declared.sizes.Shape.{Shape}
-use Rattle.lambda.specs.declared.columns.Column.{Column}
+use Rattle.lambda.specs.declared.column.Column.{Column}
 
 -- the effects of block i begin at effect j or before it
 abbrev pub begunBy : Shape → ℕ → ℕ → Bool

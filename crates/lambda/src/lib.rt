@@ -1,10 +1,10 @@
 // Λ, which theta and the shape make, and its products.
-mod columns;
+mod column;
 mod products;
 mod systems;
 
-pub use columns::Column;
-pub use columns::column_of;
+pub use column::Column;
+pub use column::column_of;
 pub use products::add_column;
 pub use products::lambda_times;
 pub use products::lambda_transposed;

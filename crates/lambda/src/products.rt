@@ -1,5 +1,5 @@
 // Λ'v and Λu, column by column of Λ.
-use crate::columns::column_of;
+use crate::column::column_of;
 use model::Shape;
 ghost use mathlib.Core.Path.{_≡_};
 ghost use mathlib.Core.Bool.{true};

@@ -1,5 +1,5 @@
 // A = Λ'(SΛ) + I, S being Z'WZ. SΛ is held by its columns, so that both products go along rows.
-use crate::columns::column_of;
+use crate::column::column_of;
 use model::Shape;
 ghost use mathlib.Core.Path.{_≡_};
 ghost use mathlib.Core.Bool.{true};

@@ -6,7 +6,7 @@ use lib.ListN.{length}
 use lib.Ieee.{Float}
 use native.Mathlib.Omega.{arith}
 use Rattle.model.specs.Settings.{Sizes}
-use Rattle.layout.specs.Layout.{RowsLaid, MatricesLaid, TermsLaid, LaidOut, Lent}
+use Rattle.layout.specs.Layout.{RowsLaid, MatricesLaid, TermsLaid, LaidOut, WorkRoom}
 use Rattle.layout.proofs.Bounds.{products}
 
 rows-laid : {n p q : ℕ} → Sizes n p q → RowsLaid n
@@ -61,5 +61,5 @@ pub laid-out : {n p q : ℕ} → Sizes n p q → LaidOut n p q
 laid-out z = record { rows = rows-laid z; matrices = matrices-laid z; terms = terms-laid z }
 
 -- slices of the same lengths are as good
-pub lent-kept : {n p q : ℕ} {r m t r' m' t' : List Float} → Lent n p q r m t → length r' ≡ length r → length m' ≡ length m → length t' ≡ length t → Lent n p q r' m' t'
+pub lent-kept : {n p q : ℕ} {r m t r' m' t' : List Float} → WorkRoom n p q r m t → length r' ≡ length r → length m' ≡ length m → length t' ≡ length t → WorkRoom n p q r' m' t'
 lent-kept l er em et = record { sizes = l .sizes; rows-long = rw er (l .rows-long); matrices-long = rw em (l .matrices-long); terms-long = rw et (l .terms-long) }

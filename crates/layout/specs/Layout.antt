@@ -57,7 +57,7 @@ pub record LaidOut (n p q : ℕ) : Type 0 where
   pub terms : TermsLaid n p q
 
 -- sizes in range, and work slices as long as number 7 asks
-pub record Lent (n p q : ℕ) (rows matrices terms : List Float) : Type 0 where
+pub record WorkRoom (n p q : ℕ) (rows matrices terms : List Float) : Type 0 where
   pub sizes : Sizes n p q
   pub rows-long : rowsLength n ≤ length rows
   pub matrices-long : matricesLength p q ≤ length matrices

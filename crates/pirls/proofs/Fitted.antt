@@ -14,7 +14,7 @@ use Rattle.base.specs.Sparse.{Sparse}
 use Rattle.base.proofs.Rows.{only-row, only-wide}
 use Rattle.family.specs.declared.carried.CarriedFamily.{CarriedFamily}
 use Rattle.family.specs.declared.carried.CarriedLink.{CarriedLink}
-use Rattle.layout.specs.Layout.{Lent}
+use Rattle.layout.specs.Layout.{WorkRoom}
 use Rattle.layout.specs.WorkRows.{muRow, rowsLength}
 use Rattle.layout.proofs.LaidOut.{lent-kept}
 use Rattle.model.specs.Shape.{effectsOf}
@@ -46,7 +46,7 @@ module _ (family : CarriedFamily) (link : CarriedLink) (phi : Float) (L n p q : 
   G = givenOf family link y weights (designOf n p shape theta offset x zt)
 
   -- before the first iteration
-  module _ (at : ℕ) (r₀ r' m₀ t₀ : List Float) (lent : Lent n p q r₀ m₀ t₀) (ea : at ≡ muRow n) (w : Wrote 0 n (build (startEtaAt link offset (row at n r₀)) n) r₀ r') where
+  module _ (at : ℕ) (r₀ r' m₀ t₀ : List Float) (lent : WorkRoom n p q r₀ m₀ t₀) (ea : at ≡ muRow n) (w : Wrote 0 n (build (startEtaAt link offset (row at n r₀)) n) r₀ r') where
     mu-kept : row (muRow n) n r' ≡ row (muRow n) n r₀
     mu-kept = let l : rowsLength n ≤ length r₀ = lent .rows-long in only-row (muRow n) n 0 n (inr (omega arith)) (omega arith) (w .only)
 
@@ -89,7 +89,7 @@ module _ (family : CarriedFamily) (link : CarriedLink) (phi : Float) (L n p q : 
           pub turn-on : stops old pwrss ≡ false → Going G phi L (row (muRow n) n r') r' r2 m₀ m2 t₀ t2 pwrss (not second) (k + 1) (solves + 1) (tries + j)
           turn-on s = goes-on G phi L (row (muRow n) n r') r₀ r r' r2 m₀ m m2 t₀ t t2 old second k solves tries j pwrss g l (i' .told) (i' .rows-only) (i' .matrices-only) (i' .terms-only) few-tries s
 
-          pub end-stopped : (r3 m3 : List Float) (s : AtStop) (a : Account) (b : InnerFit) → stops old pwrss ≡ true → Lent n p q r2 m2 t2 → Stops family y weights n p q (row (muRow n) n r2) t2 r2 r3 m2 m3 s
+          pub end-stopped : (r3 m3 : List Float) (s : AtStop) (a : Account) (b : InnerFit) → stops old pwrss ≡ true → WorkRoom n p q r2 m2 t2 → Stops family y weights n p q (row (muRow n) n r2) t2 r2 r3 m2 m3 s
               → a ≡ record { fits = 1; solves = solves + 1; tries = tries + j; points = 0 } → b ≡ stoppedFit s (k + 1) (not second) a
               → InnerLeft G phi L (row (muRow n) n r₀) r₀ r3 m₀ m3 t₀ t2 b
           end-stopped r3 m3 s a b es lent2 st ha hb =

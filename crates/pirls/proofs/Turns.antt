@@ -10,7 +10,7 @@ use lib.Ieee.{Float}
 use Rattle.base.specs.Number.{hugeF}
 use Rattle.base.specs.Rows.{row, Apart, Only, Wrote}
 use Rattle.base.proofs.Rows.{only-row, only-wide, only-trans, only-none}
-use Rattle.layout.specs.Layout.{Lent, MatricesLaid}
+use Rattle.layout.specs.Layout.{WorkRoom, MatricesLaid}
 use Rattle.layout.specs.WorkRows.{muRow, devianceRow, rowsLength}
 use Rattle.layout.specs.WorkMatrices.{systemPlace, rootInversePlace, uPlace, betaPlace, matricesLength}
 use Rattle.layout.specs.WorkTerms.{termsLength}
@@ -86,7 +86,7 @@ module _ (G : Given) (phi : Float) (L : ℕ) (mu₀ : List Float) where
     pub terms-only : Only 0 termsLength t₀ t
 
   -- before the first
-  pub going-starts : (r₀ r m t : List Float) → Lent n p q r₀ m t → row (muRow n) n r₀ ≡ mu₀ → Wrote 0 n (startEta G mu₀) r₀ r → Going r r m m t t hugeF false 0 0 0
+  pub going-starts : (r₀ r m t : List Float) → WorkRoom n p q r₀ m t → row (muRow n) n r₀ ≡ mu₀ → Wrote 0 n (startEta G mu₀) r₀ r → Going r r m m t t hugeF false 0 0 0
   unfolding etaRow startAt turned
   going-starts r₀ r m t lent e w =
       let l : rowsLength n ≤ length r₀ = lent .rows-long in
@@ -223,7 +223,7 @@ module _ (G : Given) (phi : Float) (L : ℕ) (mu₀ : List Float) where
         }
 
     -- it passes: the mode
-    module _ (r‴ m‴ : List Float) (at : AtStop) (lent : Lent n p q r'' m' t') (sl : StopLeft G p q (x .v) (row (muRow n) n r'') r'' r‴ m' m‴ at) (e : stops old pwrss ≡ true) where
+    module _ (r‴ m‴ : List Float) (at : AtStop) (lent : WorkRoom n p q r'' m' t') (sl : StopLeft G p q (x .v) (row (muRow n) n r'') r'' r‴ m' m‴ at) (e : stops old pwrss ≡ true) where
       ended : restAt k second r old ≡ itemsBefore (aSolve ∷ x .items) (record { ending = stopped mode; items = [] })
       unfolding afterStop
       ended = went ∙ rw e refl
@@ -246,17 +246,20 @@ module _ (G : Given) (phi : Float) (L : ℕ) (mu₀ : List Float) where
                 (record {
                   end = refl;
                   iterations = refl;
-                  place = ap not (g .place) ∙ sym (turned-more k);
-                  eta = only-row (etaRow n (not second)) n (devianceRow n) n (inl (omega (arith, eta-in))) (omega (arith, eta-in)) (sl .rows-only);
-                  mu = only-row (muRow n) n (devianceRow n) n (inl (omega arith)) (omega arith) (sl .rows-only);
+                  results =
+                      record {
+                        place = ap not (g .place) ∙ sym (turned-more k);
+                        eta = only-row (etaRow n (not second)) n (devianceRow n) n (inl (omega (arith, eta-in))) (omega (arith, eta-in)) (sl .rows-only);
+                        mu = only-row (muRow n) n (devianceRow n) n (inl (omega arith)) (omega arith) (sl .rows-only);
+                        inverse = sl .inverse;
+                        beta = matrix-kept (betaPlace p q) p (inr (omega arith)) (omega (arith, ml .beta, ml .log-weights)) ∙ x .held .beta;
+                        u = matrix-kept (uPlace p q) q (inr (omega arith)) (omega (arith, ml .log-weights)) ∙ x .held .u;
+                      };
                   deviances = sl .deviances;
                   sum = sl .sum;
                   fit-term = sl .fit-term;
                   laplace-deviance = sl .laplace-deviance;
                   system = matrix-kept systemPlace (q * q) (inl (omega arith)) (omega (arith, ml .log-weights)) ∙ x .held .system;
-                  inverse = sl .inverse;
-                  beta = matrix-kept (betaPlace p q) p (inr (omega arith)) (omega (arith, ml .beta, ml .log-weights)) ∙ x .held .beta;
-                  u = matrix-kept (uPlace p q) q (inr (omega arith)) (omega (arith, ml .log-weights)) ∙ x .held .u;
                 });
             counted = ha ∙ rw (g .solved-each) (sym (fit-counts (k + 1) (tries + j) i));
             rows-only = only-trans (only-trans (only-trans or (g .rows-only)) or') (only-wide (devianceRow n) n 0 (rowsLength n) (omega arith) (omega arith) (sl .rows-only));

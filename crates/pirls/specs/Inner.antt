@@ -34,21 +34,25 @@ failedFit e a = record { end = Failed e; iterations = 0; «in_second» = false; 
 abbrev pub stoppedFit : AtStop → ℕ → Bool → Account → InnerFit
 stoppedFit s k second a = record { end = Stopped; iterations = k; «in_second» = second; «deviance_sum» = s .«deviance_sum»; fit = s .fit; laplace = s .laplace; account = a }
 
--- the answer and the work slices hold the mode: the accepted predictor in the row that the answer names, its means and deviances in theirs, A, β, u and the inverse of the normal matrix's factor in the matrices
+-- the work slices hold what the results are made of: the accepted predictor in the row that is named, its means, the inverse of the normal matrix's factor, β and u
+pub record HoldsResults (G : Given) (k : Mode) (second : Bool) (rows matrices : List Float) : Type 0 where
+  pub place : second ≡ turned (k .iterations)
+  pub eta : row (etaRow (nOf G) second) (nOf G) rows ≡ k .eta
+  pub mu : row (muRow (nOf G)) (nOf G) rows ≡ k .mu
+  pub inverse : row (rootInversePlace (G .design .p) (qOf (G .design))) (G .design .p * G .design .p) matrices ≡ choleskyInverse (G .design .p) (k .root)
+  pub beta : row (betaPlace (G .design .p) (qOf (G .design))) (G .design .p) matrices ≡ k .beta
+  pub u : row (uPlace (G .design .p) (qOf (G .design))) (qOf (G .design)) matrices ≡ k .u
+
+-- the answer and the work slices hold the mode: what the results are made of, the deviances in their row and A in the matrices
 pub record HoldsMode (G : Given) (k : Mode) (rows matrices : List Float) (a : InnerFit) : Type 0 where
   pub end : a .end ≡ Stopped
   pub iterations : a .iterations ≡ k .iterations
-  pub place : a .«in_second» ≡ turned (k .iterations)
-  pub eta : row (etaRow (nOf G) (a .«in_second»)) (nOf G) rows ≡ k .eta
-  pub mu : row (muRow (nOf G)) (nOf G) rows ≡ k .mu
+  pub results : HoldsResults G k (a .«in_second») rows matrices
   pub deviances : row (devianceRow (nOf G)) (nOf G) rows ≡ k .devs
   pub sum : a .«deviance_sum» ≡ k .devSum
   pub fit-term : a .fit ≡ k .fit
   pub laplace-deviance : a .laplace ≡ k .laplace
   pub system : row systemPlace (qOf (G .design) * qOf (G .design)) matrices ≡ k .system
-  pub inverse : row (rootInversePlace (G .design .p) (qOf (G .design))) (G .design .p * G .design .p) matrices ≡ choleskyInverse (G .design .p) (k .root)
-  pub beta : row (betaPlace (G .design .p) (qOf (G .design))) (G .design .p) matrices ≡ k .beta
-  pub u : row (uPlace (G .design .p) (qOf (G .design))) (qOf (G .design)) matrices ≡ k .u
 
 -- the answer says how the run ended
 abbrev pub EndingTold : Ending → Given → (rows matrices : List Float) → InnerFit → Type 0

@@ -11,12 +11,12 @@ use Rattle.base.specs.List.{fillAt}
 use Rattle.base.specs.Rows.{row, Apart}
 use Rattle.base.proofs.Fills.{fillat-step}
 use Rattle.spread.specs.Spread.{spreadAt}
-use Rattle.points.specs.Trial.{shiftedAt}
+use Rattle.agq_rule.specs.Term.{movedAt}
 use Rattle.points.proofs.Kept.{kept-entry}
 
 pub moved-step : (k l z u b i : ℕ) (v w Lp zp : List Float) (x : Float) → Apart u k b k → u + k ≤ length v → i < k → Lp ≡ row l (k * k) v → zp ≡ row z k v → x ≡ spreadAt k Lp zp i
-    → w ≡ fillAt b i (shiftedAt k (row l (k * k) v) (row z k v) (row u k v)) v → set w (b + i) ((w ! (u + i)) ⊕ x) ≡ fillAt b (i + 1) (shiftedAt k (row l (k * k) v) (row z k v) (row u k v)) v
-unfolding shiftedAt
+    → w ≡ fillAt b i (movedAt k (row l (k * k) v) (row z k v) 0 (row u k v)) v → set w (b + i) ((w ! (u + i)) ⊕ x) ≡ fillAt b (i + 1) (movedAt k (row l (k * k) v) (row z k v) 0 (row u k v)) v
+unfolding movedAt
 moved-step k l z u b i v w Lp zp x a h m p q e y =
-    rw (e, p, q, kept-entry u k b k i i (shiftedAt k (row l (k * k) v) (row z k v) (row u k v)) v w a h (omega arith) m y)
-    (fillat-step b (shiftedAt k (row l (k * k) v) (row z k v) (row u k v)) v i w y)
+    rw (e, p, q, kept-entry u k b k i i (movedAt k (row l (k * k) v) (row z k v) 0 (row u k v)) v w a h (omega arith) m y)
+    (fillat-step b (movedAt k (row l (k * k) v) (row z k v) 0 (row u k v)) v i w y)

@@ -1,3 +1,2 @@
 -- What happens at one point, as the work slices hold it. Assumes nothing.
-pub mod Trial
 pub mod Gain

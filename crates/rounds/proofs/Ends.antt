@@ -30,7 +30,7 @@ module _ (G : Given) (phi : Float) (flag : Bool) (b : Account) (r m : List Float
   end-told : (x : InnerEnd) → AnswerTold x G r m a → FitTold (withFlag flag phi (resultBy x)) G r m f
   unfolding resultBy withFlag fitFrom
   end-told (withMode k i) h =
-      rw (ef, h .end) (refl, record { place = h .place; eta = h .eta; mu = h .mu; inverse = h .inverse; beta = h .beta; u = h .u })
+      rw (ef, h .end) (refl, h .results)
   end-told (withoutMode e) h = rw (ef, h) (refl, refl)
 
   end-answered : (x : InnerEnd) → AnswerTold x G r m a → f .answer ≡ resultAnswer (withFlag flag phi (resultBy x)) b

@@ -40,16 +40,16 @@ abbrev isSettled : Round → Bool
 isSettled Settled = true
 isSettled (Next phi) = false
 
-module _ (G : Given) (wish L : ℕ) (count : Float) where
+module _ (G : Given) (wish L : ℕ) (effective : Float) where
   abbrev inner : Float → Total Fitted
   inner = innerAt G wish L
 
   abbrev whole : Total (Dispersed Fitted)
-  whole = dispersionOf count sumOf inner
+  whole = dispersionOf effective sumOf inner
 
   -- what is left after k rounds
   abbrev restAt : ℕ → Float → Total (Dispersed Fitted)
-  restAt k phi = dispersionFrom count sumOf inner (240 - k) phi
+  restAt k phi = dispersionFrom effective sumOf inner (240 - k) phi
 
   -- after k rounds
   pub record Going (r₀ r m₀ m t₀ t : List Float) (phi : Float) (account : Account) (k : ℕ) : Type 0 where
@@ -98,18 +98,18 @@ module _ (G : Given) (wish L : ℕ) (count : Float) where
       left-turn = omega arith
 
       -- the loop settles where nothing is to follow
-      settled-rest : (x : InnerEnd) → innerOf G wish phi L (startMeans G) .ending ≡ x → AnswerTold x G r' m' a → roundAfter (a .end) count phi (a .«deviance_sum») ≡ Settled
+      settled-rest : (x : InnerEnd) → innerOf G wish phi L (startMeans G) .ending ≡ x → AnswerTold x G r' m' a → roundAfter (a .end) effective phi (a .«deviance_sum») ≡ Settled
           → restAt k phi ≡ lastFit true phi (inner phi)
       unfolding innerAt totalOf resultBy roundAfter lastFit withFlag
       settled-rest (withoutMode e) q h s =
           let o : inner phi .outcome ≡ noResult e = ap resultBy q in
-          rw left-turn (round-unfitted count sumOf inner (240 - (k + 1)) phi e o ∙ rw q refl)
+          rw left-turn (round-unfitted effective sumOf inner (240 - (k + 1)) phi e o ∙ rw q refl)
       settled-rest (withMode M n) q h s =
           let o : inner phi .outcome ≡ result (record { mode = M; integral = n }) = ap resultBy q in
-          let s' : roundOf count phi (M .devSum) ≡ Settled = rw (h .end, h .sum) at s in
-          rw left-turn (round-settled count sumOf inner (240 - (k + 1)) phi (record { mode = M; integral = n }) o s' ∙ rw q refl)
+          let s' : roundOf effective phi (M .devSum) ≡ Settled = rw (h .end, h .sum) at s in
+          rw left-turn (round-settled effective sumOf inner (240 - (k + 1)) phi (record { mode = M; integral = n }) o s' ∙ rw q refl)
 
-      pub end-settled : (b : Account) (f : Fit) → roundAfter (a .end) count phi (a .«deviance_sum») ≡ Settled → b ≡ account ⊞ a .account → f ≡ fitFrom (a .end) a phi true b
+      pub end-settled : (b : Account) (f : Fit) → roundAfter (a .end) effective phi (a .«deviance_sum») ≡ Settled → b ≡ account ⊞ a .account → f ≡ fitFrom (a .end) a phi true b
           → FitLeft G whole r₀ r' m₀ m' t₀ t' f
       unfolding lastFit innerAt totalOf
       end-settled b f s eb ef =
@@ -119,7 +119,7 @@ module _ (G : Given) (wish L : ℕ) (count : Float) where
           ended G wish L phi true whole o r₀ r r' m₀ m m' t₀ t t' (g .rows-only) (g .matrices-only) (g .terms-only) a i b f c ef
 
       -- it goes on at the next phi
-      next-rest : (next : Float) (x : InnerEnd) → innerOf G wish phi L (startMeans G) .ending ≡ x → AnswerTold x G r' m' a → roundAfter (a .end) count phi (a .«deviance_sum») ≡ Next next
+      next-rest : (next : Float) (x : InnerEnd) → innerOf G wish phi L (startMeans G) .ending ≡ x → AnswerTold x G r' m' a → roundAfter (a .end) effective phi (a .«deviance_sum») ≡ Next next
           → restAt k phi ≡ totalBefore (inner phi .items) (restAt (k + 1) next)
       unfolding innerAt totalOf resultBy roundAfter
       next-rest next (withoutMode e) q h s =
@@ -127,10 +127,10 @@ module _ (G : Given) (wish L : ℕ) (count : Float) where
           absurd (ff (sym (ap isSettled s')))
       next-rest next (withMode M n) q h s =
           let o : inner phi .outcome ≡ result (record { mode = M; integral = n }) = ap resultBy q in
-          let s' : roundOf count phi (M .devSum) ≡ Next next = rw (h .end, h .sum) at s in
-          rw left-turn (round-next count sumOf inner (240 - (k + 1)) phi (record { mode = M; integral = n }) next o s')
+          let s' : roundOf effective phi (M .devSum) ≡ Next next = rw (h .end, h .sum) at s in
+          rw left-turn (round-next effective sumOf inner (240 - (k + 1)) phi (record { mode = M; integral = n }) next o s')
 
-      pub turn-on : (b : Account) (next : Float) → goodShape (G .design .shape) ≡ true → L ≤ 1000 → roundAfter (a .end) count phi (a .«deviance_sum») ≡ Next next → b ≡ account ⊞ a .account
+      pub turn-on : (b : Account) (next : Float) → goodShape (G .design .shape) ≡ true → L ≤ 1000 → roundAfter (a .end) effective phi (a .«deviance_sum») ≡ Next next → b ≡ account ⊞ a .account
           → Going r₀ r' m₀ m' t₀ t' next b (k + 1)
       unfolding totalBefore innerAt totalOf
       turn-on b next good few s eb =

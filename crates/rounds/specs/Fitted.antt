@@ -1,30 +1,17 @@
 -- What a fit answers and leaves in the work slices. Document 01, "The inner fit" and "Numbers of an answer". Assumes nothing.
 use mathlib.Core.Path.{_≡_}
 use mathlib.Core.List.{List}
-use mathlib.Core.Bool.{Bool, true, false}
-use Prim.Native.Nat.{_*_}
+use mathlib.Core.Bool.{true, false}
 use lib.Ieee.{Float}
-use Rattle.base.specs.Rows.{row, Only}
-use Rattle.factor.specs.Inverse.{choleskyInverse}
-use Rattle.layout.specs.WorkRows.{muRow, rowsLength}
-use Rattle.layout.specs.WorkMatrices.{rootInversePlace, uPlace, betaPlace, matricesLength}
+use Rattle.base.specs.Rows.{Only}
+use Rattle.layout.specs.WorkRows.{rowsLength}
+use Rattle.layout.specs.WorkMatrices.{matricesLength}
 use Rattle.layout.specs.WorkTerms.{termsLength}
 use Rattle.rule.specs.Given.{Given, nOf, qOf}
-use Rattle.rule.specs.Stop.{Mode}
-use Rattle.stages.specs.Held.{etaRow}
-use Rattle.pirls.specs.Inner.{turned}
+use Rattle.pirls.specs.Inner.{HoldsResults}
 use Rattle.dispersion.specs.Rounds.{Result, result, noResult, Total, Dispersed}
 use Rattle.call.specs.Fit.{Fitted, answerOf}
 use Rattle.rounds.specs.declared.totals.Fit.{Fit}
-
--- the work slices hold what the results are made of: the predictor in the row that is named, its means, β, u and the inverse of the normal matrix's factor
-pub record HoldsResults (G : Given) (k : Mode) (second : Bool) (rows matrices : List Float) : Type 0 where
-  pub place : second ≡ turned (k .iterations)
-  pub eta : row (etaRow (nOf G) second) (nOf G) rows ≡ k .eta
-  pub mu : row (muRow (nOf G)) (nOf G) rows ≡ k .mu
-  pub inverse : row (rootInversePlace (G .design .p) (qOf (G .design))) (G .design .p * G .design .p) matrices ≡ choleskyInverse (G .design .p) (k .root)
-  pub beta : row (betaPlace (G .design .p) (qOf (G .design))) (G .design .p) matrices ≡ k .beta
-  pub u : row (uPlace (G .design .p) (qOf (G .design))) (qOf (G .design)) matrices ≡ k .u
 
 -- whether there is a result, and where its parts stand
 abbrev pub FitTold : Result (Dispersed Fitted) → Given → (rows matrices : List Float) → Fit → Type 0

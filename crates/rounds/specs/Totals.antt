@@ -13,8 +13,8 @@ use Rattle.rounds.specs.declared.totals.Fit.{Fit}
 
 -- without a result there is no other round
 unfoldable pub roundAfter : Ended → Float → Float → Float → Round
-roundAfter Stopped count phi sum = roundOf count phi sum
-roundAfter (Failed e) count phi sum = Settled
+roundAfter Stopped effective phi sum = roundOf effective phi sum
+roundAfter (Failed e) effective phi sum = Settled
 
 -- the fit whose last inner fit ended so: at this phi, with this flag and this account
 unfoldable pub fitFrom : Ended → InnerAnswer → Float → Bool → Account → Fit

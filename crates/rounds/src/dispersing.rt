@@ -45,7 +45,7 @@ fn dispersed_fit(
     requires { ⌜ limit ≤ 1000 ⌝ }
     ensures { λ a. ⌜ FitLeft (givenOf family link (now (y .entry)) (now (weights .entry)) (designOf n p shape (now (theta .entry)) (now (offset .entry)) (now (x .entry)) (sparse (now (starts .entry)) (now (columns .entry)) (now (values .entry))))) (dispersionOf (effectiveN n (now (weights .entry))) sumOf (innerAt (givenOf family link (now (y .entry)) (now (weights .entry)) (designOf n p shape (now (theta .entry)) (now (offset .entry)) (now (x .entry)) (sparse (now (starts .entry)) (now (columns .entry)) (now (values .entry))))) wish limit)) (now (r .entry)) (now (r .exit)) (now (m .entry)) (now (m .exit)) (now (t .entry)) (now (t .exit)) a ⌝ }
 {
-    let count = effective_n(weights, n);
+    let effective = effective_n(weights, n);
     let mut phi = 1.0;
     let mut account = Account::none();
     let mut k: usize = 0;
@@ -73,7 +73,7 @@ fn dispersed_fit(
             t,
         );
         account = account.plus(a.account);
-        let round = round_after(a, count, phi);
+        let round = round_after(a, effective, phi);
         match round {
             Round::Settled => {
                 return fit_from(a, phi, true, account);

@@ -16,12 +16,12 @@ pub struct Fit {
 }
 
 // An inner fit without a result is the last.
-pub fn round_after(a: InnerAnswer, count: f64, phi: f64) -> Round
-    ensures { λ r. ⌜ r ≡ roundAfter (a .end) count phi (a .«deviance_sum») ⌝ }
+pub fn round_after(a: InnerAnswer, effective: f64, phi: f64) -> Round
+    ensures { λ r. ⌜ r ≡ roundAfter (a .end) effective phi (a .«deviance_sum») ⌝ }
 {
     let end = a.end;
     match end {
-        Ended::Stopped => round_of(count, phi, a.deviance_sum),
+        Ended::Stopped => round_of(effective, phi, a.deviance_sum),
         Ended::Failed(_) => Round::Settled,
     }
 }

@@ -17,7 +17,8 @@ use Rattle.agq_rule.specs.Term.{inversePhi, termOf, movedAt, trialBy, groupTerm
 use Rattle.points.specs.Gain.{oneAt, markAt}
 use Rattle.agq.proofs.OneTurns.{filled-same}
 use Rattle.agq.proofs.Ruled.{group-gain, joint-gain}
-use Rattle.several.specs.Several.{gainIn, movedEffects, groupEffects, groupTermWith, groupTermIn, jointEffects, jointTermWith, jointTermIn}
+use Rattle.agq.specs.Gained.{gainIn}
+use Rattle.several.specs.Several.{movedEffects, groupEffects, groupTermWith, groupTermIn, jointEffects, jointTermWith, jointTermIn}
 use Rattle.several.proofs.Nodes.{nodes-ruled, weight-ruled}
 use Rattle.several.proofs.Terms.{whole-filled}
 

@@ -18,10 +18,9 @@ use Rattle.family.specs.declared.carried.CarriedFamily.{CarriedFamily}
 use Rattle.family.specs.declared.carried.CarriedLink.{CarriedLink}
 use Rattle.agq_rule.specs.Point.{digitEntry}
 use Rattle.agq_rule.specs.Term.{movedAt}
-use Rattle.points.specs.Trial.{shiftedAt}
 use Rattle.points.proofs.Within.{row-filled}
-use Rattle.agq.specs.Gained.{Room, GainedIn}
-use Rattle.several.specs.Several.{Grid, nodesAt, movedEffects, groupEffects, gainIn, TrialIn}
+use Rattle.agq.specs.Gained.{Room, GainedIn, gainIn}
+use Rattle.several.specs.Several.{Grid, nodesAt, movedEffects, groupEffects, TrialIn}
 use Rattle.several.proofs.Nodes.{point-finite}
 
 -- ---- what is asked for stays while the slices change within their lengths
@@ -57,12 +56,12 @@ move-asked q s k size l u trial point nodes m m1 g w =
 -- ---- the effects at a point
 module _ (q s k size l u trial point : ℕ) (nodes m m1 m2 : List Float) (g : Grid q s k size l u trial nodes m)
     (w : Wrote (trial + q + q) k (build (digitEntry nodes size point) k) m m1)
-    (v : Wrote (trial + s) k (build (shiftedAt k (row l (k * k) m1) (row (trial + q + q) k m1) (row (u + s) k m1)) k) m1 m2) where
+    (v : Wrote (trial + s) k (build (movedAt k (row l (k * k) m1) (row (trial + q + q) k m1) 0 (row (u + s) k m1)) k) m1 m2) where
   abbrev T : List Float
   T = groupEffects s k nodes size (row l (k * k) m) (row u q m) (row trial q m) point
 
-  same-shift : (i : ℕ) → i < k → shiftedAt k (row l (k * k) m1) (row (trial + q + q) k m1) (row (u + s) k m1) i ≡ movedAt k (row l (k * k) m) (nodesAt nodes size k point) s (row u q m) i
-  unfolding shiftedAt movedAt nodesAt
+  same-shift : (i : ℕ) → i < k → movedAt k (row l (k * k) m1) (row (trial + q + q) k m1) 0 (row (u + s) k m1) i ≡ movedAt k (row l (k * k) m) (nodesAt nodes size k point) s (row u q m) i
+  unfolding movedAt nodesAt
   same-shift i h =
       rw (
         only-row l (k * k) (trial + q + q) k (inl (omega (arith, g .factor, g .hats))) (omega (arith, g .factor, g .hats, g .in-m)) (w .only),
@@ -75,9 +74,9 @@ module _ (q s k size l u trial point : ℕ) (nodes m m1 m2 : List Float) (g : Gr
   trial-effects : row trial q m2 ≡ T
   unfolding groupEffects movedEffects
   trial-effects =
-      stretch-row trial q s k (shiftedAt k (row l (k * k) m1) (row (trial + q + q) k m1) (row (u + s) k m1)) m1 m2 (g .within) (omega (arith, g .in-m, w .only .len)) v
+      stretch-row trial q s k (movedAt k (row l (k * k) m1) (row (trial + q + q) k m1) 0 (row (u + s) k m1)) m1 m2 (g .within) (omega (arith, g .in-m, w .only .len)) v
       ∙ rw (only-row trial q (trial + q + q) k (inl (omega arith)) (omega (arith, g .in-m)) (w .only))
-      (fillat-cong s k (shiftedAt k (row l (k * k) m1) (row (trial + q + q) k m1) (row (u + s) k m1)) (movedAt k (row l (k * k) m) (nodesAt nodes size k point) s (row u q m)) (row trial q m) same-shift)
+      (fillat-cong s k (movedAt k (row l (k * k) m1) (row (trial + q + q) k m1) 0 (row (u + s) k m1)) (movedAt k (row l (k * k) m) (nodesAt nodes size k point) s (row u q m)) (row trial q m) same-shift)
 
   trial-only : Only trial (q + q + q) m m2
   trial-only =
@@ -88,7 +87,6 @@ module _ (q s k size l u trial point : ℕ) (nodes m m1 m2 : List Float) (g : Gr
   pub trial-made : (family : CarriedFamily) (link : CarriedLink) (shape : Shape) (theta : List Float) (Z : Sparse) (y weights offset : List Float) (n xbeta : ℕ) (r r' m' : List Float) (dd : Float)
       → GainedIn family link shape theta Z y weights offset n q xbeta trial r r' m2 m' dd
       → TrialIn (gainIn family link shape theta Z y weights offset n q xbeta r) T n q xbeta trial r r' m m' dd
-  unfolding gainIn
   trial-made family link shape theta Z y weights offset n xbeta r r' m' dd p =
       record {
         gained = rw (← trial-effects) (p .gain);

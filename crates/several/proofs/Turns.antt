@@ -1,6 +1,6 @@
 -- One point more: what a point is made of has not changed since the first. Assumes nothing.
 use mathlib.Core.Path.{_≡_, refl, ap, _∙_}
-use mathlib.Core.Logic.{inl, inr}
+use mathlib.Core.Logic.{inl}
 use mathlib.Core.List.{List}
 use Prim.Native.Nat.{ℕ, _+_, _*_, _≤_}
 use native.Mathlib.Omega.{arith}
@@ -15,8 +15,10 @@ use Rattle.model.specs.declared.sizes.Shape.{Shape}
 use Rattle.family.specs.declared.carried.CarriedFamily.{CarriedFamily}
 use Rattle.family.specs.declared.carried.CarriedLink.{CarriedLink}
 use Rattle.agq_rule.specs.Term.{movedAt}
+use Rattle.agq.proofs.Gains.{gain-kept}
 use Rattle.agq.proofs.OneTurns.{filled-same}
-use Rattle.several.specs.Several.{Grid, nodesAt, logWeightIn, movedEffects, gainIn, PointIn, TermsIn, groupEffects, groupTermIn, jointEffects, jointTermWith, jointTermIn}
+use Rattle.agq.specs.Gained.{gainIn}
+use Rattle.several.specs.Several.{Grid, nodesAt, logWeightIn, movedEffects, PointIn, TermsIn, groupEffects, groupTermIn, jointEffects, jointTermWith, jointTermIn}
 
 -- ---- the terms, one after another
 pub terms-none : {f : ℕ → Float} {n q xbeta trial : ℕ} {r m t : List Float} → TermsIn f n q xbeta trial 0 r r m m t t
@@ -43,15 +45,6 @@ hats-of u q m up hats e d = rw (← e) d
 
 -- ---- what a point is made of
 module _ (family : CarriedFamily) (link : CarriedLink) (shape : Shape) (theta : List Float) (Z : Sparse) (y weights offset : List Float) (n q xbeta : ℕ) (r r1 : List Float) (hr : xbeta + n + n + n + n ≤ length r) where
-  gain-at : Only (xbeta + n + n) n r r1 → (e : List Float) → gainIn family link shape theta Z y weights offset n q xbeta r1 e ≡ gainIn family link shape theta Z y weights offset n q xbeta r e
-  unfolding gainIn
-  gain-at o e =
-      rw (only-row (xbeta + n + n + n) n (xbeta + n + n) n (inr (omega arith)) (omega arith) o, only-row xbeta n (xbeta + n + n) n (inl (omega arith)) (omega arith) o, only-row (xbeta + n) n (xbeta + n + n) n (inl (omega arith)) (omega arith) o)
-      refl
-
-  gain-kept : Only (xbeta + n + n) n r r1 → gainIn family link shape theta Z y weights offset n q xbeta r1 ≡ gainIn family link shape theta Z y weights offset n q xbeta r
-  gain-kept o i e = gain-at o e i
-
   module _ (size l u trial : ℕ) (nodes ws : List Float) (inv : Float) (m m1 t t1 : List Float) (i : ℕ) where
     -- of a group
     module _ (s k : ℕ) (g : Grid q s k size l u trial nodes m) (p : TermsIn (groupTermIn (gainIn family link shape theta Z y weights offset n q xbeta r) s k inv nodes ws size (row l (k * k) m) (row u q m) (row trial q m)) n q xbeta trial i r r1 m m1 t t1)
@@ -65,7 +58,7 @@ module _ (family : CarriedFamily) (link : CarriedLink) (shape : Shape) (theta : 
       module _ (r2 m2 : List Float) (x : Float) (c : PointIn (groupTermIn (gainIn family link shape theta Z y weights offset n q xbeta r1) s k inv nodes ws size (row l (k * k) m1) (row u q m1) (row trial q m1) i) (groupEffects s k nodes size (row l (k * k) m1) (row u q m1) (row trial q m1) i) n q xbeta trial r1 r2 m1 m2 x) where
         group-same : groupTermIn (gainIn family link shape theta Z y weights offset n q xbeta r1) s k inv nodes ws size (row l (k * k) m1) (row u q m1) (row trial q m1) i ≡ groupTermIn (gainIn family link shape theta Z y weights offset n q xbeta r) s k inv nodes ws size (row l (k * k) m) (row u q m) (row trial q m) i
         unfolding groupTermIn
-        group-same = rw (gain-kept (p .in-r), same-effects, only-row u q trial (q + q + q) (inl (g .hats)) (omega (arith, g .hats, g .in-m)) (p .in-m)) refl
+        group-same = rw (gain-kept family link shape theta Z y weights offset n q xbeta r r1 hr (p .in-r), same-effects, only-row u q trial (q + q + q) (inl (g .hats)) (omega (arith, g .hats, g .in-m)) (p .in-m)) refl
 
         -- and the trial row outside the group's places is as it was
         pub group-turn : (TermsIn (groupTermIn (gainIn family link shape theta Z y weights offset n q xbeta r) s k inv nodes ws size (row l (k * k) m) (row u q m) (row trial q m)) n q xbeta trial (i + 1) r r2 m m2 t (set t1 i x)) × (Only s k (row trial q m) (row trial q m2))
@@ -76,7 +69,7 @@ module _ (family : CarriedFamily) (link : CarriedLink) (shape : Shape) (theta : 
     module _ (hats : Float) (g : Grid q 0 q size l u trial nodes m) (h : hats ≡ dotOf q (row u q m) (row u q m)) (p : TermsIn (jointTermIn (gainIn family link shape theta Z y weights offset n q xbeta r) q inv nodes ws size (row l (q * q) m) (row u q m)) n q xbeta trial i r r1 m m1 t t1) where
       joint-same : jointTermWith (gainIn family link shape theta Z y weights offset n q xbeta r1) q (logWeightIn ws size q i) inv hats (jointEffects q nodes size (row l (q * q) m1) (row u q m1) i) ≡ jointTermIn (gainIn family link shape theta Z y weights offset n q xbeta r) q inv nodes ws size (row l (q * q) m) (row u q m) i
       unfolding jointTermIn
-      joint-same = rw (gain-kept (p .in-r), h, only-row l (q * q) trial (q + q + q) (inl (omega (arith, g .factor, g .hats))) (omega (arith, g .factor, g .hats, g .in-m)) (p .in-m), only-row u q trial (q + q + q) (inl (g .hats)) (omega (arith, g .hats, g .in-m)) (p .in-m)) refl
+      joint-same = rw (gain-kept family link shape theta Z y weights offset n q xbeta r r1 hr (p .in-r), h, only-row l (q * q) trial (q + q + q) (inl (omega (arith, g .factor, g .hats))) (omega (arith, g .factor, g .hats, g .in-m)) (p .in-m), only-row u q trial (q + q + q) (inl (g .hats)) (omega (arith, g .hats, g .in-m)) (p .in-m)) refl
 
       pub joint-turn : (r2 m2 : List Float) (x : Float) → PointIn (jointTermWith (gainIn family link shape theta Z y weights offset n q xbeta r1) q (logWeightIn ws size q i) inv hats (jointEffects q nodes size (row l (q * q) m1) (row u q m1) i)) (jointEffects q nodes size (row l (q * q) m1) (row u q m1) i) n q xbeta trial r1 r2 m1 m2 x
           → TermsIn (jointTermIn (gainIn family link shape theta Z y weights offset n q xbeta r) q inv nodes ws size (row l (q * q) m) (row u q m)) n q xbeta trial (i + 1) r r2 m m2 t (set t1 i x)

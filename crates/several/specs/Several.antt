@@ -9,13 +9,8 @@ use Rattle.base.specs.Number.{_⊕_, _⊖_}
 use Rattle.base.specs.Sum.{sumTo, allTo, finiteAt, dotOf}
 use Rattle.base.specs.List.{build, fillTo, fillAt}
 use Rattle.base.specs.Rows.{row, Only}
-use Rattle.base.specs.Sparse.{Sparse}
-use Rattle.model.specs.declared.sizes.Shape.{Shape}
-use Rattle.family.specs.declared.carried.CarriedFamily.{CarriedFamily}
-use Rattle.family.specs.declared.carried.CarriedLink.{CarriedLink}
 use Rattle.agq_rule.specs.Point.{digitEntry, logEntry}
 use Rattle.agq_rule.specs.Term.{deltaOf, movedAt, groupPenalty}
-use Rattle.agq.specs.Gained.{predictedAt, gainFrom}
 
 -- the places and sizes that the points ask for: the k effects from s on are among the q; L at l, û at u, then the effects at a point, Λ times them and its nodes
 pub record Grid (q s k size l u trial : ℕ) (nodes m : List Float) : Type 0 where
@@ -40,11 +35,6 @@ logWeightIn ws size k point = sumTo k (logEntry ws size point)
 -- the effects `before` with the k of them from s on moved by L z from û
 unfoldable pub movedEffects : ℕ → ℕ → List Float → List Float → List Float → List Float → List Float
 movedEffects s k L z u before = fillAt s k (movedAt k L z s u) before
-
--- dd of the effects t: the rows of r at xbeta are Xβ, the deviances at the mode, and (the fourth) the marks
-unfoldable pub gainIn : CarriedFamily → CarriedLink → Shape → List Float → Sparse → List Float → List Float → List Float → ℕ → ℕ → ℕ → List Float → List Float → Float
-gainIn family link shape theta Z y weights offset n q xbeta r t =
-    gainFrom family link y weights offset n (row (xbeta + n + n + n) n r) (row xbeta n r) (predictedAt shape theta Z n q t) (row (xbeta + n) n r)
 
 -- what `trial_gain` answers and leaves: dd of the effects t, which stand in their places; nothing else changed but Λ times them, the nodes behind, and the row of Zb
 pub record TrialIn (gain : List Float → Float) (t : List Float) (n q xbeta trial : ℕ) (r r' m m' : List Float) (dd : Float) : Type 0 where

@@ -10,8 +10,8 @@ ghost use Prim.Native.Nat.{_*_, _≤_};
 ghost use lib.ListN.{length};
 ghost use Rattle.base.specs.Rows.{row};
 ghost use Rattle.stored.specs.Stored.{sparse};
-ghost use Rattle.agq.specs.Gained.{Room};
-ghost use Rattle.several.specs.Several.{Grid, gainIn, groupEffects, groupTermIn, PointIn, TermsIn};
+ghost use Rattle.agq.specs.Gained.{Room, gainIn};
+ghost use Rattle.several.specs.Several.{Grid, groupEffects, groupTermIn, PointIn, TermsIn};
 
 // The log term of a point of the group whose k effects begin at s: log weight + delta, the penalty being the sum of t² - û² over the k.
 pub fn group_point(

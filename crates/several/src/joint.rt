@@ -10,8 +10,8 @@ ghost use Prim.Native.Nat.{_*_, _≤_};
 ghost use lib.ListN.{length};
 ghost use Rattle.base.specs.Rows.{row};
 ghost use Rattle.stored.specs.Stored.{sparse};
-ghost use Rattle.agq.specs.Gained.{Room};
-ghost use Rattle.several.specs.Several.{Grid, logWeightIn, gainIn, jointEffects, jointTermWith, jointTermIn, PointIn, TermsIn};
+ghost use Rattle.agq.specs.Gained.{Room, gainIn};
+ghost use Rattle.several.specs.Several.{Grid, logWeightIn, jointEffects, jointTermWith, jointTermIn, PointIn, TermsIn};
 
 // The log term of a point: log weight + delta, the penalty being Σt² less Σû², which is hats.
 pub fn joint_point(

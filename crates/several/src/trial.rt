@@ -8,8 +8,8 @@ use points::point_nodes;
 ghost use Prim.Native.Nat.{_*_};
 ghost use Rattle.base.specs.Rows.{row};
 ghost use Rattle.stored.specs.Stored.{sparse};
-ghost use Rattle.agq.specs.Gained.{Room};
-ghost use Rattle.several.specs.Several.{Grid, gainIn, groupEffects, TrialIn};
+ghost use Rattle.agq.specs.Gained.{Room, gainIn};
+ghost use Rattle.several.specs.Several.{Grid, groupEffects, TrialIn};
 
 // dd at a point: its nodes z go behind the trial effects and Λ times them, and the k effects from s on move by L z from û, which stands in
 // the q places of m at u, to their places among the q effects at trial; the others there stay.

@@ -11,7 +11,7 @@ ghost use Rattle.base.specs.Number.{_⊕_};
 ghost use Rattle.base.specs.Rows.{row, Wrote};
 ghost use Rattle.base.specs.Sum.{dotOf};
 ghost use Rattle.factor.specs.Inverse.{choleskyInverse};
-ghost use Rattle.layout.specs.Layout.{Lent};
+ghost use Rattle.layout.specs.Layout.{WorkRoom};
 ghost use Rattle.layout.specs.WorkMatrices.{rootInversePlace, uPlace, matricesLength};
 ghost use Rattle.layout.specs.WorkRows.{muRow, rowsLength};
 ghost use Rattle.layout.specs.WorkTerms.{factorPlace, normalPlace, termsLength};
@@ -85,7 +85,7 @@ pub fn stop(
     m: &mut [f64],
     t: &[f64],
 ) -> AtStop
-    requires { ⌜ (Lent n p q (now r) (now m) (now t)) × (n ≤ length (now y)) ⌝ }
+    requires { ⌜ (WorkRoom n p q (now r) (now m) (now t)) × (n ≤ length (now y)) ⌝ }
     ensures { λ a. ⌜ Stops family (now (y .entry)) (now (weights .entry)) n p q (row (muRow n) n (now (r .entry))) (now (t .entry)) (now (r .entry)) (now (r .exit)) (now (m .entry)) (now (m .exit)) a ⌝ }
 {
     let deviance_sum = deviances_into(family, y, weights, n, r);

@@ -12,7 +12,7 @@ use Rattle.base.proofs.Fills.{length-fill, fill-past}
 use Rattle.base.proofs.Rows.{only-none, only-trans, only-wide, only-row}
 use Rattle.model.specs.Settings.{Sizes}
 use Rattle.model.specs.declared.sizes.Shape.{Shape}
-use Rattle.layout.specs.Layout.{Lent}
+use Rattle.layout.specs.Layout.{WorkRoom}
 use Rattle.layout.specs.WorkRows.{xbetaRow, devianceRow, pointRow, markRow}
 use Rattle.layout.specs.WorkMatrices.{systemPlace, inversePlace, uPlace, trialUPlace}
 use Rattle.layout.specs.WorkTerms.{termsLength}
@@ -80,7 +80,7 @@ frame-terms n p q mark xbeta trial count f r r1 r2 m m1 m2 t t' em ex et few a b
 
 -- ---- what a step may still look at
 
-pub stands-kept : (G : Given) (M : Mode) (r r' m m' t t' : List Float) → Lent (nOf G) (G .design .p) (qOf (G .design)) r m t → StepFrame (nOf G) (G .design .p) (qOf (G .design)) r r' m m' t t' → Stands G M r m → Stands G M r' m'
+pub stands-kept : (G : Given) (M : Mode) (r r' m m' t t' : List Float) → WorkRoom (nOf G) (G .design .p) (qOf (G .design)) r m t → StepFrame (nOf G) (G .design .p) (qOf (G .design)) r r' m m' t t' → Stands G M r m → Stands G M r' m'
 stands-kept G M r r' m m' t t' lent f s =
     let n = nOf G in
     let p = G .design .p in
@@ -113,7 +113,7 @@ room-of {n} {p} {q} xbeta trial a ex et er em =
     }
 
 -- the square of A is in its slice
-pub square-in : {n p q : ℕ} {r m t : List Float} → Lent n p q r m t → q * q ≤ length m
+pub square-in : {n p q : ℕ} {r m t : List Float} → WorkRoom n p q r m t → q * q ≤ length m
 square-in {q = q} {m = m} lent = omega (arith, system-in (lent .sizes) {k = 0} m refl (lent .matrices-long))
 
 -- û stands before the effects at a point
@@ -121,6 +121,6 @@ pub hats-before : (p q u trial : ℕ) → u ≡ uPlace p q → trial ≡ trialUP
 hats-before p q u trial eu et = omega arith
 
 -- what the scale of a block asks for
-pub scale-room : {n p q : ℕ} {r m t : List Float} (s k : ℕ) → Lent n p q r m t → s + k ≤ q → ScaleRoom q s k m t
+pub scale-room : {n p q : ℕ} {r m t : List Float} (s k : ℕ) → WorkRoom n p q r m t → s + k ≤ q → ScaleRoom q s k m t
 scale-room {m = m} {t = t} s k lent h =
     record { few = lent .sizes .q-few; within = h; matrices = inverse-in (lent .sizes) m refl (lent .matrices-long); terms = factor-in (lent .sizes) t refl (lent .terms-long) }

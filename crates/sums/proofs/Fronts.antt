@@ -16,7 +16,7 @@ use Rattle.base.specs.List.{build, fillTo, fillAt}
 use Rattle.base.specs.Rows.{row, Only, Wrote}
 use Rattle.base.proofs.Fills.{build-cong, length-fill, fill-in}
 use Rattle.base.proofs.Rows.{row-length, row-build, front-is, only-row, only-wide, fillat-only, fillat-wrote}
-use Rattle.layout.specs.Layout.{Lent}
+use Rattle.layout.specs.Layout.{WorkRoom}
 use Rattle.layout.specs.WorkRows.{xbetaRow, devianceRow, markRow}
 use Rattle.layout.specs.WorkMatrices.{uPlace, trialUPlace}
 use Rattle.layout.specs.WorkTerms.{termsLength}
@@ -37,7 +37,7 @@ use Rattle.scale.specs.Tells.{entryFrom}
 use Rattle.agq_rule.specs.Steps.{Integrated}
 use Rattle.sums.specs.Stands.{Stands}
 use Rattle.sums.specs.Summed.{summedBy, groupSumOf, tellsThen, StepFrame, SumLeft, GroupLeft}
-use Rattle.sums.specs.declared.answers.Summed.the-variants.{Sum, NoSum}
+use Rattle.sums.specs.declared.answers.Summed.the-variants.{LogSum, NoSum}
 use Rattle.sums.specs.declared.answers.GroupSum.{GroupSum}
 
 -- what was filled from the front on
@@ -48,7 +48,7 @@ front-filled count f t t' h e =
     (λ k l. rw (zero-add k) (fill-in count f t h k l)))
 
 -- û has been copied to the trial effects; the row of û is as it was
-module _ (n p q u trial : ℕ) (r m t : List Float) (lent : Lent n p q r m t) (eu : u ≡ uPlace p q) (et : trial ≡ trialUPlace p q) where
+module _ (n p q u trial : ℕ) (r m t : List Float) (lent : WorkRoom n p q r m t) (eu : u ≡ uPlace p q) (et : trial ≡ trialUPlace p q) where
   abbrev copy : List Float
   copy = fillAt trial q (entryFrom m u) m
 
@@ -64,7 +64,7 @@ module _ (n p q u trial : ℕ) (r m t : List Float) (lent : Lent n p q r m t) (e
       ∙ sym (row-build u q m (u-in (lent .sizes) m eu (lent .matrices-long)) (entryFrom m u) (λ k l. refl))
 
 -- the rows that the mark leaves, where a point looks for them
-module _ (n p q mark xbeta : ℕ) (marks r r1 m t : List Float) (lent : Lent n p q r m t) (em : mark ≡ markRow n) (ex : xbeta ≡ xbetaRow n) (wrote : Wrote mark n marks r r1) where
+module _ (n p q mark xbeta : ℕ) (marks r r1 m t : List Float) (lent : WorkRoom n p q r m t) (em : mark ≡ markRow n) (ex : xbeta ≡ xbetaRow n) (wrote : Wrote mark n marks r r1) where
   pub marked-row : row (xbeta + n + n + n) n r1 ≡ marks
   marked-row = let e : xbeta + n + n + n ≡ mark = omega arith in rw e (wrote .row')
 
@@ -125,7 +125,7 @@ module _ (o : Order) (z : Rule) (e : z ≡ ruleOf o) where
       (sym (all-of (finiteAt (padded (nodesOf o))) (sizeOf o) (λ i l. ap finite (node-padded o i l) ∙ node-finite o i l)))
 
 -- ---- a log sum of the terms f, which are the rule's
-pub sum-made : (G : List Float → Given) (term : Given → Mode → ℕ → Float) (n p q count c : ℕ) (f : ℕ → Float) (r r' m m' t t' : List Float) (a : GroupSum) → c ≡ count → c ≤ 7000 → Lent n p q r m t → t' ≡ fillTo c f t
+pub sum-made : (G : List Float → Given) (term : Given → Mode → ℕ → Float) (n p q count c : ℕ) (f : ℕ → Float) (r r' m m' t t' : List Float) (a : GroupSum) → c ≡ count → c ≤ 7000 → WorkRoom n p q r m t → t' ≡ fillTo c f t
     → a ≡ groupSumOf (row 0 c t') → ((x : List Float) (M : Mode) → Stands (G x) M r m → (i : ℕ) → i < count → f i ≡ term (G x) M i) → StepFrame n p q r r' m m' t t' → SumLeft G term n p q count r r' m m' t t' a
 unfolding groupSumOf
 sum-made G term n p q count c f r r' m m' t t' a ec few lent et ea same frame =
@@ -155,7 +155,7 @@ module _ (t : List Float) (count : ℕ) (s : Float) (h : count ≤ length t) (e 
   front : logSumExp (row 0 count t) ≡ s
   front = sym (e ∙ ap logSumExp (front-is count t))
 
-  pub sum-found : finite s ≡ true → record { sum = Sum s; points = count } ≡ groupSumOf (row 0 count t)
+  pub sum-found : finite s ≡ true → record { sum = LogSum s; points = count } ≡ groupSumOf (row 0 count t)
   unfolding groupSumOf summedBy
   sum-found f = rw (front, f, row-length 0 count t (omega arith)) refl
 

@@ -5,7 +5,7 @@ use Prim.Native.Nat.{ℕ, _+_, _*_, _^_, _≤_}
 use native.Mathlib.Omega.{arith}
 use lib.ListN.{length}
 use lib.Ieee.{Float}
-use Rattle.layout.specs.Layout.{Lent}
+use Rattle.layout.specs.Layout.{WorkRoom}
 use Rattle.layout.specs.WorkMatrices.{inversePlace, uPlace, trialUPlace}
 use Rattle.layout.specs.WorkTerms.{termsLength}
 use Rattle.quadrature.specs.Orders.{sizeOf}
@@ -20,7 +20,7 @@ pub grid-places : (p q s k l u trial : ℕ) → s + k ≤ q → l ≡ inversePla
 grid-places p q s k l u trial h el eu et = (omega (arith, square-within q s k h), omega (arith, square-within q s k h), omega arith)
 
 -- the points of a group, or of all effects: their places and their nodes
-pub grid-of : {n p q : ℕ} {r m t : List Float} (o : Order) (z : Rule) (s k l u trial : ℕ) (m' : List Float) → z ≡ ruleOf o → Lent n p q r m t → length m' ≡ length m → s + k ≤ q → l ≡ inversePlace q → u ≡ uPlace p q
+pub grid-of : {n p q : ℕ} {r m t : List Float} (o : Order) (z : Rule) (s k l u trial : ℕ) (m' : List Float) → z ≡ ruleOf o → WorkRoom n p q r m t → length m' ≡ length m → s + k ≤ q → l ≡ inversePlace q → u ≡ uPlace p q
     → trial ≡ trialUPlace p q → Grid q s k (z .size) l u trial (z .nodes) m'
 grid-of {n} {p} {q} o z s k l u trial m' e lent em h el eu et =
     record {

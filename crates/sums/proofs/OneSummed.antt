@@ -13,7 +13,7 @@ use Rattle.family.specs.declared.carried.CarriedFamily.{CarriedFamily}
 use Rattle.family.specs.declared.carried.CarriedLink.{CarriedLink}
 use Rattle.model.specs.Shape.{effectsOf}
 use Rattle.model.specs.declared.sizes.Shape.{Shape}
-use Rattle.layout.specs.Layout.{Lent}
+use Rattle.layout.specs.Layout.{WorkRoom}
 use Rattle.layout.specs.WorkRows.{xbetaRow, markRow}
 use Rattle.layout.specs.WorkMatrices.{systemPlace, uPlace, trialUPlace}
 use Rattle.layout.proofs.Inside.{u-in}
@@ -43,7 +43,7 @@ use Rattle.sums.proofs.Told.{one-declined, one-told}
 
 -- the terms, in the rule's words
 module _ (G : Given) (M : Mode) (phi : Float) (o : Order) (g : ℕ) (sigma : Float) (u trial mark xbeta : ℕ) (r r1 m t : List Float)
-    (lent : Lent (nOf G) (G .design .p) (qOf (G .design)) r m t) (stands : Stands G M r m) (l : g < qOf (G .design))
+    (lent : WorkRoom (nOf G) (G .design .p) (qOf (G .design)) r m t) (stands : Stands G M r m) (l : g < qOf (G .design))
     (eu : u ≡ uPlace (G .design .p) (qOf (G .design))) (et : trial ≡ trialUPlace (G .design .p) (qOf (G .design))) (em : mark ≡ markRow (nOf G)) (ex : xbeta ≡ xbetaRow (nOf G))
     (wrote : Wrote mark (nOf G) (build (markAt (G .design .zt) g 1) (nOf G)) r r1) where
   abbrev n : ℕ
@@ -77,7 +77,7 @@ module _ (G : Given) (M : Mode) (phi : Float) (o : Order) (g : ℕ) (sigma : Flo
 -- ---- the same for the arguments of the code, of which q is the number of effects
 module _ (family : CarriedFamily) (link : CarriedLink) (shape : Shape) (theta : List Float) (zt : Sparse) (y weights offset : List Float) (n p q : ℕ) (o : Order) (g : ℕ) (sigma phi inv : Float)
     (u trial mark xbeta size : ℕ) (nodes ws r r1 r2 m m1 m2 t t' : List Float) (a : GroupSum)
-    (eq : q ≡ effectsOf shape) (lent : Lent n p q r m t) (l : g < q) (em : mark ≡ markRow n) (wrote : Wrote mark n (build (markAt zt g 1) n) r r1)
+    (eq : q ≡ effectsOf shape) (lent : WorkRoom n p q r m t) (l : g < q) (em : mark ≡ markRow n) (wrote : Wrote mark n (build (markAt zt g 1) n) r r1)
     (eu : u ≡ uPlace p q) (et : trial ≡ trialUPlace p q) (copied : m1 ≡ fillAt trial q (entryFrom m u) m) (ex : xbeta ≡ xbetaRow n) (ei : inv ≡ inversePhi phi)
     (es : size ≡ sizeOf o) (en : nodes ≡ padded (nodesOf o)) (ew : ws ≡ padded (weightsOf o))
     (made : OnesIn (oneTermAtNode family link shape theta zt y weights offset n q xbeta g sigma inv (row u q m1) r1 (row trial q m1) nodes ws) n q xbeta trial size r1 r2 m1 m2 t t')

@@ -9,7 +9,7 @@ use Rattle.base.specs.Rows.{row}
 use Rattle.base.specs.Sparse.{Sparse}
 use Rattle.family.specs.declared.carried.CarriedFamily.{CarriedFamily}
 use Rattle.family.specs.declared.carried.CarriedLink.{CarriedLink}
-use Rattle.layout.specs.Layout.{Lent}
+use Rattle.layout.specs.Layout.{WorkRoom}
 use Rattle.layout.specs.WorkRows.{xbetaRow, devianceRow}
 use Rattle.layout.specs.WorkMatrices.{systemPlace, uPlace}
 use Rattle.linear.specs.Product.{xBetaAt}
@@ -23,7 +23,7 @@ use Rattle.iteration.specs.Iterated.{givenOf}
 -- the lists are as long as the sizes say, Z' is in order, and the work slices have room; X is not asked for, since Xβ stands in its row
 pub record Roomy (n p q : ℕ) (shape : Shape) (theta : List Float) (starts columns : List ℕ) (values offset y r m t : List Float) : Type 0 where
   pub ready : Ready shape theta starts columns values q n
-  pub lent : Lent n p q r m t
+  pub lent : WorkRoom n p q r m t
   pub offset-fits : Optional n offset
   pub y-long : n ≤ length y
 

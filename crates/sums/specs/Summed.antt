@@ -21,19 +21,19 @@ use Rattle.agq_rule.specs.Steps.{Integrated, answers, pointsBefore}
 use Rattle.columns.specs.Columns.{OnlyTwo}
 use Rattle.sums.specs.Stands.{Stands}
 use Rattle.sums.specs.declared.answers.Summed.{Summed}
-use Rattle.sums.specs.declared.answers.Summed.the-variants.{Sum, NoSum}
+use Rattle.sums.specs.declared.answers.Summed.the-variants.{LogSum, NoSum}
 use Rattle.sums.specs.declared.answers.GroupSum.{GroupSum}
 use Rattle.sums.specs.declared.answers.Quadrature.{Quadrature}
 
 -- the rest goes on from a log sum; without one the step declines
 unfoldable pub carry : Summed → (Float → Integrated) → Integrated
-carry (Sum s) rest = rest s
+carry (LogSum s) rest = rest s
 carry (NoSum d) rest = answers (Declined d)
 
 -- by the test of a log sum
 unfoldable pub summedBy : Bool → Float → Summed
 summedBy false s = NoSum decline.Sum
-summedBy true s = Sum s
+summedBy true s = LogSum s
 
 -- the log sum of terms, each of them a point
 unfoldable pub groupSumOf : List Float → GroupSum

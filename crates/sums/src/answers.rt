@@ -12,7 +12,7 @@ ghost use Rattle.sums.specs.Summed.{groupSumOf};
 
 // A log sum, or why there is none.
 pub enum Summed {
-    Sum(f64),
+    LogSum(f64),
     NoSum(Decline),
 }
 
@@ -57,7 +57,7 @@ pub fn log_sum(t: &[f64], count: usize) -> GroupSum
     let s = log_sum_exp(&t[0..count]);
     if base::is_finite(s) {
         return GroupSum {
-            sum: Summed::Sum(s),
+            sum: Summed::LogSum(s),
             points: count,
         };
     }

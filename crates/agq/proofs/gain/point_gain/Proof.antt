@@ -1,4 +1,4 @@
--- -- `agq::point_gain` meets its contract: Λu beside u, Zb of it into its row, and the sum over rows of which only that one has changed.
+-- `agq::point_gain` meets its contract: Λu beside u, Zb of it into its row, and the sum over rows of which only that one has changed.
 use mathlib.Core.Path.{refl}
 use mathlib.Core.Logic.{inl}
 use Prim.Native.Nat.{_+_}

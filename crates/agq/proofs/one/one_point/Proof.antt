@@ -1,4 +1,4 @@
--- -- `agq::one_point` meets its contract: one place of the trial effects is set, and the rest is what the point's gain and delta say.
+-- `agq::one_point` meets its contract: one place of the trial effects is set, and the rest is what the point's gain and delta say.
 use mathlib.Core.Path.{refl, _∙_}
 use lib.ListN.{length-set}
 use Rattle.stored.specs.Stored.{sparse}

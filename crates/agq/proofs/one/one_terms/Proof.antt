@@ -1,4 +1,4 @@
--- -- `agq::one_terms` meets its contract: before node i the first i terms are written, and what a point is made of has not changed.
+-- `agq::one_terms` meets its contract: before node i the first i terms are written, and what a point is made of has not changed.
 use mathlib.Core.Path.{_≡_}
 use Prim.Native.Nat.{_+_, _≤_, _-_}
 use lib.ListN.{length, length-set}

@@ -1,4 +1,4 @@
--- -- `points::deviance_gain` meets its contract: before turn i the sum is that of the marked observations below i.
+-- `points::deviance_gain` meets its contract: before turn i the sum is that of the marked observations below i.
 use mathlib.Core.Path.{_≡_}
 use Prim.Native.Nat.{_≤_, _-_}
 use Rattle.base.specs.Sum.{sumWhere}

@@ -1,4 +1,4 @@
--- -- `points::mark_all` meets its contract: before turn i the first i places of the row are written.
+-- `points::mark_all` meets its contract: before turn i the first i places of the row are written.
 use mathlib.Core.Path.{_≡_}
 use Prim.Native.Nat.{_≤_, _-_}
 use native.Mathlib.Omega.{arith}

@@ -1,4 +1,4 @@
--- -- `points::mark_group` meets its contract: before row i of the group the marks are those of its first i rows.
+-- `points::mark_group` meets its contract: before row i of the group the marks are those of its first i rows.
 use mathlib.Core.Path.{_≡_, refl}
 use Prim.Native.Nat.{ℕ, _+_, _<_, _≤_, _-_}
 use lib.ListN.{length}

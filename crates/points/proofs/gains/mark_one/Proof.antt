@@ -1,4 +1,4 @@
--- -- `points::mark_one` meets its contract: before entry k the observations of the row's entries before it are marked.
+-- `points::mark_one` meets its contract: before entry k the observations of the row's entries before it are marked.
 use mathlib.Core.Path.{_≡_}
 use Prim.Native.Nat.{_≤_, _-_}
 use native.Mathlib.Omega.{arith}

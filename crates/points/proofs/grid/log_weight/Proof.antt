@@ -1,4 +1,4 @@
--- -- `points::log_weight` meets its contract: before turn j the first j digits are taken off and the sum is that of the first j logarithms.
+-- `points::log_weight` meets its contract: before turn j the first j digits are taken off and the sum is that of the first j logarithms.
 use mathlib.Core.Path.{_≡_}
 use Prim.Native.Nat.{_<_, _≤_, _-_, _/_, _^_}
 use native.Mathlib.Nat.{mod-lt}

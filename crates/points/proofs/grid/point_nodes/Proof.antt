@@ -1,4 +1,4 @@
--- -- `points::point_nodes` meets its contract: before turn j the first j digits are taken off and the first j places written.
+-- `points::point_nodes` meets its contract: before turn j the first j digits are taken off and the first j places written.
 use mathlib.Core.Path.{_≡_}
 use Prim.Native.Nat.{_<_, _≤_, _-_, _/_, _^_}
 use native.Mathlib.Nat.{mod-lt}

@@ -1,4 +1,4 @@
--- -- `points::group_penalty` meets its contract: before turn i the sum is that of the first i effects.
+-- `points::group_penalty` meets its contract: before turn i the sum is that of the first i effects.
 use mathlib.Core.Path.{_≡_}
 use Prim.Native.Nat.{_≤_, _-_}
 use native.Mathlib.Omega.{arith}

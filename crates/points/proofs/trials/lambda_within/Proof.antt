@@ -1,4 +1,4 @@
--- -- `points::lambda_within` meets its contract: before column j each place of the row at b holds what the first j columns make of it, and u is as it was lent.
+-- `points::lambda_within` meets its contract: before column j each place of the row at b holds what the first j columns make of it, and u is as it was lent.
 use mathlib.Core.Path.{_≡_, refl, ap, _∙_}
 use mathlib.Core.List.{List}
 use Prim.Native.Nat.{_+_, _≤_, _-_}

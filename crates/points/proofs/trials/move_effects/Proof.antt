@@ -1,4 +1,4 @@
--- -- `points::move_effects` meets its contract: before turn i the first i effects are moved, and û, L and z are as they were lent.
+-- `points::move_effects` meets its contract: before turn i the first i effects are moved, and û, L and z are as they were lent.
 use mathlib.Core.Path.{_≡_, refl}
 use Prim.Native.Nat.{_+_, _*_, _≤_, _-_}
 use native.Mathlib.Omega.{arith}
@@ -7,14 +7,14 @@ use Rattle.base.specs.List.{fillAt}
 use Rattle.base.specs.Rows.{row}
 use Rattle.base.proofs.Fills.{fillat-none}
 use Rattle.base.proofs.Rows.{row-length, fillat-wrote}
-use Rattle.points.specs.Trial.{shiftedAt}
+use Rattle.agq_rule.specs.Term.{movedAt}
 use Rattle.points.proofs.Kept.{kept-part}
 use Rattle.points.proofs.Moved.{moved-step}
 use Rattle.points.proofs.trials.move_effects.Statement.{statement}
 use Rattle.points.proofs.trials.move_effects.Tie as tie
 
 abbrev Inv-loop : tie.InvT-loop
-Inv-loop k l z u trial m₀ le ze i₀ m i = (i ≤ k) × (length m ≡ length m₀) × (le ≡ l + k * k) × (ze ≡ z + k) × (m ≡ fillAt trial i (shiftedAt k (row l (k * k) m₀) (row z k m₀) (row u k m₀)) m₀)
+Inv-loop k l z u trial m₀ le ze i₀ m i = (i ≤ k) × (length m ≡ length m₀) × (le ≡ l + k * k) × (ze ≡ z + k) × (m ≡ fillAt trial i (movedAt k (row l (k * k) m₀) (row z k m₀) 0 (row u k m₀)) m₀)
 
 abbrev μ-loop : tie.MeasureT-loop
 μ-loop k l z u trial m₀ le ze i₀ m i = k - i
@@ -60,7 +60,7 @@ spread-at-requires c κs =
     let s = c .before .before .before .before .before .before in
     let a = s .args in
     let at = c .before .before .before .before .loop in
-    let f = shiftedAt (a .k) (row (a .l) (a .k * a .k) (a .m .now)) (row (a .z) (a .k) (a .m .now)) (row (a .u) (a .k) (a .m .now)) in
+    let f = movedAt (a .k) (row (a .l) (a .k * a .k) (a .m .now)) (row (a .z) (a .k) (a .m .now)) 0 (row (a .u) (a .k) (a .m .now)) in
     rw (kept-part (a .l) (a .k * a .k) _ (a .trial) (a .k) (at .i) f (a .m .now) (at .m) (at .inv .2) (s .pre .1 .0) (s .pre .0 .0) (at .inv .0) (at .inv .4), kept-part (a .z) (a .k) _ (a .trial) (a .k) (at .i) f (a .m .now) (at .m) (at .inv .3) (s .pre .1 .1) (s .pre .0 .1) (at .inv .0) (at .inv .4))
     (c .before .before .before .loop-test .taken, omega (arith, row-length (a .l) (a .k * a .k) (a .m .now) (s .pre .0 .0)), omega (arith, row-length (a .z) (a .k) (a .m .now) (s .pre .0 .1)), s .pre .1 .3)
 
@@ -93,7 +93,7 @@ loop-again c =
     let s = c .before .before .before .before .before .before .before .before in
     let a = s .args in
     let at = c .before .before .before .before .before .before .loop in
-    let f = shiftedAt (a .k) (row (a .l) (a .k * a .k) (a .m .now)) (row (a .z) (a .k) (a .m .now)) (row (a .u) (a .k) (a .m .now)) in (
+    let f = movedAt (a .k) (row (a .l) (a .k * a .k) (a .m .now)) (row (a .z) (a .k) (a .m .now)) 0 (row (a .u) (a .k) (a .m .now)) in (
       omega arith,
       simp length-set (omega arith),
       at .inv .2,

@@ -12,10 +12,10 @@ use Rattle.rounds.proofs.dispersing.dispersed_fit.Statement.{statement}
 use Rattle.rounds.proofs.dispersing.dispersed_fit.Tie as tie
 
 abbrev Inv-loop : tie.InvT-loop
-Inv-loop family link limit wish shape theta starts columns values offset x y weights n p q r₀ m₀ t₀ count phi₀ account₀ k₀ r m t phi account k = Going (givenOf family link y weights (designOf n p shape theta offset x (sparse starts columns values))) wish limit count r₀ r m₀ m t₀ t phi account k
+Inv-loop family link limit wish shape theta starts columns values offset x y weights n p q r₀ m₀ t₀ effective phi₀ account₀ k₀ r m t phi account k = Going (givenOf family link y weights (designOf n p shape theta offset x (sparse starts columns values))) wish limit effective r₀ r m₀ m t₀ t phi account k
 
 abbrev μ-loop : tie.MeasureT-loop
-μ-loop family link limit wish shape theta starts columns values offset x y weights n p q r₀ m₀ t₀ count phi₀ account₀ k₀ r m t phi account k = 240 - k
+μ-loop family link limit wish shape theta starts columns values offset x y weights n p q r₀ m₀ t₀ effective phi₀ account₀ k₀ r m t phi account k = 240 - k
 
 effective-n-requires : tie.Need-effective-n-requires Inv-loop μ-loop
 effective-n-requires c κs = search needs

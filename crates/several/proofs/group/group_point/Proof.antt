@@ -4,7 +4,7 @@ use Prim.Native.Nat.{_+_}
 use native.Mathlib.Omega.{arith}
 use Rattle.base.proofs.Rows.{part-is}
 use Rattle.stored.specs.Stored.{sparse}
-use Rattle.several.specs.Several.{gainIn}
+use Rattle.agq.specs.Gained.{gainIn}
 use Rattle.several.proofs.Terms.{group-made}
 use borrow.Author.Needs.{needs}
 use Rattle.several.proofs.group.group_point.Statement.{statement}

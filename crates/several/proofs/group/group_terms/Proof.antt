@@ -4,7 +4,8 @@ use native.Mathlib.Omega.{arith}
 use Rattle.base.specs.Rows.{row, Only}
 use Rattle.base.proofs.Rows.{only-none}
 use Rattle.stored.specs.Stored.{sparse}
-use Rattle.several.specs.Several.{gainIn, groupTermIn, TermsIn}
+use Rattle.agq.specs.Gained.{gainIn}
+use Rattle.several.specs.Several.{groupTermIn, TermsIn}
 use Rattle.several.proofs.Trials.{room-kept, grid-kept}
 use Rattle.several.proofs.Turns.{terms-none, terms-end, terms-length, group-turn}
 use Rattle.several.proofs.group.group_terms.Statement.{statement}

@@ -3,7 +3,7 @@ use mathlib.Core.Path.{refl}
 use native.Mathlib.Omega.{arith}
 use Rattle.base.proofs.Rows.{part-is}
 use Rattle.stored.specs.Stored.{sparse}
-use Rattle.several.specs.Several.{gainIn}
+use Rattle.agq.specs.Gained.{gainIn}
 use Rattle.several.proofs.Terms.{joint-made}
 use borrow.Author.Needs.{needs}
 use Rattle.several.proofs.joint.joint_point.Statement.{statement}

@@ -7,7 +7,8 @@ use Rattle.base.specs.Sum.{dotOf}
 use Rattle.base.specs.Rows.{row}
 use Rattle.base.proofs.Rows.{part-is}
 use Rattle.stored.specs.Stored.{sparse}
-use Rattle.several.specs.Several.{gainIn, jointTermIn, TermsIn}
+use Rattle.agq.specs.Gained.{gainIn}
+use Rattle.several.specs.Several.{jointTermIn, TermsIn}
 use Rattle.several.proofs.Trials.{room-kept, grid-kept}
 use Rattle.several.proofs.Turns.{terms-none, terms-end, terms-length, joint-turn, hats-of}
 use Rattle.several.proofs.joint.joint_terms.Statement.{statement}

@@ -5,8 +5,8 @@ use native.Mathlib.Omega.{arith}
 use Rattle.lambda.specs.Column.{columnStart}
 use Rattle.lambda.proofs.ColumnPlaces.{start-none, start-step}
 use borrow.Author.Needs.{needs}
-use Rattle.lambda.proofs.columns.column_start.Statement.{statement}
-use Rattle.lambda.proofs.columns.column_start.Tie as tie
+use Rattle.lambda.proofs.column.column_start.Statement.{statement}
+use Rattle.lambda.proofs.column.column_start.Tie as tie
 
 abbrev Inv-loop : tie.InvT-loop
 Inv-loop k c start₀ i₀ start i = ((i ≤ c) × (c ≤ k)) × ((k ≤ 8) × (start ≤ 8 * i)) × (start ≡ columnStart k i)

@@ -5,8 +5,8 @@ use Rattle.model.proofs.Shapes.{in-range, effects-small}
 use Prim.Native.Nat.{_-_}
 use native.Mathlib.Omega.{arith}
 use borrow.Author.Needs.{needs}
-use Rattle.lambda.proofs.columns.column_of.Statement.{statement}
-use Rattle.lambda.proofs.columns.column_of.Tie as tie
+use Rattle.lambda.proofs.column.column_of.Statement.{statement}
+use Rattle.lambda.proofs.column.column_of.Tie as tie
 
 abbrev Inv-loop : tie.InvT-loop
 Inv-loop j shape k₀ effects₀ left₀ first₀ i₀ k effects left first i = Passed shape j k effects left first i
