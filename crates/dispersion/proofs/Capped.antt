@@ -11,8 +11,8 @@ use Rattle.model.specs.Items.{Item, isFit, isSolve, isTry, isPoint, countOf, ta
 use Rattle.model.proofs.Tallies.{count-append}
 use Rattle.dispersion.specs.Phi.{roundOf}
 use Rattle.dispersion.specs.Rounds.{Result, result, noResult, Total, Dispersed, totalBefore, lastFit, afterRound, afterFit, dispersionFrom, dispersionOf, fixedOf}
-use Rattle.dispersion.specs.declared.rounds.Round.{Round}
-use Rattle.dispersion.specs.declared.rounds.Round.the-variants.{Settled, Next}
+use Rattle.dispersion.specs.declared.round.Round.{Round}
+use Rattle.dispersion.specs.declared.round.Round.the-variants.{Settled, Next}
 
 module _ {F : Type 0} (effective : Float) (devSum : F → Float) (t : Item → Bool) (c m : ℕ) (phi : Float) (is : List Item) (rest : Float → Total (Dispersed F)) (few : countOf t is ≤ c)
     (rest-few : (next : Float) → countOf t (rest next .items) ≤ m) where

@@ -13,8 +13,8 @@ use Rattle.model.specs.declared.ends.End.the-variants.{NoStop}
 use Rattle.model.proofs.Tallies.{count-append}
 use Rattle.dispersion.specs.Phi.{roundOf}
 use Rattle.dispersion.specs.Rounds.{Result, result, noResult, Total, Dispersed, totalBefore, withFlag, lastFit, afterRound, afterFit, dispersionFrom, dispersionOf, fixedOf}
-use Rattle.dispersion.specs.declared.rounds.Round.{Round}
-use Rattle.dispersion.specs.declared.rounds.Round.the-variants.{Settled, Next}
+use Rattle.dispersion.specs.declared.round.Round.{Round}
+use Rattle.dispersion.specs.declared.round.Round.the-variants.{Settled, Next}
 use Rattle.dispersion.proofs.Turns.{isResult}
 
 -- it did not end for want of iterations

@@ -11,8 +11,8 @@ use Rattle.model.specs.Items.{Item, countOf}
 use Rattle.model.proofs.Tallies.{count-append}
 use Rattle.dispersion.specs.Phi.{roundOf}
 use Rattle.dispersion.specs.Rounds.{Result, result, noResult, Total, Dispersed, totalBefore, withFlag, lastFit, afterRound, afterFit, dispersionFrom, dispersionOf}
-use Rattle.dispersion.specs.declared.rounds.Round.{Round}
-use Rattle.dispersion.specs.declared.rounds.Round.the-variants.{Settled, Next}
+use Rattle.dispersion.specs.declared.round.Round.{Round}
+use Rattle.dispersion.specs.declared.round.Round.the-variants.{Settled, Next}
 use Rattle.dispersion.proofs.Turns.{isResult}
 
 -- the result that was found, f where none was

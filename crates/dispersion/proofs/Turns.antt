@@ -7,7 +7,7 @@ use Rattle.base.specs.Number.{oneF}
 use Rattle.model.specs.declared.ends.End.{End}
 use Rattle.dispersion.specs.Phi.{roundOf}
 use Rattle.dispersion.specs.Rounds.{Result, result, noResult, Total, totalBefore, withFlag, lastFit, afterRound, afterFit, dispersionFrom, fixedOf}
-use Rattle.dispersion.specs.declared.rounds.Round.the-variants.{Settled, Next}
+use Rattle.dispersion.specs.declared.round.Round.the-variants.{Settled, Next}
 
 -- a result was found
 abbrev pub isResult : {F : Type 0} → Result F → Bool

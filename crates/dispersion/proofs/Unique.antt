@@ -5,7 +5,7 @@ use Prim.Native.Nat.{ℕ}
 use lib.Ieee.{Float}
 use Rattle.base.proofs.Unique.{one-value}
 use Rattle.dispersion.specs.Phi.{effectiveN, roundOf}
-use Rattle.dispersion.specs.declared.rounds.Round.{Round}
+use Rattle.dispersion.specs.declared.round.Round.{Round}
 
 -- `effective_n`
 pub effective-n-unique : (weights : List Float) (n : ℕ) (r s : Float) → r ≡ effectiveN n weights → s ≡ effectiveN n weights → r ≡ s

@@ -10,8 +10,8 @@ use Rattle.elementary.specs.Log.{lnOf}
 use Rattle.family.specs.Family.{tenthF}
 use Rattle.family_lists.specs.Lists.{weightAt}
 use Rattle.rule.specs.Constant.{tolF}
-use Rattle.dispersion.specs.declared.rounds.Round.{Round}
-use Rattle.dispersion.specs.declared.rounds.Round.the-variants.{Settled, Next}
+use Rattle.dispersion.specs.declared.round.Round.{Round}
+use Rattle.dispersion.specs.declared.round.Round.the-variants.{Settled, Next}
 
 -- 0.9
 abbrev pub nineTenthsF : Float

@@ -7,8 +7,8 @@ use Rattle.base.specs.Number.{oneF}
 use Rattle.model.specs.Items.{Item}
 use Rattle.model.specs.declared.ends.End.{End}
 use Rattle.dispersion.specs.Phi.{roundOf}
-use Rattle.dispersion.specs.declared.rounds.Round.{Round}
-use Rattle.dispersion.specs.declared.rounds.Round.the-variants.{Settled, Next}
+use Rattle.dispersion.specs.declared.round.Round.{Round}
+use Rattle.dispersion.specs.declared.round.Round.the-variants.{Settled, Next}
 
 -- what a fit comes to: F, or one of the ends 10 to 13
 pub data Result (F : Type 0) : Type 0 where

@@ -1,7 +1,7 @@
 // The dispersion loop: the arithmetic of one round. The rounds themselves are defined in specs/, over any inner fit.
 mod phis;
-mod rounds;
+mod round;
 
 pub use phis::effective_n;
-pub use rounds::Round;
-pub use rounds::round_of;
+pub use round::Round;
+pub use round::round_of;

@@ -1,5 +1,5 @@
 // The product rule.
-use crate::blocks::several_group;
+use crate::group::several_group;
 use agq_rule::Integral;
 use family::CarriedFamily;
 use family::CarriedLink;

@@ -33,8 +33,8 @@ use Rattle.stages.specs.Held.{etaRow}
 use Rattle.iteration.specs.Iterated.{Asked}
 use Rattle.iteration.proofs.IterationMade.{eta-before}
 use Rattle.pirls.specs.Inner.{HoldsResults, HoldsMode, EndingTold, InnerLeft}
-use Rattle.pirls.specs.declared.inner.Ended.the-variants.{Stopped, Failed}
-use Rattle.pirls.specs.declared.inner.InnerFit.{InnerFit}
+use Rattle.pirls.specs.declared.run.Ended.the-variants.{Stopped, Failed}
+use Rattle.pirls.specs.declared.run.InnerFit.{InnerFit}
 use Rattle.agq_rule.specs.Steps.{quadratureOf}
 use Rattle.agq_rule.specs.Inner.{withMode, withoutMode, devianceBy, withPoints, afterRun, innerWith, innerOf}
 use Rattle.sums.specs.Summed.{integratedOf}

@@ -16,8 +16,8 @@ use Rattle.model.specs.declared.ends.End.{End}
 use Rattle.rule.specs.Given.{Given, nOf, qOf}
 use Rattle.rule.specs.Stop.{Mode}
 use Rattle.pirls.specs.Inner.{HoldsResults}
-use Rattle.pirls.specs.declared.inner.Ended.the-variants.{Stopped, Failed}
-use Rattle.pirls.specs.declared.inner.InnerFit.{InnerFit}
+use Rattle.pirls.specs.declared.run.Ended.the-variants.{Stopped, Failed}
+use Rattle.pirls.specs.declared.run.InnerFit.{InnerFit}
 use Rattle.agq_rule.specs.Inner.{InnerEnd, withMode, withoutMode, devianceBy, orderBy, innerOf}
 use Rattle.agq_rule.specs.declared.answers.Integral.{Integral}
 use Rattle.sums.specs.declared.answers.Quadrature.{Quadrature}

@@ -1,8 +1,8 @@
 // The inner fit with its quadrature, as the written rule has it.
 mod answers;
-mod inner;
+mod fits;
 mod quadratures;
 
 pub use answers::InnerAnswer;
-pub use inner::inner_answer;
+pub use fits::inner_answer;
 pub use quadratures::quadrature_at;

@@ -33,7 +33,7 @@ use Rattle.iteration.specs.Iterated.{Asked, givenOf, IterationLeft, triesMade}
 use Rattle.iteration.specs.declared.iterates.Iteration.{Iteration}
 use Rattle.iteration.specs.declared.iterates.Iteration.the-variants.{Unsolvable, Stuck, Moved}
 use Rattle.pirls.specs.Inner.{failedFit, stoppedFit, InnerLeft}
-use Rattle.pirls.specs.declared.inner.InnerFit.{InnerFit}
+use Rattle.pirls.specs.declared.run.InnerFit.{InnerFit}
 use Rattle.pirls.proofs.Turns.{Going, going-starts, spent, unsolved-end, stuck-end, goes-on, fit-stopped}
 
 -- slices of the same lengths are as good

@@ -34,7 +34,7 @@ use Rattle.stages.specs.declared.stops.AtStop.{AtStop}
 use Rattle.iteration.specs.Iterated.{StuckAfter, MovedAfter}
 use Rattle.iteration.proofs.IterationMade.{eta-before}
 use Rattle.pirls.specs.Inner.{turned, failedFit, InnerLeft}
-use Rattle.pirls.specs.declared.inner.Ended.the-variants.{Stopped}
+use Rattle.pirls.specs.declared.run.Ended.the-variants.{Stopped}
 
 -- the counts of so many solves and tries
 abbrev pub counts : ℕ → ℕ → Account

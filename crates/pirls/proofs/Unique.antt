@@ -12,7 +12,7 @@ use Rattle.rule.specs.Stop.{Mode}
 use Rattle.stages.specs.Held.{etaRow}
 use Rattle.rule.specs.Run.{Ending, stopped, failed, runOf}
 use Rattle.pirls.specs.Inner.{HoldsResults, HoldsMode, EndingTold, InnerLeft}
-use Rattle.pirls.specs.declared.inner.InnerFit.{InnerFit}
+use Rattle.pirls.specs.declared.run.InnerFit.{InnerFit}
 
 same-fit : {a b : InnerFit} → a .end ≡ b .end → a .iterations ≡ b .iterations → a .«in_second» ≡ b .«in_second» → a .«deviance_sum» ≡ b .«deviance_sum» → a .fit ≡ b .fit → a .laplace ≡ b .laplace
     → a .account ≡ b .account → a ≡ b

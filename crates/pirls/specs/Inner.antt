@@ -18,8 +18,8 @@ use Rattle.rule.specs.Stop.{Mode}
 use Rattle.rule.specs.Run.{Ending, stopped, failed, runOf}
 use Rattle.stages.specs.Held.{etaRow}
 use Rattle.stages.specs.declared.stops.AtStop.{AtStop}
-use Rattle.pirls.specs.declared.inner.Ended.the-variants.{Stopped, Failed}
-use Rattle.pirls.specs.declared.inner.InnerFit.{InnerFit}
+use Rattle.pirls.specs.declared.run.Ended.the-variants.{Stopped, Failed}
+use Rattle.pirls.specs.declared.run.InnerFit.{InnerFit}
 
 -- in which row the predictor stands after so many iterations: the first before them, then in turn
 unfoldable pub turned : ℕ → Bool

@@ -1,6 +1,6 @@
 // The inner fit, as the written rule has it.
-mod inner;
+mod run;
 
-pub use inner::Ended;
-pub use inner::InnerFit;
-pub use inner::inner_fit;
+pub use run::Ended;
+pub use run::InnerFit;
+pub use run::inner_fit;

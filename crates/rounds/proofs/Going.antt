@@ -23,8 +23,8 @@ use Rattle.rule.specs.Run.{startMeans}
 use Rattle.agq_rule.specs.Inner.{InnerEnd, withMode, withoutMode, innerOf}
 use Rattle.dispersion.specs.Phi.{roundOf}
 use Rattle.dispersion.specs.Rounds.{result, noResult, Total, Dispersed, totalBefore, withFlag, lastFit, dispersionFrom, dispersionOf}
-use Rattle.dispersion.specs.declared.rounds.Round.{Round}
-use Rattle.dispersion.specs.declared.rounds.Round.the-variants.{Settled, Next}
+use Rattle.dispersion.specs.declared.round.Round.{Round}
+use Rattle.dispersion.specs.declared.round.Round.the-variants.{Settled, Next}
 use Rattle.dispersion.proofs.Turns.{round-unfitted, round-settled, round-next}
 use Rattle.call.specs.Fit.{Fitted, sumOf, resultBy, totalOf, innerAt}
 use Rattle.call.proofs.Capped.{one-fit, inner-at-capped}

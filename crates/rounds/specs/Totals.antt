@@ -3,11 +3,11 @@ use mathlib.Core.Bool.{Bool, true, false}
 use lib.Ieee.{Float}
 use Rattle.model.specs.Answer.{unfittedAnswer, fittedAnswer}
 use Rattle.model.specs.declared.counts.Account.{Account}
-use Rattle.pirls.specs.declared.inner.Ended.{Ended}
-use Rattle.pirls.specs.declared.inner.Ended.the-variants.{Stopped, Failed}
+use Rattle.pirls.specs.declared.run.Ended.{Ended}
+use Rattle.pirls.specs.declared.run.Ended.the-variants.{Stopped, Failed}
 use Rattle.dispersion.specs.Phi.{roundOf}
-use Rattle.dispersion.specs.declared.rounds.Round.{Round}
-use Rattle.dispersion.specs.declared.rounds.Round.the-variants.{Settled}
+use Rattle.dispersion.specs.declared.round.Round.{Round}
+use Rattle.dispersion.specs.declared.round.Round.the-variants.{Settled}
 use Rattle.inner.specs.declared.answers.InnerAnswer.{InnerAnswer}
 use Rattle.rounds.specs.declared.totals.Fit.{Fit}
 

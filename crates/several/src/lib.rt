@@ -1,7 +1,7 @@
 // The log terms of a quadrature with several effects at a point: of one group, or of all effects at once.
+mod all;
 mod group;
-mod joint;
 mod trial;
 
+pub use all::joint_terms;
 pub use group::group_terms;
-pub use joint::joint_terms;

@@ -4,8 +4,8 @@ use Rattle.stored.specs.Stored.{sparse}
 use Rattle.sums.proofs.Framed.{roomy-kept, scale-room}
 use Rattle.groups.proofs.SeveralSummed.{several-unscaled, several-scaled}
 use borrow.Author.Needs.{needs}
-use Rattle.groups.proofs.blocks.several_group.Statement.{statement}
-use Rattle.groups.proofs.blocks.several_group.Tie as tie
+use Rattle.groups.proofs.group.several_group.Statement.{statement}
+use Rattle.groups.proofs.group.several_group.Tie as tie
 
 block-scale-requires : tie.Need-block-scale-requires
 block-scale-requires c κs = scale-room (c .before .before .before .before .before .before .before .before .before .before .before .before .args .s) (c .before .before .before .before .before .before .before .before .before .before .before .before .args .k) (c .before .before .before .before .before .before .before .before .before .before .before .before .pre .0 .lent) (c .before .before .before .before .before .before .before .before .before .before .before .before .pre .1 .0)

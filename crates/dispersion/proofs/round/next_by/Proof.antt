@@ -2,8 +2,8 @@
 use mathlib.Core.Path.{refl, sym, _∙_}
 use Rattle.dispersion.specs.Phi.{nextBy}
 use borrow.Author.Needs.{needs}
-use Rattle.dispersion.proofs.rounds.next_by.Statement.{statement}
-use Rattle.dispersion.proofs.rounds.next_by.Tie as tie
+use Rattle.dispersion.proofs.round.next_by.Statement.{statement}
+use Rattle.dispersion.proofs.round.next_by.Tie as tie
 
 close-requires : tie.Need-close-requires
 close-requires c κs = search needs

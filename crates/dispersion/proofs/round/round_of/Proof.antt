@@ -2,8 +2,8 @@
 use mathlib.Core.Path.{refl, sym, _∙_}
 use Rattle.dispersion.specs.Phi.{roundOf}
 use borrow.Author.Needs.{needs}
-use Rattle.dispersion.proofs.rounds.round_of.Statement.{statement}
-use Rattle.dispersion.proofs.rounds.round_of.Tie as tie
+use Rattle.dispersion.proofs.round.round_of.Statement.{statement}
+use Rattle.dispersion.proofs.round.round_of.Tie as tie
 
 unusable-requires : tie.Need-unusable-requires
 unusable-requires c κs = search needs

@@ -3,8 +3,8 @@ use mathlib.Core.Path.{_∙_}
 use Rattle.pirls.proofs.Fitted.{asked-kept}
 use Rattle.inner.proofs.Answering.{lent-after, sum-fits, failed-left, stopped-left}
 use borrow.Author.Needs.{needs}
-use Rattle.inner.proofs.inner.inner_answer.Statement.{statement}
-use Rattle.inner.proofs.inner.inner_answer.Tie as tie
+use Rattle.inner.proofs.fits.inner_answer.Statement.{statement}
+use Rattle.inner.proofs.fits.inner_answer.Tie as tie
 
 inner-fit-requires : tie.Need-inner-fit-requires
 inner-fit-requires c κs = c .before .before .before .before .before .before .before .before .before .before .before .before .before .before .pre

@@ -2,8 +2,8 @@
 use mathlib.Core.Path.{refl, sym, _∙_}
 use Rattle.dispersion.specs.Phi.{nextAt}
 use borrow.Author.Needs.{needs}
-use Rattle.dispersion.proofs.rounds.next_at.Statement.{statement}
-use Rattle.dispersion.proofs.rounds.next_at.Tie as tie
+use Rattle.dispersion.proofs.round.next_at.Statement.{statement}
+use Rattle.dispersion.proofs.round.next_at.Tie as tie
 
 unusable-requires : tie.Need-unusable-requires
 unusable-requires c κs = search needs

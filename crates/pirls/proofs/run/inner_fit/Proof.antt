@@ -13,8 +13,8 @@ use Rattle.solve.specs.Ready.{designOf}
 use Rattle.iteration.specs.Iterated.{givenOf}
 use Rattle.pirls.proofs.Turns.{Going}
 use Rattle.pirls.proofs.Fitted.{asked-kept, begun, end-spent, end-unsolved, end-stuck, few-tries, stuck-few, turn-on, end-stopped}
-use Rattle.pirls.proofs.inner.inner_fit.Statement.{statement}
-use Rattle.pirls.proofs.inner.inner_fit.Tie as tie
+use Rattle.pirls.proofs.run.inner_fit.Statement.{statement}
+use Rattle.pirls.proofs.run.inner_fit.Tie as tie
 
 abbrev Inv-loop : tie.InvT-loop
 Inv-loop family link phi limit shape theta starts columns values offset x y weights n p q r₀ m₀ t₀ old₀ in-second₀ k₀ solves₀ tries₀ r m t old in-second k solves tries = Going (givenOf family link y weights (designOf n p shape theta offset x (sparse starts columns values))) phi limit (row (muRow n) n r₀) r₀ r m₀ m t₀ t old in-second k solves tries

@@ -10,8 +10,8 @@ use Rattle.sums.proofs.Fronts.{rule-size, rule-nodes, rule-weights, rule-weight
 use Rattle.sums.proofs.Grids.{grid-of, count-few, count-in, power-room}
 use Rattle.groups.proofs.SeveralSummed.{several-made}
 use borrow.Author.Needs.{needs}
-use Rattle.groups.proofs.blocks.several_sums.Statement.{statement}
-use Rattle.groups.proofs.blocks.several_sums.Tie as tie
+use Rattle.groups.proofs.group.several_sums.Statement.{statement}
+use Rattle.groups.proofs.group.several_sums.Tie as tie
 
 mark-row-requires : tie.Need-mark-row-requires
 mark-row-requires c κs = c .before .before .before .before .before .before .before .before .before .before .pre .0 .lent .sizes .n-few

@@ -11,8 +11,8 @@ use Rattle.agq.specs.Gained.{gainIn}
 use Rattle.several.specs.Several.{jointTermIn, TermsIn}
 use Rattle.several.proofs.Trials.{room-kept, grid-kept}
 use Rattle.several.proofs.Turns.{terms-none, terms-end, terms-length, joint-turn, hats-of}
-use Rattle.several.proofs.joint.joint_terms.Statement.{statement}
-use Rattle.several.proofs.joint.joint_terms.Tie as tie
+use Rattle.several.proofs.all.joint_terms.Statement.{statement}
+use Rattle.several.proofs.all.joint_terms.Tie as tie
 
 abbrev Inv-loop : tie.InvT-loop
 Inv-loop family link shape theta starts columns values y weights offset n q xbeta r₀ nodes node-weights size count inv-phi l u trial m₀ terms₀ end hats i₀ r m terms i = (i ≤ count) × (hats ≡ dotOf q (row u q m₀) (row u q m₀)) × (TermsIn (jointTermIn (gainIn family link shape theta (sparse starts columns values) y weights offset n q xbeta r₀) q inv-phi nodes node-weights size (row l (q * q) m₀) (row u q m₀)) n q xbeta trial i r₀ r m₀ m terms₀ terms)

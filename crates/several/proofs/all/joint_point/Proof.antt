@@ -6,8 +6,8 @@ use Rattle.stored.specs.Stored.{sparse}
 use Rattle.agq.specs.Gained.{gainIn}
 use Rattle.several.proofs.Terms.{joint-made}
 use borrow.Author.Needs.{needs}
-use Rattle.several.proofs.joint.joint_point.Statement.{statement}
-use Rattle.several.proofs.joint.joint_point.Tie as tie
+use Rattle.several.proofs.all.joint_point.Statement.{statement}
+use Rattle.several.proofs.all.joint_point.Tie as tie
 
 trial-gain-requires : tie.Need-trial-gain-requires
 trial-gain-requires c κs = search needs
