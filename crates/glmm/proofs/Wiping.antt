@@ -22,7 +22,7 @@ use Rattle.dispersion.specs.Rounds.{Result, result, noResult, Total, Dispersed}
 use Rattle.rounds.specs.Fitted.{FitTold, FitLeft}
 use Rattle.rounds.specs.declared.totals.Fit.{Fit}
 use Rattle.call.specs.Fit.{Fitted}
-use Rattle.call.specs.Call.{Lent, left, resultsAfter, fitLeft}
+use Rattle.call.specs.Call.{left, resultsAfter, fitLeft}
 
 -- +0.0 in the k first places of a slice that was changed there only
 wiped-over : (k : ℕ) (v w : List Float) → k ≤ length v → Only 0 k v w → fillTo k zeroAt w ≡ fillTo k zeroAt v
