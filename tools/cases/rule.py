@@ -89,7 +89,7 @@ def file_of(name, about):
 use mathlib.Core.Path.{{_≡_, refl}}
 use mathlib.Core.List.{{[], _∷_}}
 use lib.Ieee.{{{', '.join(IEEE)}}}
-use Rattle.base.specs.Number.{{bits, zeroF}}
+use Rattle.base.specs.Number.{{bits{", zeroF" if end["end"] else ""}}}
 {chr(10).join(uses)}
 use Rattle.rule.specs.Given.{{Given}}
 use Rattle.family.specs.declared.carried.CarriedFamily.the-variants as family

@@ -37,7 +37,7 @@ effectsAt shape theta q u = build (lambdaTimesAt shape theta u) q
 unfoldable pub predictedAt : Shape → List Float → Sparse → ℕ → ℕ → List Float → List Float
 predictedAt shape theta Z n q u = build (zTimesAt Z q (effectsAt shape theta q u)) n
 
--- dd of the effects u, the marks and the rows Xβ and deviances at the mode being given
+-- dd, the marks and the rows Xβ, Zb and deviances at the mode being given
 unfoldable pub gainFrom : CarriedFamily → CarriedLink → List Float → List Float → List Float → ℕ → List Float → List Float → List Float → List Float → Float
 gainFrom family link y weights offset n marks xb zb devs = sumWhere n (marked marks) (entered family link y weights offset xb zb devs)
 

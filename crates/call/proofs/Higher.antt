@@ -33,8 +33,8 @@ use Rattle.call.proofs.Leaves.{askedFit, accepted-left, accepted-accoun
 
 -- ---- the fit with two limits
 module _ (G : given.Given) (wish L M : ℕ) (l : L ≤ M) where
-  abbrev count : Float
-  count = effectiveN (given.nOf G) (G .weights)
+  abbrev effective : Float
+  effective = effectiveN (given.nOf G) (G .weights)
 
   inner-kept : (phi : Float) → Stopped (innerAt G wish L phi) → innerAt G wish M phi ≡ innerAt G wish L phi
   unfolding innerAt totalOf resultBy
@@ -46,13 +46,13 @@ module _ (G : given.Given) (wish L M : ℕ) (l : L ≤ M) where
 
   by-same : (b : Bool) → Stopped (fitBy b G wish L) → fitBy b G wish M ≡ fitBy b G wish L
   unfolding fitBy
-  by-same true h = dispersion-same count sumOf (innerAt G wish L) (innerAt G wish M) inner-kept h
-  by-same false h = fixed-same count sumOf (innerAt G wish L) (innerAt G wish M) inner-kept h
+  by-same true h = dispersion-same effective sumOf (innerAt G wish L) (innerAt G wish M) inner-kept h
+  by-same false h = fixed-same effective sumOf (innerAt G wish L) (innerAt G wish M) inner-kept h
 
   by-grows : (b : Bool) (t : Item → Bool) → countOf t (fitBy b G wish L .items) ≤ countOf t (fitBy b G wish M .items)
   unfolding fitBy
-  by-grows true t = dispersion-grows count sumOf (innerAt G wish L) (innerAt G wish M) inner-kept t (inner-more t)
-  by-grows false t = fixed-grows count sumOf (innerAt G wish L) (innerAt G wish M) inner-kept t (inner-more t oneF)
+  by-grows true t = dispersion-grows effective sumOf (innerAt G wish L) (innerAt G wish M) inner-kept t (inner-more t)
+  by-grows false t = fixed-grows effective sumOf (innerAt G wish L) (innerAt G wish M) inner-kept t (inner-more t oneF)
 
   pub fit-same : Stopped (fitOf G wish L) → fitOf G wish M ≡ fitOf G wish L
   unfolding fitOf

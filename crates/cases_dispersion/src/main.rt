@@ -9,9 +9,9 @@ fn count(weights: &[f64], n: usize) {
 }
 
 // What follows one round.
-fn round(count: f64, phi: f64, sum: f64) {
+fn round(effective: f64, phi: f64, sum: f64) {
     text::put_word(b"round");
-    let round = dispersion::round_of(count, phi, sum);
+    let round = dispersion::round_of(effective, phi, sum);
     match round {
         Round::Settled => text::put_word(b" settled"),
         Round::Next(next) => text::put_double(next),
@@ -29,13 +29,13 @@ fn put_end(settled: bool, rounds: u64, phi: f64) {
 }
 
 // The loop over inner fits whose deviances sum to the first number and the second in turn.
-fn rounds(count: f64, first: f64, second: f64) {
+fn rounds(effective: f64, first: f64, second: f64) {
     let mut phi = 1.0;
     let mut sum = first;
     let mut other = second;
     let mut k: u64 = 0;
     while k < 240 {
-        let round = dispersion::round_of(count, phi, sum);
+        let round = dispersion::round_of(effective, phi, sum);
         match round {
             Round::Settled => {
                 put_end(true, k, phi);

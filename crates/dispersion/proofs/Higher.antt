@@ -93,7 +93,7 @@ module _ {F : Type 0} (effective : Float) (devSum : F → Float) (inner more : F
   unfolding dispersionOf
   dispersion-grows t grows = loop-grows t grows 240 oneF
 
-  -- every effective of the account
+  -- every count of the account
   pub dispersion-account : ((t : Item → Bool) (phi : Float) → countOf t (inner phi .items) ≤ countOf t (more phi .items))
       → AtMost (tally (dispersionOf effective devSum more .items)) (tally (dispersionOf effective devSum inner .items))
   unfolding tally

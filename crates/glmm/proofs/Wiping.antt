@@ -10,7 +10,7 @@ use lib.Ieee.{Float}
 use Rattle.base.specs.List.{zeroAt, fillTo}
 use Rattle.base.specs.Rows.{row, Only}
 use Rattle.base.proofs.Fills.{length-fill, fill-past, fill-in, fill-is}
-use Rattle.layout.specs.Layout as layout
+use Rattle.layout.specs.Layout.{WorkRoom}
 use Rattle.layout.specs.WorkRows.{muRow, rowsLength}
 use Rattle.layout.specs.WorkMatrices.{rootInversePlace, uPlace, betaPlace, matricesLength}
 use Rattle.layout.specs.WorkTerms.{termsLength}
@@ -22,7 +22,7 @@ use Rattle.dispersion.specs.Rounds.{Result, result, noResult, Total, Dispersed}
 use Rattle.rounds.specs.Fitted.{FitTold, FitLeft}
 use Rattle.rounds.specs.declared.totals.Fit.{Fit}
 use Rattle.call.specs.Fit.{Fitted}
-use Rattle.call.specs.Call.{Lent, left, resultsAfter, fitLeft}
+use Rattle.call.specs.Call.{left, resultsAfter, fitLeft}
 
 -- +0.0 in the k first places of a slice that was changed there only
 wiped-over : (k : ℕ) (v w : List Float) → k ≤ length v → Only 0 k v w → fillTo k zeroAt w ≡ fillTo k zeroAt v
@@ -43,7 +43,7 @@ results-by G r m f N N' (result d) h w = rw (h .0, h .1 .inverse, h .1 .beta, h 
 
 -- ---- the call
 module _ (G : Given) (T : Total (Dispersed Fitted)) (q : ℕ) (eq : q ≡ qOf (G .design)) (r r' r'' m m' m'' t t' t'' : List Float) (N N' : Results) (f : Fit) where
-  pub call-left : layout.Lent (nOf G) (G .design .p) q r m t → FitLeft G T r r' m m' t t' f → N' ≡ cond (f .fitted) (standing G q (f .«in_second») r' m') N → Wiped (nOf G) (G .design .p) q r' r'' m' m'' t' t''
+  pub call-left : WorkRoom (nOf G) (G .design .p) q r m t → FitLeft G T r r' m m' t t' f → N' ≡ cond (f .fitted) (standing G q (f .«in_second») r' m') N → Wiped (nOf G) (G .design .p) q r' r'' m' m'' t' t''
       → left (f .answer) (record { results = N'; rows = r''; matrices = m''; terms = t'' }) ≡ fitLeft (nOf G) (G .design .p) q G T (record { results = N; rows = r; matrices = m; terms = t })
   unfolding fitLeft
   call-left l h e w =

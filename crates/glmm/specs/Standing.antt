@@ -11,7 +11,7 @@ use Rattle.model.specs.declared.sizes.Shape.{Shape}
 use Rattle.layout.specs.WorkRows.{rowsLength}
 use Rattle.layout.specs.WorkMatrices.{matricesLength}
 
--- the shape has q effects and theta its numbers; there are n responses; the sizes are in range, and the work slices have their named lengths
+-- the shape has q effects and theta its numbers; there are n responses; the sizes are in range, and rows and matrices have their named lengths
 pub record Standing (shape : Shape) (n p q : ℕ) (theta y rows matrices : List Float) : Type 0 where
   pub good : goodShape shape ≡ true
   pub effects : q ≡ effectsOf shape

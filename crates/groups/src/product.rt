@@ -92,7 +92,7 @@ fn group(
     )
 }
 
-// All groups of k effects: the fit term with -2·log sum of each added, or why there is none.
+// All groups of k effects: the fit term plus the total of -2·log sum of each, or why there is none.
 pub fn product_step(
     family: CarriedFamily,
     link: CarriedLink,

@@ -44,6 +44,7 @@ left-once G wish phi L mu r r' r'' m m' m'' t t' t'' a b k i e x y =
     results-once G k (a .«in_second») (b .«in_second») r' r'' m' m'' (x' .results) (y' .results)
 
 -- ---- the quadrature: the work slices always hold some mode, so its contract too leaves one answer
+-- a mode with what the quadrature reads of the work slices; the rest, which it does not read, is empty or zero
 abbrev standing : Given → Float → (rows matrices : List Float) → Mode
 standing G fit r m =
     record {

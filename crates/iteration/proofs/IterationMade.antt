@@ -61,15 +61,18 @@ record FoundItems (x : Search) (mv : Move) (k : ℕ) : Type 0 where
   pub is : x ≡ foundMove mv items
   pub count : countOf isTry items ≡ k
 
+-- and of one without a move
 record NoItems (x : Search) (k : ℕ) : Type 0 where
   pub items : List Item
   pub is : x ≡ noMove items
   pub count : countOf isTry items ≡ k
 
+-- the move that was found, d where none was
 abbrev moveOr : Move → Brief → Move
 moveOr d (found mv k) = mv
 moveOr d (none k) = d
 
+-- how many tries were made
 abbrev countIn : Brief → ℕ
 countIn (found mv k) = k
 countIn (none k) = k

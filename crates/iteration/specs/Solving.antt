@@ -56,7 +56,7 @@ RootSolved n p q m m' t t' r = (N : List Float) → p * p ≤ length N → SameB
 
 -- ---- u, b and the raw predictor
 
--- from wy, the columns W and β, as they stand in the matrices: u and the raw predictor, and no piece but theirs has changed
+-- from wy, the columns W and β, as they stand in the matrices: u and the raw predictor; nothing has changed but their pieces, that of b and the spare one
 pub record RawLeft (D : Design) (wy W beta r r' m m' t t' : List Float) : Type 0 where
   pub u : row (uPlace (D .p) (qOf D)) (qOf D) m' ≡ effectsAfter D wy W beta
   pub raw : row (rawRow (D .n)) (D .n) r' ≡ rawOf D beta (bOf D (effectsAfter D wy W beta))

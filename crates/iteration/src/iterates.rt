@@ -23,7 +23,7 @@ pub enum Iteration {
     Moved(f64, u64),
 }
 
-// An iteration from the row that holds the predictor; an accepted one stands in the other row.
+// An iteration from the row that holds the predictor; an accepted predictor stands in the other row.
 pub fn iterate(
     family: CarriedFamily,
     link: CarriedLink,

@@ -40,7 +40,7 @@ candidateOf T step = build (candidateAt (T .prev) (T .raw) step) (T .n)
 unfoldable pub fineEta : CarriedLink → Float → Bool
 fineEta link e = finite e && (not (isInverse (linkOf link)) || lt epsF e)
 
--- eta of observation i can be
+-- eta of observation i can be accepted
 abbrev pub fineEtaAt : CarriedLink → List Float → ℕ → Bool
 fineEtaAt link c i = fineEta link (c ! i)
 

@@ -1,4 +1,4 @@
-// The written rule of the inner fit is in specs/; here are its steps that need one number of each kind.
+// The written rule of the inner fit is in specs/; here are its steps for one observation, and its stop test.
 mod steps;
 
 pub use steps::divisor;

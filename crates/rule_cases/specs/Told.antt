@@ -4,7 +4,7 @@ use Prim.Native.Nat.{ℕ}
 use lib.Ieee.{Float}
 use Rattle.base.specs.Number.{zeroF, oneF}
 use Rattle.model.specs.Answer.{endNumber}
-use Rattle.model.specs.Items.{Item, tally}
+use Rattle.model.specs.Items.{tally}
 use Rattle.model.specs.declared.counts.Account.{Account}
 use Rattle.rule.specs.Given.{Given, nOf}
 use Rattle.rule.specs.Solve.{bOf}

@@ -103,11 +103,12 @@ answers-told : (r : TriesEnd) (c m : List Float) → r ≡ answers (tellTries r 
 answers-told (Moved p k) c m = refl
 answers-told (NoMove k) c m = refl
 
--- the rows of the move that was found, else others
+-- the predictor of the move that was found, c where none was
 abbrev moveRow : Brief → List Float → List Float
 moveRow (found m k) c = m .eta
 moveRow (none k) c = c
 
+-- its means, c where none was
 abbrev meanRow : Brief → List Float → List Float
 meanRow (found m k) c = m .mu
 meanRow (none k) c = c

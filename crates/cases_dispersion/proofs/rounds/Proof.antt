@@ -5,10 +5,10 @@ use Rattle.cases_dispersion.proofs.rounds.Statement.{statement}
 use Rattle.cases_dispersion.proofs.rounds.Tie as tie
 
 abbrev Inv-loop : tie.InvT-loop
-Inv-loop count first second phi₀ sum₀ other₀ k₀ phi sum other k = k ≤ 240
+Inv-loop effective first second phi₀ sum₀ other₀ k₀ phi sum other k = k ≤ 240
 
 abbrev μ-loop : tie.MeasureT-loop
-μ-loop count first second phi₀ sum₀ other₀ k₀ phi sum other k = 240 - k
+μ-loop effective first second phi₀ sum₀ other₀ k₀ phi sum other k = 240 - k
 
 loop-holds : tie.Need-loop-holds Inv-loop μ-loop
 loop-holds c = search needs

@@ -1,4 +1,4 @@
--- `agq_rule::deviance_by` meets its contract, case by case.
+-- `agq_rule::deviance_by` meets its contract: each arm is the definition's line for its case.
 use borrow.Author.Needs.{needs}
 use Rattle.agq_rule.specs.Inner.{devianceBy}
 use Rattle.agq_rule.proofs.answers.deviance_by.Statement.{statement}

@@ -1,4 +1,4 @@
--- `agq_rule::order_by` meets its contract, case by case.
+-- `agq_rule::order_by` meets its contract: each arm is the definition's line for its case.
 use borrow.Author.Needs.{needs}
 use Rattle.agq_rule.specs.Inner.{orderBy}
 use Rattle.agq_rule.proofs.answers.order_by.Statement.{statement}

@@ -1,4 +1,4 @@
--- `dispersion::unusable` meets its contract: by its first test.
+-- `dispersion::unusable` meets its contract: what is not finite is unusable, else the comparison decides.
 use mathlib.Core.Path.{refl, sym, _∙_}
 use Rattle.dispersion.specs.Phi.{unusable}
 use borrow.Author.Needs.{needs}

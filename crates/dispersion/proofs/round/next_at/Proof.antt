@@ -1,4 +1,4 @@
--- `dispersion::next_at` meets its contract: by its test.
+-- `dispersion::next_at` meets its contract: its test is the definition's.
 use mathlib.Core.Path.{refl, sym, _∙_}
 use Rattle.dispersion.specs.Phi.{nextAt}
 use borrow.Author.Needs.{needs}

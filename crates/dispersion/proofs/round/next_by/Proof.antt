@@ -1,4 +1,4 @@
--- `dispersion::next_by` meets its contract: by its test, and then the mixed phi.
+-- `dispersion::next_by` meets its contract: its test is the definition's, and so is the mixed phi.
 use mathlib.Core.Path.{refl, sym, _∙_}
 use Rattle.dispersion.specs.Phi.{nextBy}
 use borrow.Author.Needs.{needs}

@@ -1,4 +1,4 @@
--- `dispersion::round_of` meets its contract: by its test, and then the estimate.
+-- `dispersion::round_of` meets its contract: its test is the definition's, and so is the estimate.
 use mathlib.Core.Path.{refl, sym, _∙_}
 use Rattle.dispersion.specs.Phi.{roundOf}
 use borrow.Author.Needs.{needs}

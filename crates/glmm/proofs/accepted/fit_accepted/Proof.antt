@@ -1,4 +1,4 @@
--- The results are those of the fit, and the work slices are wiped where the fit may have written.
+-- `glmm::fit_accepted` meets its contract: the results are those of the fit, and the work slices are wiped where the fit may have written.
 use mathlib.Core.Path.{_∙_}
 use Rattle.stored.specs.Stored.{sparse}
 use Rattle.solve.specs.Ready.{designOf}

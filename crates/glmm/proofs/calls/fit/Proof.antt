@@ -1,4 +1,4 @@
--- By the verdict: an accepted call is fitted, and of a refused one every slice stays as it is.
+-- `glmm::fit` meets its contract: by the verdict an accepted call is fitted, and of a refused one every slice stays as it is.
 use Rattle.call.specs.Call.{lengthsOf, callGiven}
 use Rattle.glmm.proofs.ByVerdict.{call-asked, call-limit, call-writable, call-fitted, call-refused}
 use borrow.Author.Needs.{needs}

@@ -1,4 +1,4 @@
--- The parts of the fit stand where the layout says, and the writer of results is handed them.
+-- `glmm::write_fit` meets its contract: the parts of the fit stand where the layout says, and the writer of results is handed them.
 use native.Mathlib.Omega.{arith}
 use Rattle.layout.proofs.Bounds.{products}
 use Rattle.glmm.proofs.Written.{unwritten, written-if, rows-read, parts-read, parts-written}

@@ -1,4 +1,4 @@
--- `points::add_gain` meets its contract: the two ways that the mark decides between.
+-- `points::add_gain` meets its contract: the mark's test is the definition's, and at a marked observation the operations are those of `entered`.
 use Rattle.working.proofs.Entries.{optional-at}
 use Rattle.points.proofs.Entered.{gain-skipped, gain-taken}
 use native.Mathlib.Omega.{arith}

@@ -1,4 +1,4 @@
--- `points::delta` meets its contract: the same operations.
+-- `points::delta` meets its contract: its operations are the definition's, in the definition's order.
 use mathlib.Core.Path.{refl}
 use Rattle.agq_rule.specs.Term.{deltaOf}
 use Rattle.points.proofs.gains.delta.Statement.{statement}

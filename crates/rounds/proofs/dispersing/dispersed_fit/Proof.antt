@@ -1,4 +1,4 @@
--- What is left of the dispersion loop comes to what the whole does, and the account is that of the rounds done.
+-- `rounds::dispersed_fit` meets its contract: what is left of the dispersion loop comes to what the whole does, and the account is that of the rounds done.
 use Prim.Native.Nat.{_-_}
 use mathlib.Core.Path.{sym, _∙_}
 use native.Mathlib.Omega.{arith}

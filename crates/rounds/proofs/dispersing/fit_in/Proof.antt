@@ -1,4 +1,4 @@
--- The fit is the dispersion loop where the dispersion is free, and one inner fit where it is not.
+-- `rounds::fit_in` meets its contract: the fit is the dispersion loop where the dispersion is free, and one inner fit where it is not.
 use mathlib.Core.Path.{sym, _∙_}
 use Rattle.stored.specs.Stored.{sparse}
 use Rattle.solve.specs.Ready.{designOf}

@@ -1,4 +1,4 @@
--- One inner fit at phi 1 is the whole fit.
+-- `rounds::fixed_fit` meets its contract: one inner fit at phi 1 is the whole fit.
 use Rattle.stored.specs.Stored.{sparse}
 use Rattle.solve.specs.Ready.{designOf}
 use Rattle.iteration.specs.Iterated.{givenOf}

@@ -1,4 +1,4 @@
--- The inner fit whose means `start_means` has just written is the rule's from the starting means.
+-- `rounds::inner_at` meets its contract: the inner fit whose means `start_means` has just written is the rule's from the starting means.
 use mathlib.Core.Path.{refl}
 use native.Mathlib.Omega.{arith}
 use Rattle.base.proofs.Rows.{filled-part}

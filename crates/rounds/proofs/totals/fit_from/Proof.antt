@@ -1,4 +1,4 @@
--- Each arm is the definition's line for its end.
+-- `rounds::fit_from` meets its contract: each arm is the definition's line for its end.
 use mathlib.Core.Path.{refl}
 use Rattle.rounds.specs.Totals.{fitFrom}
 use borrow.Author.Needs.{needs}

@@ -1,4 +1,4 @@
--- Each arm is the definition's line for its end.
+-- `rounds::round_after` meets its contract: each arm is the definition's line for its end.
 use mathlib.Core.Path.{refl}
 use Rattle.rounds.specs.Totals.{roundAfter}
 use borrow.Author.Needs.{needs}

@@ -1,4 +1,4 @@
--- `rule::divisor` meets its contract, branch by branch.
+-- `rule::divisor` meets its contract: its two tests are the definition's.
 use Rattle.rule.specs.Working.{divisor}
 use borrow.Author.Needs.{needs}
 use Rattle.rule.proofs.steps.divisor.Statement.{statement}

@@ -1,4 +1,4 @@
--- `rule::fine_eta` meets its contract, branch by branch.
+-- `rule::fine_eta` meets its contract: what is not finite fails, and the link decides as in the definition whether E is asked for.
 use Rattle.rule.specs.Try.{fineEta}
 use borrow.Author.Needs.{needs}
 use Rattle.rule.proofs.steps.fine_eta.Statement.{statement}

@@ -1,4 +1,4 @@
--- `stages::holder` meets its contract, branch by branch.
+-- `stages::holder` meets its contract: each branch gives the front of the row that the flag names.
 use Rattle.stages.proofs.HeldRows.{held-first, held-second}
 use native.Mathlib.Omega.{arith}
 use Rattle.stages.proofs.holders.holder.Statement.{statement}

@@ -1,4 +1,4 @@
--- `working::fit_term` meets its contract, branch by branch.
+-- `working::fit_term` meets its contract: the family's test is the definition's.
 use Rattle.rule.specs.Stop.{fitTerm}
 use borrow.Author.Needs.{needs}
 use Rattle.working.proofs.stopping.fit_term.Statement.{statement}
