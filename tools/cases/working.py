@@ -66,8 +66,6 @@ def plus(offset, xs):
 
 
 def with_offset(offset):
-    z = [0.3, -0.0, 1e16, 0.7, INF]
-    show("targets", *([x - o for x, o in zip(z, offset)] if offset else z), 9.0)
     x, beta, zb = [[1.0, 1e16], [0.1, -1e16], [0.7, 3.0], [1.0, 0.2], [1.0, -0.0]], [0.3, 1.0], [1.0, 1e16, -1e16, 0.1, -0.3]
     fixed = [total(a * b for a, b in zip(r, beta)) for r in x]
     raw = plus(offset, [f + b for f, b in zip(fixed, zb)])

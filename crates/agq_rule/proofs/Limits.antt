@@ -1,17 +1,17 @@
 -- Of the inner fit with its quadrature too: a higher limit changes nothing that did not end with 13, and no count shrinks; the start is a variable. Assumes nothing.
 use mathlib.Core.Path.{_≡_, refl, sym, ap, _∙_}
-use mathlib.Core.Bool.{Bool, true, false}
+use mathlib.Core.Bool.{Bool}
 use mathlib.Core.List.{List}
 use Prim.Native.Nat.{ℕ, _≤_}
 use native.Mathlib.Omega.{arith}
 use lib.Ieee.{Float}
 use Rattle.base.proofs.Doubles.{ff}
-use Rattle.model.specs.Account.{AtMost}
-use Rattle.model.specs.Items.{Item, isFit, isSolve, isTry, isPoint, countOf, tally}
+use Rattle.model.specs.Items.{Item, countOf}
 use Rattle.model.specs.declared.ends.End.the-variants.{NoStop}
 use Rattle.model.proofs.Tallies.{count-append}
 use Rattle.rule.specs.Given.{Given}
 use Rattle.rule.specs.Run.{Ending, stopped, failed, Outcome, runOf}
+use Rattle.rule.proofs.Stopping.{isStopped}
 use Rattle.rule.proofs.Limits.{Ended, limit-same, limit-grows}
 use Rattle.agq_rule.specs.Steps.{quadratureOf}
 use Rattle.agq_rule.specs.Inner.{withoutMode, Inner, withPoints, afterRun, innerWith, innerOf}
@@ -37,31 +37,15 @@ unfolding afterRun withPoints
 adds t (failed e) G wish phi is = omega arith
 adds t (stopped M) G wish phi is = omega (arith, count-append t is (quadratureOf G wish M phi .items))
 
--- an ending is a stop
-abbrev isStop : Ending → Bool
-isStop (stopped m) = true
-isStop (failed e) = false
-
 module _ (G : Given) (wish : ℕ) (phi : Float) (mu : List Float) (t : Item → Bool) (L M : ℕ) (l : L ≤ M) where
   by-ending : (x : Ending) → runOf G phi L mu .ending ≡ x → countOf t (afterRun x G wish phi (runOf G phi L mu .items) .items) ≤ countOf t (innerOf G wish phi M mu .items)
   unfolding innerOf innerWith afterRun
   by-ending (failed e) q =
       omega (arith, limit-grows G phi mu t L M l, adds t (runOf G phi M mu .ending) G wish phi (runOf G phi M mu .items))
   by-ending (stopped m) q =
-      let same : runOf G phi M mu ≡ runOf G phi L mu = limit-same G phi mu L M l (λ e. ff (sym (ap isStop e) ∙ ap isStop q)) in
+      let same : runOf G phi M mu ≡ runOf G phi L mu = limit-same G phi mu L M l (λ e. ff (sym (ap isStopped e) ∙ ap isStopped q)) in
       rw (same, q) (omega arith)
 
   pub inner-grows : countOf t (innerOf G wish phi L mu .items) ≤ countOf t (innerOf G wish phi M mu .items)
   unfolding innerOf innerWith
   inner-grows = by-ending (runOf G phi L mu .ending) refl
-
--- every count of the account
-pub inner-account-grows : (G : Given) (wish : ℕ) (phi : Float) (mu : List Float) (L M : ℕ) → L ≤ M → AtMost (tally (innerOf G wish phi M mu .items)) (tally (innerOf G wish phi L mu .items))
-unfolding tally
-inner-account-grows G wish phi mu L M l =
-    record {
-      fits = inner-grows G wish phi mu isFit L M l;
-      solves = inner-grows G wish phi mu isSolve L M l;
-      tries = inner-grows G wish phi mu isTry L M l;
-      points = inner-grows G wish phi mu isPoint L M l;
-    }

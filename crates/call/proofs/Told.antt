@@ -17,9 +17,8 @@ use Rattle.agq_rule.specs.Steps.{quadratureOf}
 use Rattle.agq_rule.specs.Inner.{withPoints, afterRun, innerWith, innerOf}
 use Rattle.agq_rule.proofs.Caps.{inner-capped}
 use Rattle.dispersion.specs.Phi.{effectiveN}
-use Rattle.dispersion.specs.Rounds.{Result, result, noResult, Total, Dispersed, withFlag, lastFit, dispersionOf, fixedOf}
-use Rattle.dispersion.proofs.Turns.{isResult}
-use Rattle.dispersion.proofs.Reported.{phi-ran, unsettled-241}
+use Rattle.dispersion.specs.Rounds.{Result, result, noResult, Dispersed, withFlag, lastFit, dispersionOf, fixedOf}
+use Rattle.dispersion.proofs.Reported.{last-ran, phi-ran, unsettled-241}
 use Rattle.call.specs.Fit.{Fitted, sumOf, totalOf, innerAt, fitBy, fitOf}
 
 -- ---- an inner fit counts itself once
@@ -49,21 +48,11 @@ unfolding withFlag
 fixed-flag phi (result f) = refl
 fixed-flag phi (noResult e) = refl
 
--- the result, d where there is none
-abbrev resultIn : {F : Type 0} → F → Result F → F
-resultIn f (result g) = g
-resultIn f (noResult e) = f
-
-fixed-ran : {F : Type 0} (inner : Float → Total F) (d : Dispersed F) (x : Result F) → inner oneF .outcome ≡ x → withFlag true oneF x ≡ result d → inner (d .phi) .outcome ≡ result (d .last)
-unfolding withFlag
-fixed-ran inner d (result f) q e = let g : record { last = f; phi = oneF; converged = true } ≡ d = ap (resultIn d) e in rw (← g) q
-fixed-ran inner d (noResult n) q e = absurd (ff (ap isResult e))
-
 module _ (G : Given) (wish L : ℕ) (d : Dispersed Fitted) where
   by-ran : (b : Bool) → fitBy b G wish L .outcome ≡ result d → innerAt G wish L (d .phi) .outcome ≡ result (d .last)
   unfolding fitBy dispersionOf fixedOf lastFit
   by-ran true e = phi-ran (effectiveN (nOf G) (G .weights)) sumOf (innerAt G wish L) d 240 oneF e
-  by-ran false e = fixed-ran (innerAt G wish L) d (innerAt G wish L oneF .outcome) refl e
+  by-ran false e = last-ran (innerAt G wish L) d true oneF (innerAt G wish L oneF .outcome) refl e
 
   by-all : (b : Bool) → fitBy b G wish L .outcome ≡ result d → d .converged ≡ false → countOf isFit (fitBy b G wish L .items) ≡ 241
   unfolding fitBy fixedOf lastFit

@@ -2,22 +2,7 @@
 // Each buffer is longer than what is written and holds 9 before: the rest stays.
 use family::CarriedFamily;
 use family::CarriedLink;
-ghost use Prim.Native.Nat.{_≤_};
-ghost use lib.ListN.{length};
 ghost use Rattle.working.specs.Optional.{Optional};
-
-// The first n numbers, behind a word.
-fn put_list(word: &[u8], xs: &[f64], n: usize)
-    requires { ⌜ n ≤ length (now xs) ⌝ }
-{
-    text::put_word(word);
-    let mut i = 0;
-    while i < n {
-        text::put_double(xs[i]);
-        i += 1;
-    }
-    text::end_line();
-}
 
 // w from 1 on and z from 14 on. Predictors and means do not belong together, so that each is seen where it stands.
 fn working_rows(family: CarriedFamily, link: CarriedLink, phi: f64, weights: &[f64]) {
@@ -65,7 +50,7 @@ fn working_rows(family: CarriedFamily, link: CarriedLink, phi: f64, weights: &[f
     ];
     let mut t = [9.0; 27];
     working::working_rows(family, link, phi, &y, weights, &eta, &mu, 12, 1, 14, &mut t);
-    put_list(b"rows", &t, 27);
+    text::put_list(b"rows", &t, 27);
 }
 
 // Every link and family; a dispersion of 1, others, and two below E.
@@ -97,14 +82,6 @@ fn all_working_rows() {
     working_rows(CarriedFamily::Poisson, CarriedLink::Sqrt, -2.5, &weights);
 }
 
-fn targets(offset: &[f64])
-    requires { ⌜ Optional 5 (now offset) ⌝ }
-{
-    let mut out = [9.0; 6];
-    working::targets(offset, &[0.3, -0.0, 1e16, 0.7, 1.0 / 0.0], 5, &mut out);
-    put_list(b"targets", &out, 6);
-}
-
 // X of five rows and two columns; out holds Zb.
 fn raw_row(offset: &[f64])
     requires { ⌜ Optional 5 (now offset) ⌝ }
@@ -112,7 +89,7 @@ fn raw_row(offset: &[f64])
     let x = [1.0, 1e16, 0.1, -1e16, 0.7, 3.0, 1.0, 0.2, 1.0, -0.0];
     let mut out = [1.0, 1e16, -1e16, 0.1, -0.3, 9.0];
     working::raw_row(offset, &x, &[0.3, 1.0], 5, 2, &mut out);
-    put_list(b"raw", &out, 6);
+    text::put_list(b"raw", &out, 6);
 }
 
 // The means stand from 1 on, the predictor from 7 on.
@@ -135,7 +112,7 @@ fn start_eta(link: CarriedLink, offset: &[f64])
         9.0,
     ];
     working::start_eta(link, offset, 5, 1, 7, &mut rows);
-    put_list(b"start", &rows, 13);
+    text::put_list(b"start", &rows, 13);
 }
 
 // The other way round.
@@ -158,13 +135,12 @@ fn start_back(offset: &[f64])
         9.0,
     ];
     working::start_eta(CarriedLink::Log, offset, 5, 7, 1, &mut rows);
-    put_list(b"back", &rows, 13);
+    text::put_list(b"back", &rows, 13);
 }
 
 fn with_offset(offset: &[f64])
     requires { ⌜ Optional 5 (now offset) ⌝ }
 {
-    targets(offset);
     raw_row(offset);
     start_eta(CarriedLink::Logit, offset);
     start_eta(CarriedLink::Cloglog, offset);
@@ -178,7 +154,7 @@ fn with_offset(offset: &[f64])
 fn start_means(family: CarriedFamily) {
     let mut out = [9.0; 6];
     working::start_means(family, &[0.0, 1.0, 0.3, -0.0, 1e16], 5, &mut out);
-    put_list(b"means", &out, 6);
+    text::put_list(b"means", &out, 6);
 }
 
 // The means stand from 1 on, the deviances from 6 on; then their sum and the fit term.
@@ -186,7 +162,7 @@ fn deviances(family: CarriedFamily, weights: &[f64]) {
     let y = [0.0, 1.0, 0.3, 0.9];
     let mut rows = [9.0, 0.4, 0.6, 0.3, 1.5, 9.0, 9.0, 9.0, 9.0, 9.0, 9.0];
     working::mode_deviances(family, &y, weights, 4, 1, 6, &mut rows);
-    put_list(b"deviances", &rows, 11);
+    text::put_list(b"deviances", &rows, 11);
     let sum = working::deviance_sum(&rows[6..10], 4);
     text::put_word(b"fit");
     text::put_double(sum);

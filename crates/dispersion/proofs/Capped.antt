@@ -38,10 +38,6 @@ loop-most effective devSum inner t c few (suc left) phi =
 
 -- ---- the loop of 240 rounds
 module _ {F : Type 0} (effective : Float) (devSum : F → Float) (inner : Float → Total F) where
-  pub fits-most : ((phi : Float) → countOf isFit (inner phi .items) ≤ 1) → countOf isFit (dispersionOf effective devSum inner .items) ≤ 241
-  unfolding dispersionOf
-  fits-most few = omega (arith, loop-most effective devSum inner isFit 1 few 240 oneF)
-
   pub loop-capped : ((phi : Float) → AtMost innerCap (tally (inner phi .items))) → Capped (tally (dispersionOf effective devSum inner .items))
   unfolding dispersionOf tally
   loop-capped few =

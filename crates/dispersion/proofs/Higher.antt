@@ -7,8 +7,7 @@ use native.Mathlib.Omega.{arith}
 use lib.Ieee.{Float}
 use Rattle.base.specs.Number.{oneF}
 use Rattle.base.proofs.Doubles.{ff}
-use Rattle.model.specs.Account.{AtMost}
-use Rattle.model.specs.Items.{Item, isFit, isSolve, isTry, isPoint, countOf, tally}
+use Rattle.model.specs.Items.{Item, countOf}
 use Rattle.model.specs.declared.ends.End.the-variants.{NoStop}
 use Rattle.model.proofs.Tallies.{count-append}
 use Rattle.dispersion.specs.Phi.{roundOf}
@@ -92,18 +91,6 @@ module _ {F : Type 0} (effective : Float) (devSum : F → Float) (inner more : F
       → countOf t (dispersionOf effective devSum inner .items) ≤ countOf t (dispersionOf effective devSum more .items)
   unfolding dispersionOf
   dispersion-grows t grows = loop-grows t grows 240 oneF
-
-  -- every count of the account
-  pub dispersion-account : ((t : Item → Bool) (phi : Float) → countOf t (inner phi .items) ≤ countOf t (more phi .items))
-      → AtMost (tally (dispersionOf effective devSum more .items)) (tally (dispersionOf effective devSum inner .items))
-  unfolding tally
-  dispersion-account grows =
-      record {
-        fits = dispersion-grows isFit (grows isFit);
-        solves = dispersion-grows isSolve (grows isSolve);
-        tries = dispersion-grows isTry (grows isTry);
-        points = dispersion-grows isPoint (grows isPoint);
-      }
 
   pub fixed-same : Stopped (fixedOf inner) → fixedOf more ≡ fixedOf inner
   unfolding fixedOf lastFit withFlag

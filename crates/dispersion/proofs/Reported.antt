@@ -24,12 +24,13 @@ resultIn f (noResult e) = f
 abbrev Ran : {F : Type 0} → (Float → Total F) → Dispersed F → Type 0
 Ran inner d = inner (d .phi) .outcome ≡ result (d .last)
 
-module _ {F : Type 0} (effective : Float) (devSum : F → Float) (inner : Float → Total F) (d : Dispersed F) where
-  last-ran : (flag : Bool) (phi : Float) (x : Result F) → inner phi .outcome ≡ x → withFlag flag phi x ≡ result d → Ran inner d
+module _ {F : Type 0} (inner : Float → Total F) (d : Dispersed F) where
+  pub last-ran : (flag : Bool) (phi : Float) (x : Result F) → inner phi .outcome ≡ x → withFlag flag phi x ≡ result d → Ran inner d
   unfolding withFlag
   last-ran flag phi (result f) q e = let g : record { last = f; phi = phi; converged = flag } ≡ d = ap (resultIn d) e in rw (← g) q
   last-ran flag phi (noResult n) q e = absurd (ff (ap isResult e))
 
+module _ {F : Type 0} (effective : Float) (devSum : F → Float) (inner : Float → Total F) (d : Dispersed F) where
   module _ (phi : Float) (is : List Item) (rest : Float → Total (Dispersed F)) (ran : (next : Float) → rest next .outcome ≡ result d → Ran inner d) where
     round-ran : (r : Round) (f : F) → inner phi .outcome ≡ result f → afterRound r f phi is rest .outcome ≡ result d → Ran inner d
     unfolding afterRound totalBefore
@@ -43,7 +44,7 @@ module _ {F : Type 0} (effective : Float) (devSum : F → Float) (inner : Float 
 
   pub phi-ran : (left : ℕ) (phi : Float) → dispersionFrom effective devSum inner left phi .outcome ≡ result d → Ran inner d
   unfolding dispersionFrom lastFit
-  phi-ran zero phi e = last-ran false phi (inner phi .outcome) refl e
+  phi-ran zero phi e = last-ran inner d false phi (inner phi .outcome) refl e
   phi-ran (suc left) phi e =
       fit-ran phi (inner phi .items) (dispersionFrom effective devSum inner left) (λ next q. phi-ran left next q) (inner phi .outcome) refl e
 

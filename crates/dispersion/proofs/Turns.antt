@@ -1,12 +1,11 @@
 -- One round of the dispersion loop, by what its inner fit comes to: the equations that a loop in code goes by. Assumes nothing.
 use mathlib.Core.Path.{_≡_, refl}
 use mathlib.Core.Bool.{Bool, true, false}
-use Prim.Native.Nat.{ℕ, zero, suc}
+use Prim.Native.Nat.{ℕ, suc}
 use lib.Ieee.{Float}
-use Rattle.base.specs.Number.{oneF}
 use Rattle.model.specs.declared.ends.End.{End}
 use Rattle.dispersion.specs.Phi.{roundOf}
-use Rattle.dispersion.specs.Rounds.{Result, result, noResult, Total, totalBefore, withFlag, lastFit, afterRound, afterFit, dispersionFrom, fixedOf}
+use Rattle.dispersion.specs.Rounds.{Result, result, noResult, Total, totalBefore, afterRound, afterFit, dispersionFrom}
 use Rattle.dispersion.specs.declared.round.Round.the-variants.{Settled, Next}
 
 -- a result was found
@@ -28,23 +27,3 @@ module _ {F : Type 0} (effective : Float) (devSum : F → Float) (inner : Float 
       → dispersionFrom effective devSum inner (suc left) phi ≡ totalBefore (inner phi .items) (dispersionFrom effective devSum inner left next)
   unfolding dispersionFrom afterFit afterRound
   round-next f next a b = rw (a, b) refl
-
-  -- the round after all others
-  pub last-unfitted : (e : End) → inner phi .outcome ≡ noResult e → dispersionFrom effective devSum inner zero phi ≡ record { outcome = noResult e; items = inner phi .items }
-  unfolding dispersionFrom lastFit withFlag
-  last-unfitted e a = rw a refl
-
-  pub last-unsettled : (f : F) → inner phi .outcome ≡ result f
-      → dispersionFrom effective devSum inner zero phi ≡ record { outcome = result (record { last = f; phi = phi; converged = false }); items = inner phi .items }
-  unfolding dispersionFrom lastFit withFlag
-  last-unsettled f a = rw a refl
-
--- ---- the one inner fit of a family without dispersion
-module _ {F : Type 0} (inner : Float → Total F) where
-  pub fixed-unfitted : (e : End) → inner oneF .outcome ≡ noResult e → fixedOf inner ≡ record { outcome = noResult e; items = inner oneF .items }
-  unfolding fixedOf lastFit withFlag
-  fixed-unfitted e a = rw a refl
-
-  pub fixed-fitted : (f : F) → inner oneF .outcome ≡ result f → fixedOf inner ≡ record { outcome = result (record { last = f; phi = oneF; converged = true }); items = inner oneF .items }
-  unfolding fixedOf lastFit withFlag
-  fixed-fitted f a = rw a refl

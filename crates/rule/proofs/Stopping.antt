@@ -13,7 +13,7 @@ use Rattle.rule.specs.Stop.{Mode, modeOf, stops}
 use Rattle.rule.specs.Run.{Ending, stopped, failed, Outcome, State, itemsBefore, failedAfter, afterStop, moved, afterSearch, afterSolve, runFrom, FirstStop, here, later}
 
 -- an ending is a stop
-abbrev isStopped : Ending → Bool
+abbrev pub isStopped : Ending → Bool
 isStopped (stopped m) = true
 isStopped (failed e) = false
 

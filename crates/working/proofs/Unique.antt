@@ -12,7 +12,7 @@ use Rattle.family.specs.declared.carried.CarriedFamily.{CarriedFamily}
 use Rattle.family.specs.declared.carried.CarriedLink.{CarriedLink}
 use Rattle.family_lists.specs.Lists.{devAt}
 use Rattle.rule.specs.Given.{plusOffset, lessOffset}
-use Rattle.rule.specs.Working.{workingWeightAt, workingResponseAt, targetAt}
+use Rattle.rule.specs.Working.{workingWeightAt, workingResponseAt}
 use Rattle.rule.specs.Solve.{rawAt}
 use Rattle.rule.specs.Run.{startMeanAt, startEtaAt}
 use Rattle.rule.specs.Stop.{devianceSum, fitTerm, logPivots}
@@ -30,10 +30,6 @@ plus-offset-unique offset i v r s d e = one-value d e
 -- `less_offset`
 pub less-offset-unique : (offset : List Float) (i : ℕ) (v r s : Float) → r ≡ lessOffset offset i v → s ≡ lessOffset offset i v → r ≡ s
 less-offset-unique offset i v r s d e = one-value d e
-
--- `targets`
-pub targets-unique : (offset z : List Float) (n : ℕ) (before s t : List Float) → s ≡ fillTo n (targetAt offset z) before → t ≡ fillTo n (targetAt offset z) before → s ≡ t
-targets-unique offset z n before s t d e = one-value d e
 
 -- `raw_row`
 pub raw-row-unique : (offset x : List Float) (p : ℕ) (beta : List Float) (n : ℕ) (before s t : List Float) → s ≡ fillTo n (rawAt offset x p beta before) before → t ≡ fillTo n (rawAt offset x p beta before) before → s ≡ t

@@ -7,7 +7,6 @@ mod weights;
 pub use offsets::less_offset;
 pub use offsets::plus_offset;
 pub use offsets::raw_row;
-pub use offsets::targets;
 pub use starting::start_eta;
 pub use starting::start_means;
 pub use stopping::deviance_sum;

@@ -4,7 +4,6 @@ ghost use Prim.Native.Nat.{_+_, _*_, _≤_};
 ghost use lib.ListN.{length};
 ghost use Rattle.base.specs.List.{fillTo};
 ghost use Rattle.rule.specs.Given.{plusOffset, lessOffset};
-ghost use Rattle.rule.specs.Working.{targetAt};
 ghost use Rattle.rule.specs.Solve.{rawAt};
 ghost use Rattle.working.specs.Optional.{Optional};
 
@@ -28,18 +27,6 @@ pub fn less_offset(offset: &[f64], i: usize, v: f64) -> f64
         return v;
     }
     v - offset[i]
-}
-
-// What X and Z are fitted to, into out.
-pub fn targets(offset: &[f64], z: &[f64], n: usize, out: &mut [f64])
-    requires { ⌜ (Optional n (now offset)) × (n ≤ length (now z)) × (n ≤ length (now out)) ⌝ }
-    ensures { λ _. ⌜ now (out .exit) ≡ fillTo n (targetAt (now (offset .entry)) (now (z .entry))) (now (out .entry)) ⌝ }
-{
-    let mut i = 0;
-    while i < n {
-        out[i] = less_offset(offset, i, z[i]);
-        i += 1;
-    }
 }
 
 // The raw predictor into out, which holds Zb.
