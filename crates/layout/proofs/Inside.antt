@@ -7,8 +7,8 @@ use native.Mathlib.Omega.{arith}
 use lib.ListN.{length}
 use lib.Ieee.{Float}
 use Rattle.model.specs.Settings.{Sizes}
-use Rattle.layout.specs.WorkRows.{firstEtaRow, muRow, rawRow, xbetaRow, devianceRow, markRow, workingRow, rowsLength}
-use Rattle.layout.specs.WorkMatrices.{systemPlace, inversePlace, solvedPlace, rootInversePlace, wyPlace, uPlace, trialUPlace, columnPlace, betaPlace, matricesLength}
+use Rattle.layout.specs.WorkRows.{firstEtaRow, muRow, rawRow, xbetaRow, devianceRow, markRow, rowsLength}
+use Rattle.layout.specs.WorkMatrices.{systemPlace, inversePlace, solvedPlace, rootInversePlace, wyPlace, uPlace, trialUPlace, betaPlace, matricesLength}
 use Rattle.layout.specs.WorkTerms.{factorPlace, wPlace, zPlace, unsolvedPlace, sparePlace, termsLength}
 use Rattle.layout.proofs.Bounds.{products}
 
@@ -31,9 +31,6 @@ module _ {n p q : ℕ} (sizes : Sizes n p q) {k : ℕ} (w : List Float) where
   pub mark-in : k ≡ markRow n → rowsLength n ≤ length w → k + n ≤ length w
   mark-in e h = omega arith
 
-  pub working-in : k ≡ workingRow n → rowsLength n ≤ length w → k + n ≤ length w
-  working-in e h = omega arith
-
   pub system-in : k ≡ systemPlace → matricesLength p q ≤ length w → k + q * q ≤ length w
   system-in e h = omega (arith, products sizes)
 
@@ -54,9 +51,6 @@ module _ {n p q : ℕ} (sizes : Sizes n p q) {k : ℕ} (w : List Float) where
 
   pub trial-u-in : k ≡ trialUPlace p q → matricesLength p q ≤ length w → k + q ≤ length w
   trial-u-in e h = omega (arith, products sizes)
-
-  pub column-in : k ≡ columnPlace p q → matricesLength p q ≤ length w → k + q ≤ length w
-  column-in e h = omega (arith, products sizes)
 
   pub beta-in : k ≡ betaPlace p q → matricesLength p q ≤ length w → k + p ≤ length w
   beta-in e h = omega (arith, products sizes)
@@ -83,6 +77,3 @@ module _ {n p q : ℕ} (sizes : Sizes n p q) {k : ℕ} where
 
   pub beta-few : k ≡ betaPlace p q → k + p ≤ 5696
   beta-few e = omega (arith, products sizes)
-
-  pub terms-few : k ≤ sparePlace n p q → k + 2 * q ≤ 7000
-  terms-few h = omega (arith, products sizes)
