@@ -2,7 +2,7 @@
 use mathlib.Core.Path.{_≡_, refl}
 use Prim.Native.Nat.{ℕ, _+_, _≤_}
 use native.Mathlib.Omega.{arith}
-use Rattle.model.specs.Account.{noCounts, _⊞_, oneFit, pointsOf, times, AtMost, innerCap, callCap, Capped, SumFits}
+use Rattle.model.specs.Account.{noCounts, _⊞_, times, AtMost, innerCap, callCap, Capped, SumFits}
 use Rattle.model.specs.declared.counts.Account.{Account}
 
 -- accounts with the same counts are the same
@@ -50,11 +50,3 @@ calls-fit k l p q =
 -- those of two accounts within the caps of a call
 pub capped-fit : {a b : Account} → Capped a → Capped b → SumFits a b
 capped-fit p q = calls-fit 1 (omega arith) p q
-
--- what an account is summed from is within them
-pub fit-capped : Capped oneFit
-fit-capped = record { fits = omega arith; solves = omega arith; tries = omega arith; points = omega arith }
-
-pub points-capped : (n : ℕ) → n ≤ 7000 → Capped (pointsOf n)
-points-capped n l =
-    record { fits = omega arith; solves = omega arith; tries = omega arith; points = omega arith }
