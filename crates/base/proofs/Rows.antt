@@ -75,12 +75,6 @@ only-row c m b n {v} {w} a h p =
     hw : c + m ≤ length w
     hw = omega (arith, p .len)
 
--- what lies past the change is as it was
-pub only-drop : (m b n : ℕ) {v w : List Float} → b + n ≤ m → Only b n v w → drop m w ≡ drop m v
-only-drop m b n {v} {w} h p =
-    ext-getD nan (drop m w) (drop m v) (simp length-drop (ap (λ (k : ℕ). k - m) (p .len)))
-    (λ i l. rw (getD-drop m w i nan, getD-drop m v i nan) (p .kept (m + i) (inr (omega arith))))
-
 -- a row that was written, and what it was written from, leave one list
 pub wrote-unique : (b n : ℕ) (f v w x : List Float) → b + n ≤ length v → Wrote b n f v w → Wrote b n f v x → w ≡ x
 wrote-unique b n f v w x h p q =

@@ -11,6 +11,7 @@ pub struct BitReader<'a> {
     pub at: usize,
 }
 
+// A byte as a number that it can be shifted and summed in.
 fn wide(x: u8) -> u64
     ensures { λ r. ⌜ r ≡ x ⌝ }
 {

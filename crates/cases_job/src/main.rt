@@ -9,7 +9,7 @@ use reader::Reading;
 ghost use Prim.Native.Nat.{_≤_};
 ghost use lib.ListN.{length};
 
-// At most b.
+// The lesser of two: a, or b where a is past it.
 fn least(a: usize, b: usize) -> usize
     ensures { λ r. ⌜ r ≤ b ⌝ }
 {

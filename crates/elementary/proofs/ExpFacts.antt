@@ -67,7 +67,7 @@ exp-nan-only x =
     (λ _ e. absurd (no-nan _ (guard-number (expMain x)) e)) (λ _. far-nan x))
 
 -- ---- never below zero
--- 1 + x, for x between -1 and 1
+-- 1 + x, for |x| below 2^-54
 tiny-plus : (x : Float) → lt (absF x) (bits 0x3c90_0000_0000_0000) ≡ true → lt (oneF ⊕ x) zeroF ≡ false
 unfolding add sum lt absF ofBits
 tiny-plus nan h = refl

@@ -1,3 +1,4 @@
+-- The law of the tables' `match`, and what is fixed of the four functions. Assumes nothing.
 pub mod Arms
 pub mod ExpFacts
 pub mod LogFacts

@@ -39,17 +39,19 @@ upOf r e m =
 unfoldable pub downOf : Float → Float → ℕ → Float
 downOf r e m = cond (eqb m 1) (halfF ⊗ (r ⊖ e) ⊖ halfF) ((r ⊖ e ⊕ oneF) ⊗ inversePowerOf m ⊖ oneF)
 
--- k = m and k = -m, from hi - lo, whose rounding is made good in E
+-- k = m, from hi - lo, whose rounding is made good in E
 unfoldable pub grownOf : Float → Float → ℕ → Float
 grownOf hi lo m = let r = hi ⊖ lo in upOf r (restOf r (hi ⊖ r ⊖ lo)) m
 
+-- k = -m, from hi - lo in the same way
 unfoldable pub shrunkOf : Float → Float → ℕ → Float
 shrunkOf hi lo m = let r = hi ⊖ lo in downOf r (restOf r (hi ⊖ r ⊖ lo)) m
 
--- k is the whole part of x / ln 2 + 1/2 for x above zero, and of x / ln 2 - 1/2 below it
+-- x above zero, k = m being the whole part of x / ln 2 + 1/2
 unfoldable pub grownBy : Float → ℕ → Float
 grownBy x m = grownOf (x ⊖ numberOf m ⊗ ln2Hi) (numberOf m ⊗ ln2Lo) m
 
+-- x below zero, k = -m being the whole part of x / ln 2 - 1/2
 unfoldable pub shrunkBy : Float → ℕ → Float
 shrunkBy x m = shrunkOf (x ⊖ neg (numberOf m) ⊗ ln2Hi) (neg (numberOf m) ⊗ ln2Lo) m
 
@@ -65,7 +67,7 @@ fallingOf x =
     cond (lt (neg (bits 0x3ff0_a2b2_0000_0000)) x) (shrunkOf (x ⊕ ln2Hi) (neg ln2Lo) 1)
     (shrunkBy x (wholeOf (neg (bits 0x3ff7_1547_652b_82fe ⊗ x ⊖ halfF))))
 
--- the published algorithm: overflow; -1 from -56 ln 2 down; x itself below 2 ^ -54; k = 0 up to ln 2 / 2
+-- the published algorithm: overflow; -1 from about -56 ln 2 down; x itself below 2 ^ -54; k = 0 up to ln 2 / 2
 unfoldable pub expm1Main : Float → Float
 expm1Main x =
     cond (lt (bits 0x4086_2e42_fefa_39ef) x) (x ⊗ bits 0x7fe0_0000_0000_0000)

@@ -29,6 +29,7 @@ splitOf x u b =
     (numberOf (b / 0x10_0000_0000_0000) ⊖ bits 0x408f_f800_0000_0000)
     (lostOf x u (b / 0x10_0000_0000_0000))
 
+-- x split with u = 1 + x: the sign taken off its pattern, which is moved by the distance from sqrt(1/2) to 1
 unfoldable pub farOf : Float → Float
 farOf x = splitOf x (oneF ⊕ x) (toBits binary64 (oneF ⊕ x) % 0x8000_0000_0000_0000 + 0x9_5f62_0000_0000)
 

@@ -8,10 +8,11 @@ use Rattle.base.specs.Number.{bits, oneF}
 abbrev pub minusOneF : Float
 minusOneF = neg oneF
 
--- ln 2 in two parts: its upper 32 bits, and the rest
+-- ln 2 in two parts: its upper 32 bits
 abbrev pub ln2Hi : Float
 ln2Hi = bits 0x3fe6_2e42_fee0_0000
 
+-- and the rest
 abbrev pub ln2Lo : Float
 ln2Lo = bits 0x3dea_39ef_3579_3c76
 
@@ -19,9 +20,10 @@ ln2Lo = bits 0x3dea_39ef_3579_3c76
 unfoldable pub wholeOf : Float → ℕ
 wholeOf z = cond (lt minusOneF z) (cond (lt z (bits 0x43f0_0000_0000_0000)) (toUnsigned 64 z) 0) 0
 
--- 2 ^ m and 2 ^ -m, by the exponent's field; m is at most 1023 where they are used
+-- 2 ^ m, by the exponent's field; m is at most 1023 where it is used
 unfoldable pub powerOf : ℕ → Float
 powerOf m = bits (0x3ff0_0000_0000_0000 + m % 1024 * 0x10_0000_0000_0000)
 
+-- 2 ^ -m, in the same way
 unfoldable pub inversePowerOf : ℕ → Float
 inversePowerOf m = bits (0x3ff0_0000_0000_0000 - m % 1024 * 0x10_0000_0000_0000)

@@ -14,7 +14,7 @@ const INV_LN2: f64 = 1.44269504088896338700e+00;
 // Past this exp(x) is past the largest double.
 const OVERFLOW: f64 = 7.09782712893383973096e+02;
 
-// 56 ln 2: below its negative exp(x) - 1 rounds to -1.
+// Just below 56 ln 2: from its negative down exp(x) - 1 rounds to -1.
 const MANY_LN2: f64 = 38.816223144531250;
 
 // Just below 1.5 ln 2 and just above 0.5 ln 2, where the reduction of the argument changes.

@@ -1,9 +1,10 @@
-// The table of exp: for i below 128 the bits of the tail t of 2^(i/128), and the bits of the double nearest to it less i * 2^45.
+// The table of exp: for i below 128, where 2^(i/128) is s(1 + t) and s the nearest double, the bits of t, and those of s less i * 2^45.
 // It is a `match`, which the compiler lays out as constant memory; an array would be built anew at each call.
 ghost use mathlib.Core.Path.{_≡_};
 ghost use Prim.Native.Nat.{_<_};
 ghost use Rattle.elementary.specs.ExpTable.{expRow};
 
+// The bits of t, and those of s less i * 2^45.
 pub struct ExpRow {
     pub tail: u64,
     pub scale: u64,

@@ -4,6 +4,7 @@ ghost use mathlib.Core.Path.{_≡_};
 ghost use Prim.Native.Nat.{_<_};
 ghost use Rattle.elementary.specs.LogTable.{logRow};
 
+// 1/c, ln c, and c as centre + rest.
 pub struct LogRow {
     pub inverse: f64,
     pub log: f64,

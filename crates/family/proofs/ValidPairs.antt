@@ -1,4 +1,4 @@
--- R's table of links and families, each pair; the default links are valid; what is valid and not carried. Assumes nothing.
+-- R's table of links and families, each pair; the default links are valid; a carried link is found again by its link. Assumes nothing.
 use mathlib.Core.Path.{_≡_, refl}
 use mathlib.Core.Bool.{Bool, true, false}
 use mathlib.Core.List.{List, [], _∷_, map}

@@ -6,7 +6,7 @@ use model::Link;
 use model::LinkFound;
 ghost use Prim.Native.Nat.{_≤_};
 
-// At most b.
+// The lesser of two: a, or b where a is past it.
 fn least(a: usize, b: usize) -> usize
     ensures { λ r. ⌜ r ≤ b ⌝ }
 {

@@ -12,12 +12,15 @@ use Rattle.job.specs.Lists.{counts, laid}
 
 -- ---- the header, 48 bits: version, family, link, weights, offset, n_agq, n, p, blocks and L, one behind the other
 
+-- the version, 1 in every job that is not refused
 abbrev pub version : List ℕ → ℕ
 version s = bitsOf s 0 4
 
+-- the family's code
 abbrev pub familyField : List ℕ → ℕ
 familyField s = bitsOf s 4 2
 
+-- the link's code
 abbrev pub linkField : List ℕ → ℕ
 linkField s = bitsOf s 6 3
 
@@ -41,6 +44,7 @@ obs s = bitsOf s 16 13
 abbrev pub cols : List ℕ → ℕ
 cols s = bitsOf s 29 5
 
+-- how many blocks there are
 abbrev pub blocks : List ℕ → ℕ
 blocks s = bitsOf s 34 4
 
@@ -54,6 +58,7 @@ limitField s = bitsOf s 38 10
 unfoldable pub blocksAt : List ℕ → ℕ
 blocksAt s = 6
 
+-- the byte at which block i begins
 abbrev pub blockAt : List ℕ → ℕ → ℕ
 blockAt s i = blocksAt s + 2 * i
 
@@ -88,21 +93,27 @@ sizesFit s = within 1 512 (obs s) && (within 1 16 (cols s) && goodShape (shapeOf
 
 -- ---- the doubles behind the blocks, five lists: at which byte each begins
 
+-- theta's: behind the last block
 abbrev pub thetaAt : List ℕ → ℕ
 thetaAt s = blockAt s (blocks s)
 
+-- y's: behind theta
 abbrev pub yAt : List ℕ → ℕ
 yAt s = thetaAt s + 8 * thetas s
 
+-- the weights': behind y
 abbrev pub weightsAt : List ℕ → ℕ
 weightsAt s = yAt s + 8 * obs s
 
+-- the offset's: behind the weights, if they are there
 abbrev pub offsetAt : List ℕ → ℕ
 offsetAt s = weightsAt s + 8 * (weighted s * obs s)
 
+-- X's: behind the offset, if it is there
 abbrev pub xAt : List ℕ → ℕ
 xAt s = offsetAt s + 8 * (shifted s * obs s)
 
+-- the byte behind X, where the rows of Z' begin
 abbrev pub zAt : List ℕ → ℕ
 zAt s = xAt s + 8 * (obs s * cols s)
 
@@ -134,8 +145,10 @@ startOf s (suc r) = startOf s r + short s (rowAt s r)
 abbrev pub entryAt : ℕ → ℕ → ℕ
 entryAt p j = p + 2 + 10 * j
 
+-- the column of entry j of the row that begins at p
 abbrev pub columnRead : List ℕ → ℕ → ℕ → ℕ
 columnRead s p j = short s (entryAt p j)
 
+-- its value, behind the column's two bytes
 abbrev pub valueRead : List ℕ → ℕ → ℕ → Float
 valueRead s p j = doubleOf s (entryAt p j + 2)

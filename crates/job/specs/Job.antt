@@ -53,10 +53,11 @@ settingsOf s =
       entries = startOf s (rowsIn s);
     }
 
--- the columns and the values of row r of Z'
+-- the columns of row r of Z'
 unfoldable pub columnsOf : List ℕ → ℕ → List ℕ
 columnsOf s r = counts (columnRead s (rowAt s r)) (short s (rowAt s r))
 
+-- its values
 unfoldable pub valuesOf : List ℕ → ℕ → List Float
 valuesOf s r = build (valueRead s (rowAt s r)) (short s (rowAt s r))
 

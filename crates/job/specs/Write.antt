@@ -17,6 +17,7 @@ pub record Field : Type 0 where
   pub width : ℕ
   pub num : ℕ
 
+-- the field of w bits that holds v
 abbrev pub fld : ℕ → ℕ → Field
 fld w v = record { width = w; num = v }
 

@@ -16,6 +16,7 @@ pub enum Fault {
     At(u64, usize),
 }
 
+// Whether the part that was looked at has no fault, so that the next may be.
 pub fn is_sound(f: Fault) -> bool
     ensures { λ r. ⌜ r ≡ isSound f ⌝ }
 {

@@ -50,7 +50,7 @@ module _ (j : Job) (q : Sayable j) where
   block i l = block-said (j .shape) (jobBytes j) (job-bytes j) (placed .has-blocks) ranged i l
 
   shaped : shapeOf (jobBytes j) ≡ j .shape
-  shaped = shape-said (j .shape) (jobBytes j) (said .count) block (q .shape .m-blank) (q .shape .k-blank)
+  shaped = shape-said (j .shape) (jobBytes j) (said .count) block (q .shape .m-zero) (q .shape .k-zero)
 
   rows-are : rowsIn (jobBytes j) ≡ j .settings .rows
   rows-are = ap effectsOf shaped ∙ sym (q .effects)

@@ -17,7 +17,7 @@ use Rattle.job.specs.Lists.{counts, joinTo, laid}
 use Rattle.job.specs.Format.{blocks, blocksAt, groups, effectsIn, shapeOf, number}
 use Rattle.job.specs.Write.{packed, blockBytes, numberBytes, numbersBytes}
 use Rattle.job.proofs.ByteLaws.{Bytes}
-use Rattle.job_back.specs.Sayable.{Doubles, Blank}
+use Rattle.job_back.specs.Sayable.{Doubles, ZeroPast}
 use Rattle.job_back.proofs.Pieces.{Has, has-join, has-number, has-double, peel}
 use Rattle.job_back.proofs.Places.{blocks-length, numbers-before}
 
@@ -52,7 +52,7 @@ block-said h s b g r i l =
     let p1 = peel s (8 * (6 + 2 * i)) 7 4 _ (h .k !! i) (p2 .0) (omega (arith, r .k-few i l)) in
     record { m = p1 .0 ∙ zero-add (h .m !! i); k = p1 .1; spare = p2 .1 }
 
-pub shape-said : (h : Shape) (s : List ℕ) → blocks s ≡ h .count → ((i : ℕ) → i < h .count → BlockSaid h s i) → Blank (h .count) (h .m) → Blank (h .count) (h .k) → shapeOf s ≡ h
+pub shape-said : (h : Shape) (s : List ℕ) → blocks s ≡ h .count → ((i : ℕ) → i < h .count → BlockSaid h s i) → ZeroPast (h .count) (h .m) → ZeroPast (h .count) (h .k) → shapeOf s ≡ h
 shape-said h s e q bm bk =
     let m : laid (counts (groups s) (blocks s)) (replicate 8 0) ≡ h .m = rw (e, counts-same (groups s) (λ i. h .m !! i) (h .count) (λ i l. q i l .m)) (sym bm) in
     let k : laid (counts (effectsIn s) (blocks s)) (replicate 8 0) ≡ h .k = rw (e, counts-same (effectsIn s) (λ i. h .k !! i) (h .count) (λ i l. q i l .k)) (sym bk) in

@@ -30,7 +30,7 @@ unfolding goodLimit goodShape goodBlock totalTo blockEffects blockThetas allTo c
 sayable-J =
     record {
       settings = record { some = omega arith; few = omega arith; column = omega arith; columns = omega arith; wish = omega arith; limit = refl };
-      shape = record { good = refl; m-blank = refl; k-blank = refl };
+      shape = record { good = refl; m-zero = refl; k-zero = refl };
       effects = refl;
       theta = refl;
       y = refl;

@@ -28,7 +28,7 @@ use Rattle.job.proofs.ListLaws.{counts-length, counts-at, laid-at}
 use Rattle.job.proofs.FaultLaws as faults
 use Rattle.job.proofs.RowLaws.{Fits, sound-fits, start-next, row-starts, columns-before, values-before}
 use Rattle.job.proofs.Written.{present-back}
-use Rattle.job_back.specs.Sayable.{Doubles, Blank, SettingsSayable, ShapeSayable, RowsSayable, Sayable}
+use Rattle.job_back.specs.Sayable.{Doubles, ZeroPast, SettingsSayable, ShapeSayable, RowsSayable, Sayable}
 use Rattle.job_back.proofs.Places.{laid-out}
 use Rattle.job_back.proofs.Body.{counts-same}
 use Rattle.job_back.proofs.Rows.{rows-before}
@@ -75,8 +75,8 @@ numbers-fit : (s : List ℕ) (a n : ℕ) → Doubles (build (number s a) n)
 numbers-fit s a n i l = built-fit (number s a) n (λ k. double-fits s (a + 8 * k)) i
 
 -- ---- a row of eight
-row-blank : (f : ℕ → ℕ) (n : ℕ) → Blank n (laid (counts f n) (replicate 8 0))
-row-blank f n =
+row-zero : (f : ℕ → ℕ) (n : ℕ) → ZeroPast n (laid (counts f n) (replicate 8 0))
+row-zero f n =
     ap (λ (l : List ℕ). laid l (replicate 8 0))
     (counts-same f (λ i. laid (counts f n) (replicate 8 0) !! i) n (λ i l. sym (laid-at (counts f n) (replicate 8 0) i 0 (omega (arith, counts-length f n)) ∙ counts-at f n i l)))
 
@@ -122,7 +122,7 @@ module _ (s : List ℕ) (h : isSound (faultOf s) ≡ true) where
       record { some = whole .small .some; few = whole .small .rows; column = columned; columns = whole .small .wide; wish = bits-below s 11 5; limit = limit-of s headed }
 
   shape-sayable : ShapeSayable (shapeOf s)
-  shape-sayable = record { good = whole .small .good; m-blank = row-blank (groups s) (blocks s); k-blank = row-blank (effectsIn s) (blocks s) }
+  shape-sayable = record { good = whole .small .good; m-zero = row-zero (groups s) (blocks s); k-zero = row-zero (effectsIn s) (blocks s) }
 
   start-at : (r : ℕ) → r ≤ rowsIn s → sparseOf s .starts !! r ≡ startOf s r
   unfolding sparseOf

@@ -21,8 +21,8 @@ abbrev pub Doubles : List Float → Type 0
 Doubles xs = (i : ℕ) → i < length xs → T (fits binary64 (xs ! i))
 
 -- the first `count` entries of a row of eight, and 0 past them
-abbrev pub Blank : ℕ → List ℕ → Type 0
-Blank count row = row ≡ laid (counts (λ i. row !! i) count) (replicate 8 0)
+abbrev pub ZeroPast : ℕ → List ℕ → Type 0
+ZeroPast count row = row ≡ laid (counts (λ i. row !! i) count) (replicate 8 0)
 
 -- the settings, in range
 pub record SettingsSayable (t : Settings) : Type 0 where
@@ -36,8 +36,8 @@ pub record SettingsSayable (t : Settings) : Type 0 where
 -- the blocks, in range
 pub record ShapeSayable (h : Shape) : Type 0 where
   pub good : goodShape h ≡ true
-  pub m-blank : Blank (h .count) (h .m)
-  pub k-blank : Blank (h .count) (h .k)
+  pub m-zero : ZeroPast (h .count) (h .m)
+  pub k-zero : ZeroPast (h .count) (h .k)
 
 -- Z' of so many rows and entries
 pub record RowsSayable (rows entries : ℕ) (z : Sparse) : Type 0 where

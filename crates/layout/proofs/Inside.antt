@@ -1,4 +1,4 @@
--- Each piece ends within a work slice of the named length, wherever its place came from. Assumes nothing.
+-- A piece that is lent ends within a work slice of the named length, wherever its place came from. Assumes nothing.
 use mathlib.Core.Path.{_≡_}
 use mathlib.Core.List.{List}
 use Prim.Native.Nat.{ℕ, _+_, _*_, _≤_}
@@ -7,17 +7,14 @@ use native.Mathlib.Omega.{arith}
 use lib.ListN.{length}
 use lib.Ieee.{Float}
 use Rattle.model.specs.Settings.{Sizes}
-use Rattle.layout.specs.WorkRows.{firstEtaRow, secondEtaRow, muRow, rawRow, xbetaRow, devianceRow, pointRow, markRow, weightedRow, columnRow, workingRow, rowsLength}
-use Rattle.layout.specs.WorkMatrices.{systemPlace, inversePlace, solvedPlace, rootInversePlace, rightPlace, wyPlace, uPlace, bPlace, trialUPlace, trialBPlace, pointPlace, columnPlace, betaPlace, logWeightsPlace, matricesLength}
-use Rattle.layout.specs.WorkTerms.{factorPlace, wPlace, zPlace, unsolvedPlace, normalPlace, sparePlace, termsLength}
+use Rattle.layout.specs.WorkRows.{firstEtaRow, muRow, rawRow, xbetaRow, devianceRow, markRow, rowsLength}
+use Rattle.layout.specs.WorkMatrices.{systemPlace, inversePlace, solvedPlace, rootInversePlace, wyPlace, uPlace, trialUPlace, betaPlace, matricesLength}
+use Rattle.layout.specs.WorkTerms.{factorPlace, wPlace, zPlace, unsolvedPlace, sparePlace, termsLength}
 use Rattle.layout.proofs.Bounds.{products}
 
 module _ {n p q : ℕ} (sizes : Sizes n p q) {k : ℕ} (w : List Float) where
   pub first-eta-in : k ≡ firstEtaRow → rowsLength n ≤ length w → k + n ≤ length w
   first-eta-in e h = omega arith
-
-  pub second-eta-in : k ≡ secondEtaRow n → rowsLength n ≤ length w → k + n ≤ length w
-  second-eta-in e h = omega arith
 
   pub mu-in : k ≡ muRow n → rowsLength n ≤ length w → k + n ≤ length w
   mu-in e h = omega arith
@@ -31,20 +28,8 @@ module _ {n p q : ℕ} (sizes : Sizes n p q) {k : ℕ} (w : List Float) where
   pub deviance-in : k ≡ devianceRow n → rowsLength n ≤ length w → k + n ≤ length w
   deviance-in e h = omega arith
 
-  pub point-row-in : k ≡ pointRow n → rowsLength n ≤ length w → k + n ≤ length w
-  point-row-in e h = omega arith
-
   pub mark-in : k ≡ markRow n → rowsLength n ≤ length w → k + n ≤ length w
   mark-in e h = omega arith
-
-  pub weighted-in : k ≡ weightedRow n → rowsLength n ≤ length w → k + n ≤ length w
-  weighted-in e h = omega arith
-
-  pub column-row-in : k ≡ columnRow n → rowsLength n ≤ length w → k + n ≤ length w
-  column-row-in e h = omega arith
-
-  pub working-in : k ≡ workingRow n → rowsLength n ≤ length w → k + n ≤ length w
-  working-in e h = omega arith
 
   pub system-in : k ≡ systemPlace → matricesLength p q ≤ length w → k + q * q ≤ length w
   system-in e h = omega (arith, products sizes)
@@ -58,35 +43,17 @@ module _ {n p q : ℕ} (sizes : Sizes n p q) {k : ℕ} (w : List Float) where
   pub root-inverse-in : k ≡ rootInversePlace p q → matricesLength p q ≤ length w → k + p * p ≤ length w
   root-inverse-in e h = omega (arith, products sizes)
 
-  pub right-in : k ≡ rightPlace p q → matricesLength p q ≤ length w → k + q ≤ length w
-  right-in e h = omega (arith, products sizes)
-
   pub wy-in : k ≡ wyPlace p q → matricesLength p q ≤ length w → k + q ≤ length w
   wy-in e h = omega (arith, products sizes)
 
   pub u-in : k ≡ uPlace p q → matricesLength p q ≤ length w → k + q ≤ length w
   u-in e h = omega (arith, products sizes)
 
-  pub b-in : k ≡ bPlace p q → matricesLength p q ≤ length w → k + q ≤ length w
-  b-in e h = omega (arith, products sizes)
-
   pub trial-u-in : k ≡ trialUPlace p q → matricesLength p q ≤ length w → k + q ≤ length w
   trial-u-in e h = omega (arith, products sizes)
 
-  pub trial-b-in : k ≡ trialBPlace p q → matricesLength p q ≤ length w → k + q ≤ length w
-  trial-b-in e h = omega (arith, products sizes)
-
-  pub point-in : k ≡ pointPlace p q → matricesLength p q ≤ length w → k + q ≤ length w
-  point-in e h = omega (arith, products sizes)
-
-  pub column-in : k ≡ columnPlace p q → matricesLength p q ≤ length w → k + q ≤ length w
-  column-in e h = omega (arith, products sizes)
-
   pub beta-in : k ≡ betaPlace p q → matricesLength p q ≤ length w → k + p ≤ length w
   beta-in e h = omega (arith, products sizes)
-
-  pub log-weights-in : k ≡ logWeightsPlace p q → matricesLength p q ≤ length w → k + 11 ≤ length w
-  log-weights-in e h = omega (arith, products sizes)
 
   pub factor-in : k ≡ factorPlace → termsLength ≤ length w → k + q * q ≤ length w
   factor-in e h = omega (arith, products sizes)
@@ -100,9 +67,6 @@ module _ {n p q : ℕ} (sizes : Sizes n p q) {k : ℕ} (w : List Float) where
   pub unsolved-in : k ≡ unsolvedPlace n q → termsLength ≤ length w → k + q * p ≤ length w
   unsolved-in e h = omega (arith, products sizes)
 
-  pub normal-in : k ≡ normalPlace n p q → termsLength ≤ length w → k + p * p ≤ length w
-  normal-in e h = omega (arith, products sizes)
-
   pub spare-in : k ≡ sparePlace n p q → termsLength ≤ length w → k + 2 * q ≤ length w
   spare-in e h = omega (arith, products sizes)
 
@@ -113,6 +77,3 @@ module _ {n p q : ℕ} (sizes : Sizes n p q) {k : ℕ} where
 
   pub beta-few : k ≡ betaPlace p q → k + p ≤ 5696
   beta-few e = omega (arith, products sizes)
-
-  pub terms-few : k ≤ sparePlace n p q → k + 2 * q ≤ 7000
-  terms-few h = omega (arith, products sizes)

@@ -45,7 +45,7 @@ trialBPlace p q = trialUPlace p q + q
 abbrev pub pointPlace : ℕ → ℕ → ℕ
 pointPlace p q = trialBPlace p q + q
 
--- one column of q numbers
+-- q numbers to spare
 abbrev pub columnPlace : ℕ → ℕ → ℕ
 columnPlace p q = pointPlace p q + q
 

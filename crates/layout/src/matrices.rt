@@ -101,7 +101,7 @@ pub fn point_at(p: usize, q: usize) -> usize
     vectors_at(p, q) + 6 * q
 }
 
-// One column of q numbers.
+// q numbers to spare.
 pub fn column_at(p: usize, q: usize) -> usize
     requires { ⌜ (p ≤ 16) × (q ≤ 32) ⌝ }
     ensures { λ r. ⌜ r ≡ columnPlace p q ⌝ }

@@ -16,6 +16,7 @@ pub record Pair : Type 0 where
   pub name : List ℕ
   pub num : ℕ
 
+-- the pair of a name w and a number n
 abbrev pub pair : List ℕ → ℕ → Pair
 pair w n = record { name = w; num = n }
 
@@ -56,6 +57,7 @@ endPairs a =
     ∷ pair (105 ∷ 116 ∷ 101 ∷ 114 ∷ 115 ∷ []) (a .iterations)
     ∷ accountPairs (a .account)
 
+-- the end line: `end` and the number, then the rest of its pairs
 unfoldable pub endLine : Answer → List ℕ
 endLine a = lineOf (endPairs a)
 

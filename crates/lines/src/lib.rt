@@ -52,6 +52,7 @@ fn put_bytes(out: &mut [u8], at: usize, bytes: &[u8]) -> usize
     at + n
 }
 
+// A count without zeros in front; room is asked for the longest.
 fn put_decimal(out: &mut [u8], at: usize, n: u64) -> usize
     requires { ⌜ at + 20 ≤ length (now out) ⌝ }
     ensures { λ r. ⌜ Appended (decimalOf n) at (now (out .entry)) r (now (out .exit)) ⌝ }

@@ -2,7 +2,7 @@
 use mathlib.Core.Path.{_≡_, refl}
 use Prim.Native.Nat.{ℕ, _+_, _≤_}
 use native.Mathlib.Omega.{arith}
-use Rattle.model.specs.Account.{noCounts, _⊞_, oneFit, oneSolve, oneTry, pointsOf, times, AtMost, innerCap, callCap, Capped, SumFits}
+use Rattle.model.specs.Account.{noCounts, _⊞_, times, AtMost, innerCap, callCap, Capped, SumFits}
 use Rattle.model.specs.declared.counts.Account.{Account}
 
 -- accounts with the same counts are the same
@@ -22,12 +22,7 @@ pub plus-none : (a : Account) → a ⊞ noCounts ≡ a
 unfolding _⊞_
 plus-none a = same-counts (omega arith) (omega arith) (omega arith) (omega arith)
 
--- ---- caps of a sum, and of a cap
-pub caps-plus : {c d a b : Account} → AtMost c a → AtMost d b → AtMost (c ⊞ d) (a ⊞ b)
-unfolding _⊞_
-caps-plus p q =
-    record { fits = omega arith; solves = omega arith; tries = omega arith; points = omega arith }
-
+-- ---- what keeps to a cap keeps to any cap above it
 pub caps-trans : {c d a : Account} → AtMost c d → AtMost d a → AtMost c a
 caps-trans p q =
     record { fits = omega arith; solves = omega arith; tries = omega arith; points = omega arith }
@@ -55,18 +50,3 @@ calls-fit k l p q =
 -- those of two accounts within the caps of a call
 pub capped-fit : {a b : Account} → Capped a → Capped b → SumFits a b
 capped-fit p q = calls-fit 1 (omega arith) p q
-
--- each item that an account is summed from is within them
-pub fit-capped : Capped oneFit
-fit-capped = record { fits = omega arith; solves = omega arith; tries = omega arith; points = omega arith }
-
-pub solve-capped : Capped oneSolve
-solve-capped =
-    record { fits = omega arith; solves = omega arith; tries = omega arith; points = omega arith }
-
-pub try-capped : Capped oneTry
-try-capped = record { fits = omega arith; solves = omega arith; tries = omega arith; points = omega arith }
-
-pub points-capped : (n : ℕ) → n ≤ 7000 → Capped (pointsOf n)
-points-capped n l =
-    record { fits = omega arith; solves = omega arith; tries = omega arith; points = omega arith }

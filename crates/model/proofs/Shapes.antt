@@ -36,7 +36,7 @@ in-range s e =
       q-few = from-within (p .1) .1;
     }
 
--- block i's effects end within q, so they are at most 32, and so are its groups
+-- block i's effects end within q
 pub effects-end : (s : Shape) (i : ℕ) → i < s .count → firstEffect s i + blockEffects s i ≤ effectsOf s
 effects-end s i l = total-part (blockEffects s) i (s .count) l
 

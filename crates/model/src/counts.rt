@@ -1,4 +1,4 @@
-// The account of work: what a call has done, counted. Every account is made and summed here.
+// The account of work: what a call has done, counted.
 ghost use mathlib.Core.Path.{_≡_};
 ghost use Rattle.model.specs.Account.{noCounts, _⊞_, oneFit, oneSolve, oneTry, pointsOf, SumFits};
 

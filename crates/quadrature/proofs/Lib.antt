@@ -1,3 +1,4 @@
+-- The laws that the proofs of this crate cite, and what document 01 fixes of orders, rules and log sums. Assumes nothing.
 pub mod Powers
 pub mod Chosen
 pub mod RuleFacts

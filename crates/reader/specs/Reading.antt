@@ -27,6 +27,7 @@ pub record JobSlices : Type 0 where
   pub columns : List ℕ
   pub values : List Float
 
+-- eight lent lists as one record
 abbrev pub lent : List Float → List Float → List Float → List Float → List Float → List ℕ → List ℕ → List Float → JobSlices
 lent theta y weights offset x starts columns values =
     record { theta = theta; y = y; weights = weights; offset = offset; x = x; starts = starts; columns = columns; values = values }

@@ -51,6 +51,7 @@ fn link_in(code: usize) -> Link
     }
 }
 
+// The code 1023 leaves the limit to the link.
 fn limit_in(code: usize) -> Limit
     ensures { λ r. ⌜ r ≡ limitFrom code ⌝ }
 {

@@ -4,7 +4,8 @@ ghost use Prim.Native.Nat.{_<_};
 // How many they are.
 pub const SPECIALS: usize = 24;
 
-// NaN, the infinities, zeros, subnormals, the smallest normal, E, 1 - E, 1, 2, pi and MAX, of both signs; last two more NaNs.
+// NaN; the infinities, zeros, smallest and largest subnormals, smallest normals and E, of both signs; 1 - E; 1, 2, pi and MAX, of both signs;
+// last two more NaNs.
 const PATTERNS: [u64; 24] = [
     0x7ff8_0000_0000_0000,
     0x7ff0_0000_0000_0000,
@@ -32,6 +33,7 @@ const PATTERNS: [u64; 24] = [
     0xffff_ffff_ffff_ffff,
 ];
 
+// The i-th of them.
 pub fn special(i: usize) -> f64
     requires { ⌜ i < 24 ⌝ }
 {

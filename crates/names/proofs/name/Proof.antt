@@ -1,4 +1,4 @@
--- `names::name` meets its contract, case by case.
+-- `names::name` meets its contract: each arm's bytes are the link's name and the zeros behind it.
 use Rattle.names.specs.Names.{nameBytes}
 use borrow.Author.Needs.{needs}
 use Rattle.names.proofs.name.Statement.{statement}

@@ -1,4 +1,4 @@
--- `expo::above_zero` meets its contract: the test is the definition's.
+-- `elementary::expo::above_zero` meets its contract: the test is the definition's.
 use Rattle.elementary.specs.Exp.{aboveZero}
 use Rattle.elementary.proofs.expo.above_zero.Statement.{statement}
 use Rattle.elementary.proofs.expo.above_zero.Tie as tie

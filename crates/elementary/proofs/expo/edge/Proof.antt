@@ -1,4 +1,4 @@
--- `expo::edge` meets its contract: the test is the definition's.
+-- `elementary::expo::edge` meets its contract: the test is the definition's.
 use borrow.Author.Tests.{eq-eqb, ne-eqb}
 use borrow.Author.Needs.{needs}
 use Rattle.elementary.specs.Exp.{edge}

@@ -1,4 +1,4 @@
--- `expo::excess` meets its contract: the same operations in the same order.
+-- `elementary::expo::excess` meets its contract: the same operations in the same order.
 use mathlib.Core.Path.{refl}
 use Rattle.elementary.specs.Exp.{excess}
 use Rattle.elementary.proofs.expo.excess.Statement.{statement}

@@ -1,4 +1,4 @@
--- `expo::exp_far` meets its contract: the tests are the definition's, in its order.
+-- `elementary::expo::exp_far` meets its contract: the tests are the definition's, in its order.
 use borrow.Author.Needs.{needs}
 use Rattle.elementary.specs.Exp.{expFar}
 use Rattle.elementary.proofs.expo.exp_far.Statement.{statement}

@@ -1,4 +1,4 @@
--- `expo::exp_main` meets its contract: the row is the definition's, and each call is the operation of its name.
+-- `elementary::expo::exp_main` meets its contract: the row is the definition's, and each call is the operation of its name.
 use Rattle.elementary.specs.Exp.{rowTail, scaleBits, ended, expMain}
 use borrow.Author.Needs.{needs}
 use Rattle.elementary.proofs.expo.exp_main.Statement.{statement}

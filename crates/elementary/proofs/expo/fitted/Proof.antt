@@ -1,4 +1,4 @@
--- `expo::fitted` meets its contract: the same test, and the same operations in the same order.
+-- `elementary::expo::fitted` meets its contract: the same test, and the same operations in the same order.
 use Rattle.elementary.specs.Exp.{fitted, refitted}
 use Rattle.elementary.proofs.expo.fitted.Statement.{statement}
 use Rattle.elementary.proofs.expo.fitted.Tie as tie

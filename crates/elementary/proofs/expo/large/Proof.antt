@@ -1,4 +1,4 @@
--- `expo::large` meets its contract: the definition's parts are what the calls answer.
+-- `elementary::expo::large` meets its contract: the definition's parts are what the calls answer.
 use borrow.Author.Needs.{needs}
 use Rattle.elementary.specs.Exp.{large}
 use Rattle.elementary.proofs.expo.large.Statement.{statement}

@@ -1,4 +1,4 @@
--- `expo::reduced` meets its contract: the same operations in the same order.
+-- `elementary::expo::reduced` meets its contract: the same operations in the same order.
 use mathlib.Core.Path.{refl}
 use Rattle.elementary.specs.Exp.{reduced}
 use Rattle.elementary.proofs.expo.reduced.Statement.{statement}

@@ -1,4 +1,4 @@
--- `expo::scaled` meets its contract: the same operations in the same order.
+-- `elementary::expo::scaled` meets its contract: the same operations in the same order.
 use mathlib.Core.Path.{refl}
 use Rattle.elementary.specs.Exp.{scaled}
 use Rattle.elementary.proofs.expo.scaled.Statement.{statement}

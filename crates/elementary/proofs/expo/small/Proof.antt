@@ -1,4 +1,4 @@
--- `expo::small` meets its contract: the definition's parts are what the calls answer.
+-- `elementary::expo::small` meets its contract: the definition's parts are what the calls answer.
 use borrow.Author.Needs.{needs}
 use Rattle.elementary.specs.Exp.{small}
 use Rattle.elementary.proofs.expo.small.Statement.{statement}

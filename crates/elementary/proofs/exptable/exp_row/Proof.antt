@@ -1,4 +1,4 @@
--- `exptable::exp_row` meets its contract: each arm is its row of the table, and what passes all arms but the last is the last row's.
+-- `elementary::exptable::exp_row` meets its contract: each arm is its row of the table, and what passes all arms but the last is the last row's.
 use Rattle.elementary.specs.ExpTable.{expTable, expRow}
 use Rattle.elementary.proofs.Arms.{last-arm}
 use Rattle.elementary.proofs.exptable.exp_row.Statement.{statement}

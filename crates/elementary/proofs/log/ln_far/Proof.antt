@@ -1,4 +1,4 @@
--- `log::ln_far` meets its contract: the tests are the definition's, in its order.
+-- `elementary::log::ln_far` meets its contract: the tests are the definition's, in its order.
 use borrow.Author.Needs.{needs}
 use lib.Ieee.{neg}
 use Rattle.base.proofs.Doubles.{no-quotient}

@@ -1,4 +1,4 @@
--- `log::ln_main` meets its contract: the pattern is taken apart as in the definition, and the pattern of z is no NaN's.
+-- `elementary::log::ln_main` meets its contract: the pattern is taken apart as in the definition, and the pattern of z is no NaN's.
 use mathlib.Core.Path.{_≡_}
 use mathlib.Core.Bool.{false}
 use Prim.Native.Nat.{ℕ, _+_, _%_}

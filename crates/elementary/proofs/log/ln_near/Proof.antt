@@ -1,4 +1,4 @@
--- `log::ln_near` meets its contract: the test is the definition's.
+-- `elementary::log::ln_near` meets its contract: the test is the definition's.
 use borrow.Author.Needs.{needs}
 use Rattle.elementary.specs.Log.{lnNear}
 use Rattle.elementary.proofs.log.ln_near.Statement.{statement}

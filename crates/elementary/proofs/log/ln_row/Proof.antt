@@ -1,4 +1,4 @@
--- `log::ln_row` meets its contract: the row is the definition's.
+-- `elementary::log::ln_row` meets its contract: the row is the definition's.
 use Rattle.elementary.specs.Log.{lnRow}
 use borrow.Author.Needs.{needs}
 use Rattle.elementary.proofs.log.ln_row.Statement.{statement}

@@ -1,4 +1,4 @@
--- `log::ln_sum` meets its contract: the same operations in the same order.
+-- `elementary::log::ln_sum` meets its contract: the same operations in the same order.
 use mathlib.Core.Path.{refl}
 use Rattle.elementary.specs.LogPoly.{lnSum}
 use Rattle.elementary.proofs.log.ln_sum.Statement.{statement}

@@ -1,4 +1,4 @@
--- `log::near` meets its contract: the definition's parts are what the calls answer.
+-- `elementary::log::near` meets its contract: the definition's parts are what the calls answer.
 use borrow.Author.Needs.{needs}
 use Rattle.elementary.specs.LogPoly.{nearOf}
 use Rattle.elementary.proofs.log.near.Statement.{statement}

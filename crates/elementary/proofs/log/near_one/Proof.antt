@@ -1,4 +1,4 @@
--- `log::near_one` meets its contract: both tests are the definition's.
+-- `elementary::log::near_one` meets its contract: both tests are the definition's.
 use Rattle.elementary.specs.Log.{nearOne}
 use Rattle.elementary.proofs.log.near_one.Statement.{statement}
 use Rattle.elementary.proofs.log.near_one.Tie as tie

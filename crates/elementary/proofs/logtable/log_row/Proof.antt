@@ -1,4 +1,4 @@
--- `logtable::log_row` meets its contract: each arm is its row of the table, and what passes all arms but the last is the last row's.
+-- `elementary::logtable::log_row` meets its contract: each arm is its row of the table, and what passes all arms but the last is the last row's.
 use lib.Ieee.{neg, ofBits}
 use Rattle.elementary.specs.LogTable.{logTable, logRow}
 use Rattle.elementary.proofs.Arms.{last-arm}

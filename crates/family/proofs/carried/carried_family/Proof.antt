@@ -1,4 +1,4 @@
--- `family::carried_family` meets its contract, case by case.
+-- `family::carried_family` meets its contract: its arms are the definition's lines.
 use borrow.Author.Needs.{needs}
 use Rattle.family.proofs.carried.carried_family.Statement.{statement}
 use Rattle.family.proofs.carried.carried_family.Tie as tie

@@ -1,4 +1,4 @@
--- `family::carried_link` meets its contract, case by case.
+-- `family::carried_link` meets its contract: its arms are the definition's lines.
 use borrow.Author.Needs.{needs}
 use Rattle.family.proofs.carried.carried_link.Statement.{statement}
 use Rattle.family.proofs.carried.carried_link.Tie as tie

@@ -1,4 +1,4 @@
--- `job::pair_fault` meets its contract: each return rewrites with what was demanded before it. Assumes nothing.
+-- `job::pair_fault` meets its contract: its two tests are the definition's two demands, in their order. Assumes nothing.
 use Prim.Native.Nat.{ℕ, _+_, _*_, _-_, _≤_, _<_, _/_}
 use mathlib.Core.Path.{_≡_}
 use mathlib.Core.List.{List}

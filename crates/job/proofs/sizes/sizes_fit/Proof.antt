@@ -1,4 +1,4 @@
--- `job::sizes_fit` meets its contract: each return rewrites with the tests before it. Assumes nothing.
+-- `job::sizes_fit` meets its contract: its tests are the definition's, in its order, and more than 8 blocks are no good shape. Assumes nothing.
 use mathlib.Core.Path.{ap, _∙_}
 use native.Mathlib.Omega.{arith}
 use borrow.Author.Needs.{needs}

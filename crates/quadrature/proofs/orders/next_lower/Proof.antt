@@ -1,4 +1,4 @@
--- `quadrature::next_lower` meets its contract, case by case.
+-- `quadrature::next_lower` meets its contract: its arms are the definition's lines.
 use Rattle.quadrature.specs.Orders.{nextLower}
 use borrow.Author.Needs.{needs}
 use Rattle.quadrature.proofs.orders.next_lower.Statement.{statement}

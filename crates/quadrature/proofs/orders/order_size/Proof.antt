@@ -1,4 +1,4 @@
--- `quadrature::order_size` meets its contract, case by case.
+-- `quadrature::order_size` meets its contract: its arms are the definition's lines.
 use borrow.Author.Needs.{needs}
 use Rattle.quadrature.specs.Orders.{sizeOf}
 use Rattle.quadrature.proofs.orders.order_size.Statement.{statement}

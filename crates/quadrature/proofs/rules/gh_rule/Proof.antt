@@ -1,4 +1,4 @@
--- `quadrature::gh_rule` meets its contract, case by case: the checker compares each printed number with its bits.
+-- `quadrature::gh_rule` meets its contract: each arm is its order's rule, as the checker compares each printed number with its bits.
 use Rattle.quadrature.specs.Orders.{sizeOf}
 use Rattle.quadrature.specs.Rules.{nodesOf, weightsOf, padded, ruleOf}
 use borrow.Author.Needs.{needs}

@@ -1,7 +1,6 @@
 -- `reader::fill_job` meets its contract: a sound job reaches as far as is read, and each list is laid over its slice. Assumes nothing.
 use mathlib.Core.Path.{refl}
 use native.Mathlib.Omega.{arith}
-use borrow.Author.Needs.{needs}
 use Rattle.job.proofs.RowLaws.{Fits, sound-fits}
 use Rattle.reader.specs.Reading.{lent}
 use Rattle.reader.proofs.Rooms.{Room, room-of, filled-is}

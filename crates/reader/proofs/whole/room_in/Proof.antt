@@ -1,4 +1,4 @@
--- `reader::room_in` meets its contract: each return rewrites with the tests before it. Assumes nothing.
+-- `reader::room_in` meets its contract: its tests are the definition's, in its order. Assumes nothing.
 use borrow.Author.Tests.{le-leb, lt-leb}
 use Rattle.reader.specs.Reading.{roomy}
 use Rattle.reader.proofs.whole.room_in.Statement.{statement}
