@@ -58,6 +58,10 @@ def begins(pieces):
     return [0] + list(accumulate(pieces))[:-1]
 
 
+# pieces that no function names: what begins a slice, and what stands right behind a named piece
+UNNAMED = {"rows": [0], "matrices": [0, 9, 10, 11], "terms": []}
+
+
 def places(n, p, q):
     rows = [n] * 11
     matrices = [q * q, q * q, q * p, p * p] + [q] * 8 + [p, 11]
@@ -65,7 +69,7 @@ def places(n, p, q):
     room = [16 * n, 3 * q ** 2 + 4 * p ** 2 + 2 * q * p + 12 * (q + p), 7000]
     for name, pieces, length in zip(["rows", "matrices", "terms"], [rows, matrices, terms], room):
         assert sum(pieces) <= length
-        line(name, *begins(pieces), length)
+        line(name, *(b for i, b in enumerate(begins(pieces)) if i not in UNNAMED[name]), length)
 
 
 coded("family", FAMILIES, [0, 1, 2, 3, 4, MOST])
@@ -108,7 +112,7 @@ line("fitted", *answer(0, 97.5, 1.0, 1, True, 5, WORK))
 line("fitted", *answer(0, float("inf"), 0.1, 11, False, 1000, WORK))
 line("fitted", *answer(0, -0.0, float("nan"), 3, True, 0, WORK))
 
-line("items", *[0, 0, 0, 0], *[1, 0, 0, 0], *[0, 1, 0, 0], *[0, 0, 1, 0], *[0, 0, 0, 6561])
+line("items", *[0, 0, 0, 0], *[0, 0, 0, 6561])
 line("sum", *[a + b for a, b in zip(WORK, (3, 50, 700, 11000))])
 line("sum", MOST, MOST, MOST, MOST)
 

@@ -349,9 +349,6 @@ fn sum(a: Account, b: Account)
 fn items() {
     text::put_word(b"items");
     put_account(Account::none());
-    put_account(Account::one_fit());
-    put_account(Account::one_solve());
-    put_account(Account::one_try());
     put_account(Account::of_points(6561));
     text::end_line();
 }
@@ -399,7 +396,6 @@ fn rows(n: usize)
     requires { ⌜ n ≤ 512 ⌝ }
 {
     text::put_word(b"rows");
-    put_size(layout::first_eta_row());
     put_size(layout::second_eta_row(n));
     put_size(layout::mu_row(n));
     put_size(layout::raw_row(n));
@@ -424,9 +420,6 @@ fn put_more_vectors(p: usize, q: usize)
     requires { ⌜ (p ≤ 16) × (q ≤ 32) ⌝ }
 {
     put_size(layout::trial_u_at(p, q));
-    put_size(layout::trial_b_at(p, q));
-    put_size(layout::point_at(p, q));
-    put_size(layout::column_at(p, q));
     put_size(layout::beta_at(p, q));
     put_size(layout::log_weights_at(p, q));
 }
@@ -435,7 +428,6 @@ fn matrices(p: usize, q: usize)
     requires { ⌜ (p ≤ 16) × (q ≤ 32) ⌝ }
 {
     text::put_word(b"matrices");
-    put_size(layout::system_at());
     put_size(layout::inverse_at(q));
     put_size(layout::solved_at(q));
     put_size(layout::root_inverse_at(p, q));

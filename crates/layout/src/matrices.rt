@@ -4,14 +4,7 @@ use crate::products::square;
 ghost use mathlib.Core.Path.{_≡_};
 ghost use Prim.Native.Nat.{_≤_};
 ghost use Rattle.layout.specs.Products.{Small};
-ghost use Rattle.layout.specs.WorkMatrices.{systemPlace, inversePlace, solvedPlace, rootInversePlace, rightPlace, wyPlace, uPlace, bPlace, trialUPlace, trialBPlace, pointPlace, columnPlace, betaPlace, logWeightsPlace, matricesLength};
-
-// S, q²: Z'WZ, then A over it.
-pub fn system_at() -> usize
-    ensures { λ r. ⌜ r ≡ systemPlace ⌝ }
-{
-    0
-}
+ghost use Rattle.layout.specs.WorkMatrices.{inversePlace, solvedPlace, rootInversePlace, rightPlace, wyPlace, uPlace, bPlace, trialUPlace, betaPlace, logWeightsPlace, matricesLength};
 
 // I, q²: the inverse of a block or of A, then its Cholesky factor.
 pub fn inverse_at(q: usize) -> usize
@@ -83,30 +76,6 @@ pub fn trial_u_at(p: usize, q: usize) -> usize
     ensures { λ r. ⌜ r ≡ trialUPlace p q ⌝ }
 {
     vectors_at(p, q) + 4 * q
-}
-
-// The trial b.
-pub fn trial_b_at(p: usize, q: usize) -> usize
-    requires { ⌜ (p ≤ 16) × (q ≤ 32) ⌝ }
-    ensures { λ r. ⌜ r ≡ trialBPlace p q ⌝ }
-{
-    vectors_at(p, q) + 5 * q
-}
-
-// z of a quadrature point.
-pub fn point_at(p: usize, q: usize) -> usize
-    requires { ⌜ (p ≤ 16) × (q ≤ 32) ⌝ }
-    ensures { λ r. ⌜ r ≡ pointPlace p q ⌝ }
-{
-    vectors_at(p, q) + 6 * q
-}
-
-// q numbers to spare.
-pub fn column_at(p: usize, q: usize) -> usize
-    requires { ⌜ (p ≤ 16) × (q ≤ 32) ⌝ }
-    ensures { λ r. ⌜ r ≡ columnPlace p q ⌝ }
-{
-    vectors_at(p, q) + 7 * q
 }
 
 // β, p numbers.

@@ -1,16 +1,9 @@
 // Where the rows of the work slice `rows` begin. Each is n numbers long.
 ghost use mathlib.Core.Path.{_≡_};
 ghost use Prim.Native.Nat.{_≤_};
-ghost use Rattle.layout.specs.WorkRows.{firstEtaRow, secondEtaRow, muRow, rawRow, xbetaRow, devianceRow, pointRow, markRow, weightedRow, columnRow, workingRow, rowsLength};
+ghost use Rattle.layout.specs.WorkRows.{secondEtaRow, muRow, rawRow, xbetaRow, devianceRow, pointRow, markRow, weightedRow, columnRow, workingRow, rowsLength};
 
-// The predictor stands in one of two rows, the candidate in the other.
-pub fn first_eta_row() -> usize
-    ensures { λ r. ⌜ r ≡ firstEtaRow ⌝ }
-{
-    0
-}
-
-// The other of the two.
+// The predictor stands in one of two rows, the candidate in the other: the first begins the slice, this is the second.
 pub fn second_eta_row(n: usize) -> usize
     ensures { λ r. ⌜ r ≡ secondEtaRow n ⌝ }
 {

@@ -6,8 +6,8 @@ use Prim.Native.Nat.{ℕ, zero, suc, _+_, _*_}
 use native.Mathlib.Nat.{zero-mul, suc-mul}
 use native.Mathlib.Omega.{arith}
 use lib.ListN.{replicate}
-use Rattle.model.specs.Account.{noCounts, _⊞_, oneFit, oneSolve, oneTry, pointsOf}
-use Rattle.model.specs.Items.{Fate, Item, aFit, aSolve, aTry, aPoint, isFit, isSolve, isTry, isPoint, tick, countOf, tally}
+use Rattle.model.specs.Account.{noCounts, _⊞_, oneFit, pointsOf}
+use Rattle.model.specs.Items.{Item, aFit, aPoint, isFit, isSolve, isTry, isPoint, tick, countOf, tally}
 use Rattle.model.proofs.Accounts.{same-counts}
 
 -- whatever is counted
@@ -28,15 +28,6 @@ tally-none = refl
 pub tally-fit : tally (aFit ∷ []) ≡ oneFit
 unfolding tally countOf
 tally-fit = refl
-
-pub tally-solve : tally (aSolve ∷ []) ≡ oneSolve
-unfolding tally countOf
-tally-solve = refl
-
--- whatever became of it
-pub tally-try : (f : Fate) → tally (aTry f ∷ []) ≡ oneTry
-unfolding tally countOf
-tally-try f = refl
 
 -- n times the same item
 pub count-same : (t : Item → Bool) (n : ℕ) (i : Item) → countOf t (replicate n i) ≡ n * tick (t i)

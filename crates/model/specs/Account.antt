@@ -15,14 +15,6 @@ a ⊞ b = record { fits = a .fits + b .fits; solves = a .solves + b .solves; tri
 abbrev pub oneFit : Account
 oneFit = record { fits = 1; solves = 0; tries = 0; points = 0 }
 
--- the account of one solve
-abbrev pub oneSolve : Account
-oneSolve = record { fits = 0; solves = 1; tries = 0; points = 0 }
-
--- the account of one try
-abbrev pub oneTry : Account
-oneTry = record { fits = 0; solves = 0; tries = 1; points = 0 }
-
 -- the account of n points
 abbrev pub pointsOf : ℕ → Account
 pointsOf n = record { fits = 0; solves = 0; tries = 0; points = n }

@@ -1,6 +1,6 @@
 // The account of work: what a call has done, counted.
 ghost use mathlib.Core.Path.{_≡_};
-ghost use Rattle.model.specs.Account.{noCounts, _⊞_, oneFit, oneSolve, oneTry, pointsOf, SumFits};
+ghost use Rattle.model.specs.Account.{noCounts, _⊞_, pointsOf, SumFits};
 
 // Inner fits, solves, tried steps and grid points.
 pub struct Account {
@@ -19,42 +19,6 @@ impl Account {
             fits: 0,
             solves: 0,
             tries: 0,
-            points: 0,
-        }
-    }
-
-    // An inner fit begins.
-    pub fn one_fit() -> Self
-        ensures { λ r. ⌜ r ≡ oneFit ⌝ }
-    {
-        Self {
-            fits: 1,
-            solves: 0,
-            tries: 0,
-            points: 0,
-        }
-    }
-
-    // An iteration got as far as u.
-    pub fn one_solve() -> Self
-        ensures { λ r. ⌜ r ≡ oneSolve ⌝ }
-    {
-        Self {
-            fits: 0,
-            solves: 1,
-            tries: 0,
-            points: 0,
-        }
-    }
-
-    // A candidate predictor is tried, whatever becomes of it.
-    pub fn one_try() -> Self
-        ensures { λ r. ⌜ r ≡ oneTry ⌝ }
-    {
-        Self {
-            fits: 0,
-            solves: 0,
-            tries: 1,
             points: 0,
         }
     }
