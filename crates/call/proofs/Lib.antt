@@ -1,5 +1,4 @@
 -- What follows from the definition of a call. Assumes nothing.
-pub mod Asking
 pub mod Leaves
 pub mod Higher
 pub mod Capped

@@ -15,9 +15,7 @@ use Rattle.layout.specs.WorkTerms.{termsLength}
 use Rattle.family.specs.declared.carried.CarriedFamily.{CarriedFamily}
 use Rattle.family.specs.declared.carried.CarriedLink.{CarriedLink}
 use Rattle.stored.specs.Stored.{sparse}
-use Rattle.rule.specs.Given.{Given}
-use Rattle.solve.specs.Ready.{designOf}
-use Rattle.iteration.specs.Iterated.{givenOf}
+use Rattle.rule.specs.Given.{Given, designOf, givenOf}
 use Rattle.results.specs.Nine.{Results, nine, resultsOf}
 use Rattle.table.specs.Tests.{Inputs}
 use Rattle.table.specs.Table.{tableOf}

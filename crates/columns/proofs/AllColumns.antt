@@ -22,10 +22,9 @@ use Rattle.layout.specs.WorkMatrices.{systemPlace, solvedPlace, wyPlace, betaPl
 use Rattle.layout.specs.WorkTerms.{factorPlace, wPlace, unsolvedPlace, normalPlace}
 use Rattle.layout.proofs.LaidOut.{laid-out}
 use Rattle.factor.specs.Triangle.{SameBelow}
-use Rattle.rule.specs.Given.{Design, qOf}
+use Rattle.rule.specs.Given.{Design, qOf, designOf}
 use Rattle.rule.specs.Solve.{unsolvedColumn, solvedColumnAt, solvedColumns, normalEntry, normalOf, normalSideAt, normalSide}
 use Rattle.rule.specs.Working.{weightedColumn}
-use Rattle.solve.specs.Ready.{designOf}
 use Rattle.columns.specs.Columns.{OnlyTwo, ColumnLeft, ColumnOf, ColumnsLeft, ColumnsOf}
 use Rattle.layout.proofs.LaidOut.{lent-kept}
 use Rattle.columns.proofs.Laws.{normal-same, matrix-is, two-row}

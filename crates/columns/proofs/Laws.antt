@@ -19,7 +19,8 @@ use Rattle.base.proofs.Rows.{row-at, row-length, part-wrote}
 use Rattle.model.specs.declared.sizes.Shape.{Shape}
 use Rattle.linear.specs.Product.{columnDot, mixedTerm, normalAt}
 use Rattle.rule.specs.Solve.{sideOf}
-use Rattle.solve.specs.Ready.{designOf, Whatever, IsSide}
+use Rattle.solve.specs.Ready.{Whatever, IsSide}
+use Rattle.rule.specs.Given.{designOf}
 use Rattle.columns.specs.Columns.{OnlyTwo, WroteSide}
 
 -- an entry of the normal matrix looks at no solved column but W_b

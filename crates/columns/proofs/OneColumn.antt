@@ -27,10 +27,10 @@ use Rattle.factor.specs.Substitution.{ldlSolve}
 use Rattle.factor.specs.Triangle.{SameBelow}
 use Rattle.factor.proofs.Solved.{ldl-solve-same}
 use Rattle.linear.specs.Product.{xwAt, normalAt}
-use Rattle.rule.specs.Given.{Design}
+use Rattle.rule.specs.Given.{Design, designOf}
 use Rattle.rule.specs.Working.{weightedColumn}
 use Rattle.rule.specs.Solve.{sideOf, unsolvedColumn, solvedColumn, normalEntry, normalSideAt}
-use Rattle.solve.specs.Ready.{designOf, Whatever}
+use Rattle.solve.specs.Ready.{Whatever}
 use Rattle.columns.specs.Columns.{WroteSide, ColumnOf}
 use Rattle.columns.proofs.Laws.{set-only, two-of}
 

@@ -13,9 +13,8 @@ use Rattle.layout.specs.WorkRows.{columnRow, workingRow}
 use Rattle.layout.specs.WorkMatrices.{systemPlace, solvedPlace, wyPlace, betaPlace, matricesLength}
 use Rattle.layout.specs.WorkTerms.{factorPlace, wPlace, unsolvedPlace, normalPlace}
 use Rattle.factor.specs.Triangle.{SameBelow}
-use Rattle.rule.specs.Given.{Design}
+use Rattle.rule.specs.Given.{Design, designOf}
 use Rattle.rule.specs.Solve.{sideOf, solvedColumn, solvedColumns, normalEntry, normalOf, normalSideAt, normalSide}
-use Rattle.solve.specs.Ready.{designOf}
 
 -- Λ'(Z'v) is the row at b, and nothing else has changed
 abbrev pub WroteSide : ℕ → ℕ → List Float → List Float → List Float → Design → Type 0

@@ -21,7 +21,7 @@ use Rattle.table.specs.declared.verdicts.Verdict.the-variants.{Accepted, Refuse
 use Rattle.table.proofs.Accepting.{accepted-sound}
 use Rattle.call.specs.Fit.{fitOf}
 use Rattle.call.specs.Call.{Lent, lent, lengthsOf, left, callGiven, fitLeft, callBy, callOf}
-use Rattle.call.proofs.Asking.{accepted-asked, accepted-limit}
+use Rattle.glmm.proofs.Asking.{accepted-asked, accepted-limit}
 
 module _ (t : Settings) (s : Shape) (theta y weights offset x : List Float) (starts columns : List ℕ) (values beta se z u b mu eta residual v r m w : List Float) where
   abbrev I : Inputs

@@ -1,4 +1,5 @@
 -- The laws that the proofs of a call cite. Assumes nothing.
+pub mod Asking
 pub mod Written
 pub mod Room
 pub mod Wiping

@@ -21,12 +21,11 @@ use Rattle.model.specs.Shape.{effectsOf}
 use Rattle.model.specs.declared.sizes.Shape.{Shape}
 use Rattle.family.specs.declared.carried.CarriedFamily.{CarriedFamily}
 use Rattle.family.specs.declared.carried.CarriedLink.{CarriedLink}
-use Rattle.rule.specs.Given.{Design, Given, nOf, qOf}
+use Rattle.rule.specs.Given.{Design, Given, nOf, qOf, designOf, givenOf}
 use Rattle.rule.specs.Working.{workingWeights, workingResponses}
 use Rattle.rule.specs.Solve.{Solve, Solved, solved, unsolved, solveWorking, solveOf}
 use Rattle.rule.specs.Try.{Trial, Move, Search, foundMove, noMove, triesOf, trialOf}
 use Rattle.stages.specs.Held.{etaRow}
-use Rattle.solve.specs.Ready.{designOf}
 use Rattle.stages.specs.Weighed.{Weighed, Weighs}
 use Rattle.tries.specs.Told.{trialIn, OnlyBoth, Brief, found, none, briefly, TriesDone}
 use Rattle.tries.specs.declared.search.TriesEnd.{TriesEnd}
@@ -34,7 +33,7 @@ use Rattle.tries.specs.declared.search.TriesEnd.the-variants.{Moved, NoMove}
 use Rattle.tries.proofs.Both.{both-row}
 use Rattle.iteration.specs.Held.{Prepared, HeldSolved}
 use Rattle.iteration.specs.Solving.{SolveTold, SolveLeft, SolvesWorking}
-use Rattle.iteration.specs.Iterated.{IterationLeft, givenOf}
+use Rattle.iteration.specs.Iterated.{IterationLeft}
 use Rattle.iteration.specs.declared.solving.Solving.{Solving}
 use Rattle.iteration.specs.declared.solving.Solving.the-variants.{Found, Unsolved}
 use Rattle.iteration.specs.declared.iterates.Iteration.the-variants as iteration

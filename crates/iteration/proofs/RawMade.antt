@@ -22,7 +22,7 @@ use Rattle.layout.specs.WorkMatrices.{solvedPlace, wyPlace, uPlace, bPlace, bet
 use Rattle.layout.specs.WorkTerms.{sparePlace}
 use Rattle.layout.proofs.LaidOut.{laid-out}
 use Rattle.rule.specs.Solve.{rawAt, effectsAfter, bOf, zTimes, rawOf}
-use Rattle.solve.specs.Ready.{designOf}
+use Rattle.rule.specs.Given.{designOf}
 use Rattle.solve.specs.Effects.{EffectsLeft}
 use Rattle.iteration.specs.Solving.{RawLeft}
 

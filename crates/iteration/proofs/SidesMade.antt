@@ -18,9 +18,9 @@ use Rattle.layout.specs.WorkTerms.{wPlace}
 use Rattle.layout.proofs.LaidOut.{laid-out}
 use Rattle.model.specs.Shape.{effectsOf}
 use Rattle.model.specs.declared.sizes.Shape.{Shape}
-use Rattle.rule.specs.Given.{Design, qOf}
+use Rattle.rule.specs.Given.{Design, qOf, designOf}
 use Rattle.rule.specs.Solve.{sideOf, normalSide}
-use Rattle.solve.specs.Ready.{designOf, Whatever, SolvedSide}
+use Rattle.solve.specs.Ready.{Whatever, SolvedSide}
 use Rattle.columns.specs.Columns.{ColumnsLeft, ColumnsOf}
 use Rattle.iteration.specs.Solving.{SidesOf}
 

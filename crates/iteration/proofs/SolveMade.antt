@@ -22,10 +22,10 @@ use Rattle.layout.proofs.LaidOut.{laid-out}
 use Rattle.model.specs.Shape.{effectsOf}
 use Rattle.model.specs.declared.sizes.Shape.{Shape}
 use Rattle.model.specs.declared.ends.End.the-variants.{SystemPivot, NormalPivot}
-use Rattle.rule.specs.Given.{Design, qOf}
+use Rattle.rule.specs.Given.{Design, qOf, designOf}
 use Rattle.rule.specs.Working.{targets, weightedTargets}
 use Rattle.rule.specs.Solve.{solved, unsolved, Reduced, reducedOf, found, foundBeta, foundWith, solveWorking, solveSystem, solveFactor, afterFactor, solveReduced, solveNormal, solveRoot, afterRoot, systemOf, factorOf, wyOf, solvedColumns, normalEntry, normalOf, betaOf}
-use Rattle.solve.specs.Ready.{designOf, Whatever}
+use Rattle.solve.specs.Ready.{Whatever}
 use Rattle.solve.specs.System.{SystemLeaves}
 use Rattle.iteration.specs.Held.{Prepared}
 use Rattle.iteration.specs.Solving.{SidesLeft, SidesOf, RootLeft, RootSolved, RawLeft, SolveLeft, SolvesWorking}

@@ -5,15 +5,13 @@ use Prim.Native.Nat.{ℕ, _*_, _≤_}
 use lib.ListN.{length}
 use lib.Ieee.{Float}
 use Rattle.base.specs.Rows.{row, Only}
-use Rattle.family.specs.declared.carried.CarriedFamily.{CarriedFamily}
-use Rattle.family.specs.declared.carried.CarriedLink.{CarriedLink}
 use Rattle.layout.specs.Layout.{WorkRoom}
 use Rattle.layout.specs.WorkRows.{muRow, rowsLength}
 use Rattle.layout.specs.WorkMatrices.{matricesLength}
 use Rattle.layout.specs.WorkTerms.{termsLength}
 use Rattle.model.specs.Items.{Item, countOf, isTry}
 use Rattle.model.specs.declared.sizes.Shape.{Shape}
-use Rattle.rule.specs.Given.{Design, Given, nOf, qOf}
+use Rattle.rule.specs.Given.{Given, nOf, qOf}
 use Rattle.rule.specs.Solve.{Solved, solved, unsolved, solveOf}
 use Rattle.rule.specs.Try.{foundMove, noMove, triesOf, trialOf}
 use Rattle.solve.specs.Ready.{Ready}
@@ -31,10 +29,6 @@ pub record Asked (n p q : ℕ) (shape : Shape) (theta : List Float) (starts colu
   pub offset-fits : Optional n offset
   pub x-long : n * p ≤ length x
   pub y-long : n ≤ length y
-
--- what is given of the responses, with a design
-abbrev pub givenOf : CarriedFamily → CarriedLink → (y weights : List Float) → Design → Given
-givenOf family link y weights D = record { family = family; link = link; y = y; weights = weights; design = D }
 
 -- ---- what an iteration answers
 

@@ -14,10 +14,9 @@ use Rattle.factor.specs.declared.pivots.Factored.the-variants.{Done}
 use Rattle.layout.specs.WorkRows.{rawRow, weightedRow, columnRow, workingRow}
 use Rattle.layout.specs.WorkMatrices.{systemPlace, solvedPlace, wyPlace, uPlace, betaPlace, matricesLength}
 use Rattle.layout.specs.WorkTerms.{factorPlace, wPlace, unsolvedPlace, normalPlace, sparePlace, termsLength}
-use Rattle.rule.specs.Given.{Design, qOf}
+use Rattle.rule.specs.Given.{Design, qOf, designOf}
 use Rattle.model.specs.declared.sizes.Shape.{Shape}
 use Rattle.rule.specs.Solve.{Solve, solved, unsolved, sideOf, solvedColumns, normalOf, normalSide, effectsAfter, bOf, rawOf, solveWorking}
-use Rattle.solve.specs.Ready.{designOf}
 use Rattle.iteration.specs.Held.{Prepared, HeldSolved}
 use Rattle.iteration.specs.declared.solving.Solving.{Solving}
 use Rattle.iteration.specs.declared.solving.Solving.the-variants.{Found, Unsolved}

@@ -12,9 +12,9 @@ ghost use mathlib.Core.Bool.{not};
 ghost use Rattle.base.specs.Rows.{row};
 ghost use Rattle.layout.specs.WorkRows.{muRow};
 ghost use Rattle.stored.specs.Stored.{sparse};
-ghost use Rattle.solve.specs.Ready.{designOf};
+ghost use Rattle.rule.specs.Given.{designOf, givenOf};
 ghost use Rattle.stages.specs.Held.{etaRow};
-ghost use Rattle.iteration.specs.Iterated.{Asked, givenOf, IterationLeft};
+ghost use Rattle.iteration.specs.Iterated.{Asked, IterationLeft};
 
 // What became of an iteration: no solve, with its end; no step accepted, of so many; or moved, with PWRSS and how many steps were tried.
 pub enum Iteration {

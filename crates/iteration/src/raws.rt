@@ -17,7 +17,8 @@ ghost use Rattle.layout.specs.Layout.{WorkRoom};
 ghost use Rattle.layout.specs.WorkMatrices.{solvedPlace, wyPlace, betaPlace};
 ghost use Rattle.stored.specs.Stored.{sparse};
 ghost use Rattle.working.specs.Optional.{Optional};
-ghost use Rattle.solve.specs.Ready.{Ready, designOf};
+ghost use Rattle.solve.specs.Ready.{Ready};
+ghost use Rattle.rule.specs.Given.{designOf};
 ghost use Rattle.iteration.specs.Solving.{RawLeft};
 
 // u, b = Λu and the raw predictor.

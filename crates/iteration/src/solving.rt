@@ -12,7 +12,8 @@ ghost use lib.ListN.{length};
 ghost use Rattle.layout.specs.Layout.{WorkRoom};
 ghost use Rattle.stored.specs.Stored.{sparse};
 ghost use Rattle.working.specs.Optional.{Optional};
-ghost use Rattle.solve.specs.Ready.{Ready, designOf};
+ghost use Rattle.solve.specs.Ready.{Ready};
+ghost use Rattle.rule.specs.Given.{designOf};
 ghost use Rattle.iteration.specs.Solving.{SolvesWorking};
 
 // A solve found u, or has the end 10 or 11.

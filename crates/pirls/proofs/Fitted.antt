@@ -22,14 +22,13 @@ use Rattle.model.specs.declared.sizes.Shape.{Shape}
 use Rattle.model.specs.declared.counts.Account.{Account}
 use Rattle.model.specs.declared.ends.End.{End}
 use Rattle.model.specs.declared.ends.End.the-variants.{NoStep, NoStop}
-use Rattle.rule.specs.Given.{Given, qOf}
+use Rattle.rule.specs.Given.{Given, qOf, designOf, givenOf}
 use Rattle.rule.specs.Stop.{stops}
 use Rattle.rule.specs.Run.{startEtaAt, startEta}
-use Rattle.solve.specs.Ready.{designOf}
 use Rattle.stages.specs.Held.{etaRow}
 use Rattle.stages.specs.Stopped.{Stops, StopLeft}
 use Rattle.stages.specs.declared.stops.AtStop.{AtStop}
-use Rattle.iteration.specs.Iterated.{Asked, givenOf, IterationLeft, triesMade}
+use Rattle.iteration.specs.Iterated.{Asked, IterationLeft, triesMade}
 use Rattle.iteration.specs.declared.iterates.Iteration.{Iteration}
 use Rattle.iteration.specs.declared.iterates.Iteration.the-variants.{Unsolvable, Stuck, Moved}
 use Rattle.pirls.specs.Inner.{failedFit, stoppedFit, InnerLeft}

@@ -16,8 +16,8 @@ ghost use Prim.Native.Nat.{_≤_};
 ghost use Rattle.base.specs.Rows.{row};
 ghost use Rattle.layout.specs.WorkRows.{muRow};
 ghost use Rattle.stored.specs.Stored.{sparse};
-ghost use Rattle.solve.specs.Ready.{designOf};
-ghost use Rattle.iteration.specs.Iterated.{Asked, givenOf};
+ghost use Rattle.rule.specs.Given.{designOf, givenOf};
+ghost use Rattle.iteration.specs.Iterated.{Asked};
 ghost use Rattle.pirls.specs.Inner.{failedFit, stoppedFit, InnerLeft};
 
 // Whether an inner fit has a result.

@@ -8,8 +8,8 @@ use working::start_means;
 ghost use Prim.Native.Nat.{_≤_};
 ghost use Rattle.rule.specs.Run.{startMeans};
 ghost use Rattle.stored.specs.Stored.{sparse};
-ghost use Rattle.solve.specs.Ready.{designOf};
-ghost use Rattle.iteration.specs.Iterated.{Asked, givenOf};
+ghost use Rattle.rule.specs.Given.{designOf, givenOf};
+ghost use Rattle.iteration.specs.Iterated.{Asked};
 ghost use Rattle.inner.specs.Answered.{AnswerLeft};
 
 // The starting means into their row, then the inner fit from there.

@@ -23,6 +23,10 @@ pub record Design : Type 0 where
   pub x : List Float
   pub zt : Sparse
 
+-- the design that the arguments are
+abbrev pub designOf : ℕ → ℕ → Shape → List Float → List Float → List Float → Sparse → Design
+designOf n p shape theta offset x zt = record { n = n; p = p; shape = shape; theta = theta; offset = offset; x = x; zt = zt }
+
 -- how many effects there are
 abbrev pub qOf : Design → ℕ
 qOf D = effectsOf (D .shape)
@@ -34,6 +38,10 @@ pub record Given : Type 0 where
   pub y : List Float
   pub weights : List Float
   pub design : Design
+
+-- what is given of the responses, with a design
+abbrev pub givenOf : CarriedFamily → CarriedLink → (y weights : List Float) → Design → Given
+givenOf family link y weights D = record { family = family; link = link; y = y; weights = weights; design = D }
 
 -- how many observations there are
 abbrev pub nOf : Given → ℕ

@@ -24,7 +24,8 @@ use Rattle.factor.specs.declared.pivots.Factored.{Factored}
 use Rattle.factor.specs.declared.pivots.Factored.the-variants.{Done}
 use Rattle.factor.proofs.LdlTextbook.{ldl-lower, ldl-end-same, ldl-only}
 use Rattle.rule.specs.Solve.{ztwzOf, rightColumns, systemOf, factorOf}
-use Rattle.solve.specs.Ready.{designOf, Whatever}
+use Rattle.solve.specs.Ready.{Whatever}
+use Rattle.rule.specs.Given.{designOf}
 use Rattle.solve.specs.System.{SystemLeaves}
 use Rattle.base.proofs.Rows.{grid-wrote}
 

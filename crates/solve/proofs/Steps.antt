@@ -21,7 +21,8 @@ use Rattle.factor.specs.Triangle.{SameBelow}
 use Rattle.factor.proofs.Solved.{ldl-solve-same}
 use borrow.Rule.Slice.PartMut.{putMid, midOf, mid-len}
 use Rattle.solve.specs.Effects.{EffectsLeft}
-use Rattle.solve.specs.Ready.{designOf, Whatever, IsSide, SolvedSide}
+use Rattle.solve.specs.Ready.{Whatever, IsSide, SolvedSide}
+use Rattle.rule.specs.Given.{designOf}
 
 -- Z'v, then Λ' over it
 pub side-made : (n q : ℕ) (shape : Shape) (theta : List Float) (zt : Sparse) (v before mid after : List Float) → q ≡ effectsOf shape → length before ≡ q

@@ -11,7 +11,7 @@ use Rattle.model.specs.declared.sizes.Shape.{Shape}
 use Rattle.base.specs.Rows.{Wrote}
 use Rattle.factor.specs.Substitution.{ldlSolve}
 use Rattle.factor.specs.Triangle.{SameBelow}
-use Rattle.rule.specs.Given.{Design, qOf}
+use Rattle.rule.specs.Given.{Design, designOf, qOf}
 use Rattle.rule.specs.Solve.{sideOf}
 
 -- the shape has q effects, theta has its numbers, and Z' has a good row for each effect over n observations
@@ -20,10 +20,6 @@ pub record Ready (shape : Shape) (theta : List Float) (starts columns : List ℕ
   pub effects : q ≡ effectsOf shape
   pub numbers : thetaLength shape ≤ length theta
   pub rows : Rows starts columns values q n
-
--- the design that the arguments are
-abbrev pub designOf : ℕ → ℕ → Shape → List Float → List Float → List Float → Sparse → Design
-designOf n p shape theta offset x zt = record { n = n; p = p; shape = shape; theta = theta; offset = offset; x = x; zt = zt }
 
 -- P holds of the design of these effects, whatever X and the offset are
 abbrev pub Whatever : ℕ → Shape → List Float → Sparse → (Design → Type 0) → Type 0

@@ -13,7 +13,7 @@ use Rattle.family.specs.declared.carried.CarriedLink.{CarriedLink}
 use Rattle.family_lists.specs.Lists.{devAt}
 use Rattle.factor.specs.Inverse.{choleskyInverse}
 use Rattle.factor.specs.Triangle.{SameBelow}
-use Rattle.rule.specs.Given.{Design, Given, nOf}
+use Rattle.rule.specs.Given.{Design, Given, nOf, givenOf}
 use Rattle.rule.specs.Solve.{Solved}
 use Rattle.rule.specs.Stop.{deviancesOf, devianceSum, fitTerm, laplaceOf}
 use Rattle.stages.specs.declared.stops.AtStop.{AtStop}
@@ -37,4 +37,4 @@ pub record StopLeft (G : Given) (p q : ℕ) (v : Solved) (mu r r' m m' : List Fl
 abbrev pub Stops : CarriedFamily → (y weights : List Float) (n p q : ℕ) (mu t r r' m m' : List Float) → AtStop → Type 0
 Stops family y weights n p q mu t r r' m m' a =
     (link : CarriedLink) (D : Design) (v : Solved) → D .n ≡ n → SameBelow q (row factorPlace (q * q) t) (v .factor) → SameBelow p (row (normalPlace n p q) (p * p) t) (v .root)
-    → row (uPlace p q) q m ≡ v .u → StopLeft (record { family = family; link = link; y = y; weights = weights; design = D }) p q v mu r r' m m' a
+    → row (uPlace p q) q m ≡ v .u → StopLeft (givenOf family link y weights D) p q v mu r r' m m' a

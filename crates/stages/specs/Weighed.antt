@@ -9,7 +9,7 @@ use Rattle.layout.specs.WorkRows.{weightedRow, columnRow, workingRow, rowsLengt
 use Rattle.layout.specs.WorkTerms.{wPlace, zPlace, termsLength}
 use Rattle.family.specs.declared.carried.CarriedFamily.{CarriedFamily}
 use Rattle.family.specs.declared.carried.CarriedLink.{CarriedLink}
-use Rattle.rule.specs.Given.{Design, Given, nOf}
+use Rattle.rule.specs.Given.{Design, Given, nOf, givenOf}
 use Rattle.rule.specs.Working.{workingWeights, workingResponses, targets, weightedTargets}
 use Rattle.working.specs.Optional.{Optional}
 
@@ -35,4 +35,4 @@ pub record Weighed (G : Given) (phi : Float) (q : ℕ) (eta mu r r' t t' : List 
 -- for each design of n observations with this offset
 abbrev pub Weighs : CarriedFamily → CarriedLink → Float → (y weights offset : List Float) (n q : ℕ) (eta mu r r' t t' : List Float) → Type 0
 Weighs family link phi y weights offset n q eta mu r r' t t' =
-    (D : Design) → D .n ≡ n → D .offset ≡ offset → Weighed (record { family = family; link = link; y = y; weights = weights; design = D }) phi q eta mu r r' t t'
+    (D : Design) → D .n ≡ n → D .offset ≡ offset → Weighed (givenOf family link y weights D) phi q eta mu r r' t t'

@@ -14,11 +14,10 @@ use Rattle.layout.specs.WorkRows.{xbetaRow, devianceRow}
 use Rattle.layout.specs.WorkMatrices.{systemPlace, uPlace}
 use Rattle.linear.specs.Product.{xBetaAt}
 use Rattle.model.specs.declared.sizes.Shape.{Shape}
-use Rattle.rule.specs.Given.{Given, nOf, qOf}
+use Rattle.rule.specs.Given.{Given, nOf, qOf, designOf, givenOf}
 use Rattle.rule.specs.Stop.{Mode}
-use Rattle.solve.specs.Ready.{Ready, designOf}
+use Rattle.solve.specs.Ready.{Ready}
 use Rattle.working.specs.Optional.{Optional}
-use Rattle.iteration.specs.Iterated.{givenOf}
 
 -- the lists are as long as the sizes say, Z' is in order, and the work slices have room; X is not asked for, since Xβ stands in its row
 pub record Roomy (n p q : ℕ) (shape : Shape) (theta : List Float) (starts columns : List ℕ) (values offset y r m t : List Float) : Type 0 where

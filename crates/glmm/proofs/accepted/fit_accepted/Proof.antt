@@ -1,8 +1,7 @@
 -- `glmm::fit_accepted` meets its contract: the results are those of the fit, and the work slices are wiped where the fit may have written.
 use mathlib.Core.Path.{_∙_}
 use Rattle.stored.specs.Stored.{sparse}
-use Rattle.solve.specs.Ready.{designOf}
-use Rattle.iteration.specs.Iterated.{givenOf}
+use Rattle.rule.specs.Given.{designOf, givenOf}
 use Rattle.glmm.proofs.Room.{stands, to-wipe}
 use Rattle.glmm.proofs.Wiping.{call-left}
 use Rattle.glmm.proofs.accepted.fit_accepted.Statement.{statement}

@@ -9,8 +9,7 @@ use Rattle.layout.specs.WorkRows.{muRow}
 use Rattle.layout.proofs.Inside.{first-eta-in, mu-in}
 use Rattle.layout.proofs.LaidOut.{lent-kept}
 use Rattle.stored.specs.Stored.{sparse}
-use Rattle.solve.specs.Ready.{designOf}
-use Rattle.iteration.specs.Iterated.{givenOf}
+use Rattle.rule.specs.Given.{designOf, givenOf}
 use Rattle.pirls.proofs.Turns.{Going}
 use Rattle.pirls.proofs.Fitted.{asked-kept, begun, end-spent, end-unsolved, end-stuck, few-tries, stuck-few, turn-on, end-stopped}
 use Rattle.pirls.proofs.run.inner_fit.Statement.{statement}

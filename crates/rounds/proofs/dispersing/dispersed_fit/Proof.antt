@@ -3,8 +3,7 @@ use Prim.Native.Nat.{_-_}
 use mathlib.Core.Path.{sym, _∙_}
 use native.Mathlib.Omega.{arith}
 use Rattle.stored.specs.Stored.{sparse}
-use Rattle.solve.specs.Ready.{designOf}
-use Rattle.iteration.specs.Iterated.{givenOf}
+use Rattle.rule.specs.Given.{designOf, givenOf}
 use Rattle.pirls.proofs.Fitted.{asked-kept}
 use Rattle.rounds.proofs.Going.{Going, begun, sums-fit, end-spent, end-settled, turn-on}
 use borrow.Author.Needs.{needs}

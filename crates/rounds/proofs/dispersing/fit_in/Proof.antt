@@ -1,8 +1,7 @@
 -- `rounds::fit_in` meets its contract: the fit is the dispersion loop where the dispersion is free, and one inner fit where it is not.
 use mathlib.Core.Path.{sym, _∙_}
 use Rattle.stored.specs.Stored.{sparse}
-use Rattle.solve.specs.Ready.{designOf}
-use Rattle.iteration.specs.Iterated.{givenOf}
+use Rattle.rule.specs.Given.{designOf, givenOf}
 use Rattle.rounds.proofs.Ends.{free-left, fixed-left}
 use borrow.Author.Needs.{needs}
 use Rattle.rounds.proofs.dispersing.fit_in.Statement.{statement}

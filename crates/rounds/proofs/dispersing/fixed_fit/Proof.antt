@@ -1,7 +1,6 @@
 -- `rounds::fixed_fit` meets its contract: one inner fit at phi 1 is the whole fit.
 use Rattle.stored.specs.Stored.{sparse}
-use Rattle.solve.specs.Ready.{designOf}
-use Rattle.iteration.specs.Iterated.{givenOf}
+use Rattle.rule.specs.Given.{designOf, givenOf}
 use Rattle.rounds.proofs.Ends.{fixed-ended}
 use borrow.Author.Needs.{needs}
 use Rattle.rounds.proofs.dispersing.fixed_fit.Statement.{statement}

@@ -3,8 +3,7 @@ use mathlib.Core.Path.{refl}
 use native.Mathlib.Omega.{arith}
 use Rattle.base.proofs.Rows.{filled-part}
 use Rattle.stored.specs.Stored.{sparse}
-use Rattle.solve.specs.Ready.{designOf}
-use Rattle.iteration.specs.Iterated.{givenOf}
+use Rattle.rule.specs.Given.{designOf, givenOf}
 use Rattle.pirls.proofs.Fitted.{asked-kept}
 use Rattle.rounds.proofs.Started.{started}
 use borrow.Author.Needs.{needs}
