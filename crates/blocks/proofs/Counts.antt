@@ -11,7 +11,7 @@ use Rattle.model.specs.declared.ends.Refusal.the-variants.{OutOfRange}
 use Rattle.model.specs.declared.sizes.Settings.{Settings}
 use Rattle.model.proofs.Shapes.{in-range}
 use Rattle.model.proofs.Sized.{not-sized}
-use Rattle.table.specs.Tests.{Inputs}
+use Rattle.model.specs.Inputs.{Inputs}
 use Rattle.table.specs.Table.{refuseUnless, tableOf}
 use Rattle.table.specs.declared.verdicts.Verdict.the-variants.{Refused}
 use Rattle.call.specs.Call.{Lent, lengthsOf, left, callOf}

@@ -3,7 +3,7 @@ use mathlib.Core.Path.{_≡_}
 use mathlib.Core.List.{List}
 use Rattle.model.specs.declared.ends.Answer.{Answer}
 use Rattle.model.specs.declared.sizes.Settings.{Settings}
-use Rattle.table.specs.Tests.{Inputs}
+use Rattle.model.specs.Inputs.{Inputs}
 use Rattle.call.specs.Call.{Lent, left, callOf}
 use Rattle.call.proofs.Unique.{fit-unique}
 use Rattle.blocks.specs.Blocks.{shapeOf}

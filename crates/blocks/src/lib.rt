@@ -5,7 +5,7 @@ use model::Shape;
 ghost use mathlib.Core.Path.{_≡_};
 ghost use Prim.Native.Nat.{_<_};
 ghost use lib.ListN.{getD};
-ghost use Rattle.table.specs.Tests.{inputs};
+ghost use Rattle.model.specs.Inputs.{inputs};
 ghost use Rattle.call.specs.Call.{lent, left, callOf};
 ghost use Rattle.blocks.specs.Blocks.{noBlock, blankShape, putAt, shapeOf};
 

@@ -17,7 +17,7 @@ use Rattle.family.specs.Family.{usesDispersion}
 use Rattle.rule.specs.Given.{Given, nOf}
 use Rattle.rule.specs.Run.{startMeans}
 use Rattle.agq_rule.proofs.Caps.{inner-within}
-use Rattle.table.specs.Tests.{Inputs}
+use Rattle.model.specs.Inputs.{Inputs}
 use Rattle.table.specs.Table.{tableOf}
 use Rattle.table.specs.Facts.{Sound}
 use Rattle.table.specs.declared.verdicts.Verdict.{Verdict}

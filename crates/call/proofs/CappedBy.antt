@@ -19,7 +19,7 @@ use Rattle.family.specs.declared.carried.CarriedLink.{CarriedLink}
 use Rattle.rule.specs.Given.{Given, nOf}
 use Rattle.rule.specs.Run.{startMeans}
 use Rattle.agq_rule.proofs.Caps.{inner-capped}
-use Rattle.table.specs.Tests.{Inputs}
+use Rattle.model.specs.Inputs.{Inputs}
 use Rattle.table.specs.Table.{tableOf}
 use Rattle.table.specs.declared.verdicts.Verdict.the-variants.{Accepted}
 use Rattle.dispersion.specs.Phi.{effectiveN}

@@ -20,7 +20,8 @@ use Rattle.family.specs.declared.carried.CarriedLink.{CarriedLink}
 use Rattle.rule.specs.Given as given
 use Rattle.rule.specs.Run.{startMeans}
 use Rattle.agq_rule.proofs.Limits.{inner-same, inner-grows}
-use Rattle.table.specs.Tests.{Inputs, goodInputs, goodResults, goodWork}
+use Rattle.table.specs.Tests.{goodInputs, goodResults, goodWork}
+use Rattle.model.specs.Inputs.{Inputs}
 use Rattle.table.specs.Table.{refuseUnless, tableOf}
 use Rattle.table.specs.declared.verdicts.LentLengths.{LentLengths}
 use Rattle.table.specs.declared.verdicts.Verdict.the-variants.{Accepted}

@@ -17,7 +17,7 @@ use Rattle.layout.specs.WorkTerms.{termsLength}
 use Rattle.family.specs.declared.carried.CarriedFamily.{CarriedFamily}
 use Rattle.family.specs.declared.carried.CarriedLink.{CarriedLink}
 use Rattle.results.specs.Nine.{resultsOf}
-use Rattle.table.specs.Tests.{Inputs}
+use Rattle.model.specs.Inputs.{Inputs}
 use Rattle.table.specs.Table.{tableOf}
 use Rattle.table.specs.declared.verdicts.Verdict.the-variants.{Accepted, Refused}
 use Rattle.dispersion.specs.Rounds.{Result, result, noResult, Total, Dispersed}

@@ -4,7 +4,7 @@ use Rattle.base.proofs.Unique.{one-value}
 use Rattle.model.specs.declared.ends.Answer.{Answer}
 use Rattle.model.specs.declared.sizes.Shape.{Shape}
 use Rattle.model.specs.declared.sizes.Settings.{Settings}
-use Rattle.table.specs.Tests.{Inputs}
+use Rattle.model.specs.Inputs.{Inputs}
 use Rattle.call.specs.Call.{Lent, Left, left, callOf}
 
 -- `fit`

@@ -17,7 +17,7 @@ use Rattle.family.specs.declared.carried.CarriedLink.{CarriedLink}
 use Rattle.stored.specs.Stored.{sparse}
 use Rattle.rule.specs.Given.{Given, designOf, givenOf}
 use Rattle.results.specs.Nine.{Results, nine, resultsOf}
-use Rattle.table.specs.Tests.{Inputs}
+use Rattle.model.specs.Inputs.{Inputs}
 use Rattle.table.specs.Table.{tableOf}
 use Rattle.table.specs.declared.verdicts.LentLengths.{LentLengths}
 use Rattle.table.specs.declared.verdicts.Verdict.{Verdict}

@@ -14,7 +14,7 @@ use Rattle.family.specs.declared.carried.CarriedFamily.{CarriedFamily}
 use Rattle.family.specs.declared.carried.CarriedLink.{CarriedLink}
 use Rattle.working.specs.Optional.{Optional}
 use Rattle.iteration.specs.Iterated.{Asked}
-use Rattle.table.specs.Tests.{inputs}
+use Rattle.model.specs.Inputs.{inputs}
 use Rattle.table.specs.Facts.{AbsentOr}
 use Rattle.table.specs.Table.{tableOf}
 use Rattle.table.specs.declared.verdicts.LentLengths.{LentLengths}

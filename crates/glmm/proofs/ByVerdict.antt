@@ -14,7 +14,7 @@ use Rattle.family.specs.declared.carried.CarriedFamily.{CarriedFamily}
 use Rattle.family.specs.declared.carried.CarriedLink.{CarriedLink}
 use Rattle.iteration.specs.Iterated.{Asked}
 use Rattle.results.specs.Room.{Writable}
-use Rattle.table.specs.Tests.{Inputs, inputs}
+use Rattle.model.specs.Inputs.{Inputs, inputs}
 use Rattle.table.specs.Table.{tableOf}
 use Rattle.table.specs.declared.verdicts.Verdict.{Verdict}
 use Rattle.table.specs.declared.verdicts.Verdict.the-variants.{Accepted, Refused}

@@ -7,7 +7,7 @@ use table::LentLengths;
 use table::Verdict;
 use table::verdict_of;
 ghost use mathlib.Core.Path.{_≡_};
-ghost use Rattle.table.specs.Tests.{inputs};
+ghost use Rattle.model.specs.Inputs.{inputs};
 ghost use Rattle.call.specs.Call.{lent, left, callOf};
 
 // Nothing is asked of the arguments: what cannot be fitted is refused, and then every slice stays as it is.

@@ -15,7 +15,7 @@ use Rattle.model.specs.declared.ends.Refusal.{Refusal}
 use Rattle.model.specs.declared.sizes.Shape.{Shape}
 use Rattle.model.specs.declared.sizes.Settings.{Settings}
 use Rattle.job.specs.Job.{Read, faulty, sound, readOf}
-use Rattle.table.specs.Tests.{Inputs}
+use Rattle.model.specs.Inputs.{Inputs}
 use Rattle.table.specs.Table.{tableOf}
 use Rattle.table.specs.declared.verdicts.Verdict.{Verdict}
 use Rattle.table.specs.declared.verdicts.Verdict.the-variants.{Accepted, Refused}

@@ -17,7 +17,7 @@ use Rattle.model.specs.declared.ends.Refusal.the-variants.{OutOfRange, Lengths,
 use Rattle.model.specs.declared.sizes.Shape.{Shape}
 use Rattle.model.specs.declared.sizes.Settings.{Settings}
 use Rattle.job.specs.Lists.{laid}
-use Rattle.table.specs.Tests.{Inputs}
+use Rattle.model.specs.Inputs.{Inputs}
 use Rattle.table.specs.Table.{tableOf}
 use Rattle.table.specs.Facts.{Sound}
 use Rattle.table.specs.declared.verdicts.Verdict.{Verdict}

@@ -23,18 +23,18 @@ use Rattle.job.specs.Faults.{faultOf}
 use Rattle.job.specs.Job.{Read, settingsOf, sparseOf, jobOf, readBy, readOf}
 use Rattle.job.proofs.ListLaws.{counts-length, laid-length}
 use Rattle.job.proofs.RowLaws.{Fits, sound-fits, row-starts, columns-before, values-before}
-use Rattle.table.specs.Tests.{Inputs, inputs}
+use Rattle.model.specs.Inputs.{Inputs, inputs}
 use Rattle.reader.specs.declared.whole.Header.{Header}
 use Rattle.reader.specs.declared.whole.Reading.{Reading}
 use Rattle.reader.specs.declared.whole.Reading.the-variants.{Refused, Accepted}
-use Rattle.reader.specs.Reading.{JobSlices, lent, roomy, headerOf, readingBy, filled, leftBy, ReadDone, shapeBy}
+use Rattle.reader.specs.Reading.{roomy, headerOf, readingBy, filled, leftBy, ReadDone, shapeBy}
 use Rattle.reader.proofs.Rooms.{Room, room-of, with-room, sound-is}
 use Rattle.jobcall.specs.Told.{Buffers, buffers, Told, told, countsOf, done, doneFor, returnedBy, toldBy, answered, counted, withTheta}
 use Rattle.jobcall.specs.Room.{Fronts, frontsOf}
 use Rattle.jobcall.proofs.Lent.{front-is}
 
 -- a job that was refused, with room for any, had that fault
-refused-fault : (s : List ℕ) (b a : JobSlices) (r c : ℕ) (g : Reading) → roomy b ≡ true → g ≡ Refused r c → ReadDone s b g a → faultOf s ≡ At r c
+refused-fault : (s : List ℕ) (b a : Inputs) (r c : ℕ) (g : Reading) → roomy b ≡ true → g ≡ Refused r c → ReadDone s b g a → faultOf s ≡ At r c
 unfolding readingBy
 refused-fault s b a r c g room t d = by (faultOf s) refl (rw (t, with-room s b room) at (d .says))
   where
@@ -43,12 +43,12 @@ refused-fault s b a r c g room t d = by (faultOf s) refl (rw (t, with-room s b r
     by (At v k) e p = cc
 
 -- a job that was accepted is sound, and was told and laid
-record ReadSound (s : List ℕ) (b : JobSlices) (h : Header) (a : JobSlices) : Type 0 where
+record ReadSound (s : List ℕ) (b : Inputs) (h : Header) (a : Inputs) : Type 0 where
   fault : faultOf s ≡ Sound
   header : h ≡ headerOf (jobOf s)
   lists : a ≡ filled (jobOf s) b
 
-accepted-sound : (s : List ℕ) (b a : JobSlices) (h : Header) (g : Reading) → roomy b ≡ true → g ≡ Accepted h → ReadDone s b g a → ReadSound s b h a
+accepted-sound : (s : List ℕ) (b a : Inputs) (h : Header) (g : Reading) → roomy b ≡ true → g ≡ Accepted h → ReadDone s b g a → ReadSound s b h a
 unfolding readingBy leftBy
 accepted-sound s b a h g room t d = by (faultOf s) refl (rw (t, with-room s b room) at (d .says)) (rw (with-room s b room) at (d .leaves))
   where
@@ -70,11 +70,11 @@ laid-holds : {A : Type 0} (n : ℕ) (xs b : List A) → length xs ≤ length b �
 laid-holds n xs b h l = rw (laid-length xs b h) l
 
 -- another theta in lent lists
-abbrev beside : List Float → JobSlices → JobSlices
+abbrev beside : List Float → Inputs → Inputs
 beside theta b = lent theta (b .y) (b .weights) (b .offset) (b .x) (b .starts) (b .columns) (b .values)
 
 -- the fronts are there
-fronts-there : (s : List ℕ) (b : JobSlices) (theta : List Float) → Room b → Fits s → Fronts (headerOf (jobOf s)) (beside theta (filled (jobOf s) b))
+fronts-there : (s : List ℕ) (b : Inputs) (theta : List Float) → Room b → Fits s → Fronts (headerOf (jobOf s)) (beside theta (filled (jobOf s) b))
 unfolding headerOf jobOf settingsOf sparseOf filled
 fronts-there s b theta r f =
     let few = entries-few s f in
@@ -98,7 +98,7 @@ fronts-there s b theta r f =
     }
 
 -- so is theta
-theta-there : (s : List ℕ) (b : JobSlices) → Room b → Fits s → headerOf (jobOf s) .thetas ≤ length (filled (jobOf s) b .theta)
+theta-there : (s : List ℕ) (b : Inputs) → Room b → Fits s → headerOf (jobOf s) .thetas ≤ length (filled (jobOf s) b .theta)
 unfolding headerOf jobOf filled
 theta-there s b r f =
     let m = f .small in
@@ -106,7 +106,7 @@ theta-there s b r f =
     laid-holds (length (jobOf s .theta)) (jobOf s .theta) (b .theta) theta theta
 
 -- and they are the job's lists
-fronts-are : (s : List ℕ) (b : JobSlices) (theta : List Float)
+fronts-are : (s : List ℕ) (b : Inputs) (theta : List Float)
     → frontsOf (headerOf (jobOf s)) (beside theta (filled (jobOf s) b)) ≡ inputs theta (jobOf s .y) (jobOf s .weights) (jobOf s .offset) (jobOf s .x) (jobOf s .z .starts) (jobOf s .z .columns) (jobOf s .z .values)
 unfolding headerOf jobOf settingsOf sparseOf filled frontsOf
 fronts-are s b theta =
@@ -120,7 +120,7 @@ fronts-are s b theta =
       laid-front _ _ (b .values) (values-before s (rowsIn s)),
     )
 
-theta-is : (s : List ℕ) (b : JobSlices) → take (headerOf (jobOf s) .thetas - 0) (drop 0 (filled (jobOf s) b .theta)) ≡ jobOf s .theta
+theta-is : (s : List ℕ) (b : Inputs) → take (headerOf (jobOf s) .thetas - 0) (drop 0 (filled (jobOf s) b .theta)) ≡ jobOf s .theta
 unfolding headerOf filled
 theta-is s b = rw (front-is (length (jobOf s .theta)) (laid (jobOf s .theta) (b .theta))) (laid-front _ _ (b .theta) refl)
 
@@ -141,7 +141,7 @@ module _ (s : List ℕ) where
   sound-given theta rows matrices terms results counts e = rw e refl
 
 -- ---- after reading, with room for any job
-module _ (s : List ℕ) (b a : JobSlices) (g : Reading) (room : roomy b ≡ true) (d : ReadDone s b g a) where
+module _ (s : List ℕ) (b a : Inputs) (g : Reading) (room : roomy b ≡ true) (d : ReadDone s b g a) where
   pub fronts-fit : (theta : List Float) (h : Header) → g ≡ Accepted h → Fronts h (beside theta a)
   fronts-fit theta h t =
       let q = accepted-sound s b a h g room t d in

@@ -6,8 +6,7 @@ use lib.Ieee.{Float}
 use lib.ListN.{length, take}
 use Rattle.model.specs.declared.sizes.Settings.{Settings}
 use Rattle.job.specs.Lists.{laid}
-use Rattle.table.specs.Tests.{Inputs, inputs}
-use Rattle.reader.specs.Reading.{JobSlices}
+use Rattle.model.specs.Inputs.{Inputs, inputs}
 use Rattle.reader.specs.declared.whole.Header.{Header}
 use Rattle.results.specs.Nine.{Results}
 
@@ -18,7 +17,7 @@ pub record SizesFew (t : Settings) : Type 0 where
   pub q : t .rows ≤ 32
 
 -- the lists of the header's lengths stand in the fronts of the slices; theta is whole
-pub record Fronts (h : Header) (b : JobSlices) : Type 0 where
+pub record Fronts (h : Header) (b : Inputs) : Type 0 where
   pub sizes : SizesFew (h .settings)
   pub y : h .settings .n ≤ length (b .y)
   pub weights : h .weights ≤ length (b .weights)
@@ -29,7 +28,7 @@ pub record Fronts (h : Header) (b : JobSlices) : Type 0 where
   pub values : h .settings .entries ≤ length (b .values)
 
 -- those lists
-unfoldable pub frontsOf : Header → JobSlices → Inputs
+unfoldable pub frontsOf : Header → Inputs → Inputs
 frontsOf h b =
     inputs (b .theta) (take (h .settings .n) (b .y)) (take (h .weights) (b .weights)) (take (h .offset) (b .offset))
     (take (h .settings .n * h .settings .p) (b .x))

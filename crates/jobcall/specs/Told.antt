@@ -14,7 +14,7 @@ use Rattle.model.specs.declared.sizes.Settings.{Settings}
 use Rattle.job.specs.Lists.{laid}
 use Rattle.job.specs.Job.{Job, Read, faulty, sound, readOf}
 use Rattle.results.specs.Nine.{Results}
-use Rattle.table.specs.Tests.{Inputs, inputs}
+use Rattle.model.specs.Inputs.{Inputs, inputs}
 use Rattle.call.specs.Call.{Lent, lent, Left, callOf}
 
 -- the buffers that a caller lends: three for work, one for the results, one for the counts

@@ -8,8 +8,7 @@ use reader::Header;
 ghost use mathlib.Core.Path.{_≡_};
 ghost use Prim.Native.Nat.{_≤_};
 ghost use Rattle.results.specs.Nine.{nine};
-ghost use Rattle.table.specs.Tests.{inputs};
-ghost use Rattle.reader.specs.Reading.{lent as slices};
+ghost use Rattle.model.specs.Inputs.{inputs};
 ghost use Rattle.call.specs.Call.{lent, callOf};
 ghost use Rattle.jobcall.specs.Told.{resultsLength, betaLength, done, doneOf, doneFor};
 ghost use Rattle.jobcall.specs.Room.{SizesFew, Fronts, frontsOf, RoomFor};
@@ -174,8 +173,8 @@ pub fn fit_fronts(
     terms: &mut [f64],
     results: &mut [f64],
 ) -> Answer
-    requires { ⌜ Fronts header (slices (now theta) (now y) (now weights) (now offset) (now x) (now starts) (now columns) (now values)) ⌝ }
-    ensures { λ a. ⌜ done a (now (rows .exit)) (now (matrices .exit)) (now (terms .exit)) (now (results .exit)) ≡ doneFor (header .settings) shape (frontsOf header (slices (now (theta .entry)) (now (y .entry)) (now (weights .entry)) (now (offset .entry)) (now (x .entry)) (now (starts .entry)) (now (columns .entry)) (now (values .entry)))) (now (rows .entry)) (now (matrices .entry)) (now (terms .entry)) (now (results .entry)) ⌝ }
+    requires { ⌜ Fronts header (inputs (now theta) (now y) (now weights) (now offset) (now x) (now starts) (now columns) (now values)) ⌝ }
+    ensures { λ a. ⌜ done a (now (rows .exit)) (now (matrices .exit)) (now (terms .exit)) (now (results .exit)) ≡ doneFor (header .settings) shape (frontsOf header (inputs (now (theta .entry)) (now (y .entry)) (now (weights .entry)) (now (offset .entry)) (now (x .entry)) (now (starts .entry)) (now (columns .entry)) (now (values .entry)))) (now (rows .entry)) (now (matrices .entry)) (now (terms .entry)) (now (results .entry)) ⌝ }
 {
     let settings = header.settings;
     let weighted = header.weights;

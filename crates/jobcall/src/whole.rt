@@ -12,7 +12,8 @@ ghost use lib.ListN.{length};
 ghost use Rattle.job.specs.Format.{shapeOf};
 ghost use Rattle.job.specs.Faults.{faultOf};
 ghost use Rattle.job.specs.Job.{readOf};
-ghost use Rattle.reader.specs.Reading.{lent as slices, roomy, shapeBy};
+ghost use Rattle.reader.specs.Reading.{roomy, shapeBy};
+ghost use Rattle.model.specs.Inputs.{inputs};
 ghost use Rattle.jobcall.specs.Told.{buffers, told, doneFor, toldBy, answered, withTheta, fitJobOf, fitJobThetaOf};
 ghost use Rattle.jobcall.specs.Room.{Fronts, frontsOf};
 
@@ -34,8 +35,8 @@ fn fit_read(
     results: &mut [f64],
     counts: &mut [u64],
 ) -> u64
-    requires { ⌜ (9 ≤ length (now counts)) × Fronts header (slices (now theta) (now y) (now weights) (now offset) (now x) (now starts) (now columns) (now values)) ⌝ }
-    ensures { λ r. ⌜ told r (buffers (now (rows .exit)) (now (matrices .exit)) (now (terms .exit)) (now (results .exit)) (now (counts .exit))) ≡ toldBy (doneFor (header .settings) (shapeBy (faultOf (now (job .entry))) (shapeOf (now (job .entry)))) (frontsOf header (slices (now (theta .entry)) (now (y .entry)) (now (weights .entry)) (now (offset .entry)) (now (x .entry)) (now (starts .entry)) (now (columns .entry)) (now (values .entry)))) (now (rows .entry)) (now (matrices .entry)) (now (terms .entry)) (now (results .entry))) (now (counts .entry)) ⌝ }
+    requires { ⌜ (9 ≤ length (now counts)) × Fronts header (inputs (now theta) (now y) (now weights) (now offset) (now x) (now starts) (now columns) (now values)) ⌝ }
+    ensures { λ r. ⌜ told r (buffers (now (rows .exit)) (now (matrices .exit)) (now (terms .exit)) (now (results .exit)) (now (counts .exit))) ≡ toldBy (doneFor (header .settings) (shapeBy (faultOf (now (job .entry))) (shapeOf (now (job .entry)))) (frontsOf header (inputs (now (theta .entry)) (now (y .entry)) (now (weights .entry)) (now (offset .entry)) (now (x .entry)) (now (starts .entry)) (now (columns .entry)) (now (values .entry)))) (now (rows .entry)) (now (matrices .entry)) (now (terms .entry)) (now (results .entry))) (now (counts .entry)) ⌝ }
 {
     let shape = reader::read_shape(job);
     let answer = fit_fronts(
@@ -75,7 +76,7 @@ fn call_own(
     results: &mut [f64],
     counts: &mut [u64],
 ) -> u64
-    requires { ⌜ (9 ≤ length (now counts)) × (roomy (slices (now theta) (now y) (now weights) (now offset) (now x) (now starts) (now columns) (now values)) ≡ true) ⌝ }
+    requires { ⌜ (9 ≤ length (now counts)) × (roomy (inputs (now theta) (now y) (now weights) (now offset) (now x) (now starts) (now columns) (now values)) ≡ true) ⌝ }
     ensures { λ r. ⌜ told r (buffers (now (rows .exit)) (now (matrices .exit)) (now (terms .exit)) (now (results .exit)) (now (counts .exit))) ≡ answered (readOf (now (job .entry))) (buffers (now (rows .entry)) (now (matrices .entry)) (now (terms .entry)) (now (results .entry)) (now (counts .entry))) ⌝ }
 {
     match reader::read_job(job, theta, y, weights, offset, x, starts, columns, values) {
@@ -124,7 +125,7 @@ fn call_given(
     results: &mut [f64],
     counts: &mut [u64],
 ) -> u64
-    requires { ⌜ (9 ≤ length (now counts)) × (roomy (slices (now theta) (now y) (now weights) (now offset) (now x) (now starts) (now columns) (now values)) ≡ true) ⌝ }
+    requires { ⌜ (9 ≤ length (now counts)) × (roomy (inputs (now theta) (now y) (now weights) (now offset) (now x) (now starts) (now columns) (now values)) ≡ true) ⌝ }
     ensures { λ r. ⌜ told r (buffers (now (rows .exit)) (now (matrices .exit)) (now (terms .exit)) (now (results .exit)) (now (counts .exit))) ≡ answered (withTheta (now (given .entry)) (readOf (now (job .entry)))) (buffers (now (rows .entry)) (now (matrices .entry)) (now (terms .entry)) (now (results .entry)) (now (counts .entry))) ⌝ }
 {
     match reader::read_job(job, theta, y, weights, offset, x, starts, columns, values) {

@@ -2,6 +2,7 @@
 pub mod Names
 pub mod Shape
 pub mod Settings
+pub mod Inputs
 pub mod Account
 pub mod Items
 pub mod Caps

@@ -7,7 +7,7 @@ use Rattle.base.specs.Number.{zeroF}
 use Rattle.model.specs.declared.sizes.Settings.{Settings}
 use Rattle.job.specs.Job.{Job, Read, faulty, sound, readOf}
 use Rattle.lines.specs.Lines.{refusedLine, Written}
-use Rattle.table.specs.Tests.{Inputs, inputs}
+use Rattle.model.specs.Inputs.{Inputs, inputs}
 use Rattle.call.specs.Call.{Lent, lent, Left, callOf}
 use Rattle.report.specs.Report.{answerText}
 

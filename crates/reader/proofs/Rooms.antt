@@ -17,10 +17,11 @@ use Rattle.job.specs.Faults.{demand, _▹_, isSound, faultOf}
 use Rattle.job.specs.Job.{columnsOf, valuesOf, sparseOf, jobOf}
 use Rattle.reader.specs.declared.whole.Header.{Header}
 use Rattle.reader.specs.declared.whole.Reading.the-variants.{Refused, Accepted}
-use Rattle.reader.specs.Reading.{JobSlices, lent, roomy, readFault, headerOf, readingBy, filled, leftBy, ReadDone}
+use Rattle.reader.specs.Reading.{roomy, readFault, headerOf, readingBy, filled, leftBy, ReadDone}
+use Rattle.model.specs.Inputs.{Inputs, inputs}
 
 -- the lent lists hold any job
-pub record Room (b : JobSlices) : Type 0 where
+pub record Room (b : Inputs) : Type 0 where
   pub thetaRoom : 288 ≤ length (b .theta)
   pub yRoom : 512 ≤ length (b .y)
   pub weightsRoom : 512 ≤ length (b .weights)
@@ -30,7 +31,7 @@ pub record Room (b : JobSlices) : Type 0 where
   pub columnsRoom : 8192 ≤ length (b .columns)
   pub valuesRoom : 8192 ≤ length (b .values)
 
-pub room-of : (b : JobSlices) → roomy b ≡ true → Room b
+pub room-of : (b : Inputs) → roomy b ≡ true → Room b
 unfolding roomy
 room-of b e =
     let t : (leb 288 (length (b .theta)) ≡ true) × (_ ≡ true) = both e in
@@ -52,7 +53,7 @@ room-of b e =
     }
 
 -- the eight lists of a sound job
-pub filled-is : (s : List ℕ) (b : JobSlices) (theta y weights offset x : List Float) (starts columns : List ℕ) (values : List Float)
+pub filled-is : (s : List ℕ) (b : Inputs) (theta y weights offset x : List Float) (starts columns : List ℕ) (values : List Float)
     → theta ≡ laid (build (number s (thetaAt s)) (thetas s)) (b .theta)
     → y ≡ laid (build (number s (yAt s)) (obs s)) (b .y)
     → weights ≡ laid (build (number s (weightsAt s)) (weighted s * obs s)) (b .weights)
@@ -61,16 +62,16 @@ pub filled-is : (s : List ℕ) (b : JobSlices) (theta y weights offset x : List 
     → starts ≡ laid (counts (startOf s) (rowsIn s + 1)) (b .starts)
     → columns ≡ laid (joinTo (rowsIn s) (columnsOf s)) (b .columns)
     → values ≡ laid (joinTo (rowsIn s) (valuesOf s)) (b .values)
-    → lent theta y weights offset x starts columns values ≡ filled (jobOf s) b
+    → inputs theta y weights offset x starts columns values ≡ filled (jobOf s) b
 unfolding filled jobOf sparseOf
 filled-is s b theta y weights offset x starts columns values t u w o c r k v = rw (t, u, w, o, c, r, k, v)
 
 -- ---- the fault of reading
-pub no-room : (s : List ℕ) (b : JobSlices) → roomy b ≡ false → readFault s b ≡ At 2 0
+pub no-room : (s : List ℕ) (b : Inputs) → roomy b ≡ false → readFault s b ≡ At 2 0
 unfolding readFault demand _▹_
 no-room s b e = rw e
 
-pub with-room : (s : List ℕ) (b : JobSlices) → roomy b ≡ true → readFault s b ≡ faultOf s
+pub with-room : (s : List ℕ) (b : Inputs) → roomy b ≡ true → readFault s b ≡ faultOf s
 unfolding readFault demand _▹_
 with-room s b e = rw e
 
@@ -78,10 +79,10 @@ pub sound-is : (f : Fault) → f ≡ Sound → isSound f ≡ true
 unfolding isSound
 sound-is f e = rw e
 
-pub refuses : (s : List ℕ) (b : JobSlices) (r c : ℕ) → readFault s b ≡ At r c → ReadDone s b (Refused r c) b
+pub refuses : (s : List ℕ) (b : Inputs) (r c : ℕ) → readFault s b ≡ At r c → ReadDone s b (Refused r c) b
 unfolding readingBy leftBy
 refuses s b r c e = record { says = rw e; leaves = rw e }
 
-pub accepts : (s : List ℕ) (b a : JobSlices) (h : Header) → readFault s b ≡ Sound → h ≡ headerOf (jobOf s) → a ≡ filled (jobOf s) b → ReadDone s b (Accepted h) a
+pub accepts : (s : List ℕ) (b a : Inputs) (h : Header) → readFault s b ≡ Sound → h ≡ headerOf (jobOf s) → a ≡ filled (jobOf s) b → ReadDone s b (Accepted h) a
 unfolding readingBy leftBy
 accepts s b a h e k l = record { says = rw e (ap Accepted k); leaves = rw e l }

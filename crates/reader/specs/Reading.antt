@@ -4,8 +4,8 @@ use mathlib.Core.Bool.{Bool, _&&_}
 use mathlib.Core.List.{List}
 use Prim.Native.Nat.{ℕ}
 use lib.Dec.{leb}
-use lib.Ieee.{Float}
 use lib.ListN.{length, replicate}
+use Rattle.model.specs.Inputs.{Inputs}
 use Rattle.model.specs.declared.sizes.Shape.{Shape}
 use Rattle.job.specs.declared.faults.Fault.{Fault}
 use Rattle.job.specs.declared.faults.Fault.the-variants.{Sound, At}
@@ -16,30 +16,14 @@ use Rattle.reader.specs.declared.whole.Header.{Header}
 use Rattle.reader.specs.declared.whole.Reading.{Reading}
 use Rattle.reader.specs.declared.whole.Reading.the-variants.{Refused, Accepted}
 
--- the lists that a caller lends for a job's numbers
-pub record JobSlices : Type 0 where
-  pub theta : List Float
-  pub y : List Float
-  pub weights : List Float
-  pub offset : List Float
-  pub x : List Float
-  pub starts : List ℕ
-  pub columns : List ℕ
-  pub values : List Float
-
--- eight lent lists as one record
-abbrev pub lent : List Float → List Float → List Float → List Float → List Float → List ℕ → List ℕ → List Float → JobSlices
-lent theta y weights offset x starts columns values =
-    record { theta = theta; y = y; weights = weights; offset = offset; x = x; starts = starts; columns = columns; values = values }
-
--- they have room for any job that is not refused
-unfoldable pub roomy : JobSlices → Bool
+-- lent lists have room for any job that is not refused
+unfoldable pub roomy : Inputs → Bool
 roomy b =
     leb 288 (length (b .theta)) && (leb 512 (length (b .y)) && (leb 512 (length (b .weights)) && (leb 512 (length (b .offset))
     && (leb 8192 (length (b .x)) && (leb 33 (length (b .starts)) && (leb 8192 (length (b .columns)) && leb 8192 (length (b .values))))))))
 
 -- number 2 where the room is missing, whatever the job; else the job's own fault
-unfoldable pub readFault : List ℕ → JobSlices → Fault
+unfoldable pub readFault : List ℕ → Inputs → Fault
 readFault s b = demand (roomy b) 2 0 ▹ faultOf s
 
 -- what a caller is told of a job beside its lists: the plain numbers of the call, and how long the lists are that a job may lack or whose length its blocks decide
@@ -52,7 +36,7 @@ readingBy Sound j = Accepted (headerOf j)
 readingBy (At r b) j = Refused r b
 
 -- the lent lists with a job's over their fronts
-unfoldable pub filled : Job → JobSlices → JobSlices
+unfoldable pub filled : Job → Inputs → Inputs
 filled j b =
     record {
       theta = laid (j .theta) (b .theta);
@@ -66,12 +50,12 @@ filled j b =
     }
 
 -- the lent lists afterwards: a refused job leaves them as they were
-unfoldable pub leftBy : Fault → Job → JobSlices → JobSlices
+unfoldable pub leftBy : Fault → Job → Inputs → Inputs
 leftBy Sound j b = filled j b
 leftBy (At r c) j b = b
 
 -- reading: the answer and what the lent lists hold
-pub record ReadDone (s : List ℕ) (before : JobSlices) (r : Reading) (after : JobSlices) : Type 0 where
+pub record ReadDone (s : List ℕ) (before : Inputs) (r : Reading) (after : Inputs) : Type 0 where
   pub says : r ≡ readingBy (readFault s before) (jobOf s)
   pub leaves : after ≡ leftBy (readFault s before) (jobOf s) before
 

@@ -15,7 +15,8 @@ ghost use Rattle.model.specs.Names.{familyCoded, linkCoded};
 ghost use Rattle.job.specs.Format.{rowsIn, startOf, shapeOf};
 ghost use Rattle.job.specs.Faults.{isSound, faultOf};
 ghost use Rattle.job.specs.Job.{familyFrom, linkFrom, limitFrom, jobOf};
-ghost use Rattle.reader.specs.Reading.{lent, roomy, headerOf, filled, ReadDone, shapeBy};
+ghost use Rattle.reader.specs.Reading.{roomy, headerOf, filled, ReadDone, shapeBy};
+ghost use Rattle.model.specs.Inputs.{inputs};
 
 // What is told of an accepted job beside its lists: the plain numbers of the call, and the lengths of theta, weights and offset.
 pub struct Header {
@@ -107,7 +108,7 @@ fn room_in(
     columns: &[usize],
     values: &[f64],
 ) -> bool
-    ensures { λ r. ⌜ r ≡ roomy (lent (now (theta .entry)) (now (y .entry)) (now (weights .entry)) (now (offset .entry)) (now (x .entry)) (now (starts .entry)) (now (columns .entry)) (now (values .entry))) ⌝ }
+    ensures { λ r. ⌜ r ≡ roomy (inputs (now (theta .entry)) (now (y .entry)) (now (weights .entry)) (now (offset .entry)) (now (x .entry)) (now (starts .entry)) (now (columns .entry)) (now (values .entry))) ⌝ }
 {
     if theta.len() < 288 {
         return false;
@@ -146,8 +147,8 @@ fn fill_job(
     values: &mut [f64],
 ) -> usize
     requires { ⌜ isSound (faultOf (now s)) ≡ true ⌝ }
-    requires { ⌜ roomy (lent (now theta) (now y) (now weights) (now offset) (now x) (now starts) (now columns) (now values)) ≡ true ⌝ }
-    ensures { λ r. ⌜ (r ≡ startOf (now (s .entry)) (rowsIn (now (s .entry)))) × (lent (now (theta .exit)) (now (y .exit)) (now (weights .exit)) (now (offset .exit)) (now (x .exit)) (now (starts .exit)) (now (columns .exit)) (now (values .exit)) ≡ filled (jobOf (now (s .entry))) (lent (now (theta .entry)) (now (y .entry)) (now (weights .entry)) (now (offset .entry)) (now (x .entry)) (now (starts .entry)) (now (columns .entry)) (now (values .entry)))) ⌝ }
+    requires { ⌜ roomy (inputs (now theta) (now y) (now weights) (now offset) (now x) (now starts) (now columns) (now values)) ≡ true ⌝ }
+    ensures { λ r. ⌜ (r ≡ startOf (now (s .entry)) (rowsIn (now (s .entry)))) × (inputs (now (theta .exit)) (now (y .exit)) (now (weights .exit)) (now (offset .exit)) (now (x .exit)) (now (starts .exit)) (now (columns .exit)) (now (values .exit)) ≡ filled (jobOf (now (s .entry))) (inputs (now (theta .entry)) (now (y .entry)) (now (weights .entry)) (now (offset .entry)) (now (x .entry)) (now (starts .entry)) (now (columns .entry)) (now (values .entry)))) ⌝ }
 {
     let c = job::counts_in(s);
     let at = job::places_in(s);
@@ -183,7 +184,7 @@ pub fn read_job(
     columns: &mut [usize],
     values: &mut [f64],
 ) -> Reading
-    ensures { λ r. ⌜ ReadDone (now (s .entry)) (lent (now (theta .entry)) (now (y .entry)) (now (weights .entry)) (now (offset .entry)) (now (x .entry)) (now (starts .entry)) (now (columns .entry)) (now (values .entry))) r (lent (now (theta .exit)) (now (y .exit)) (now (weights .exit)) (now (offset .exit)) (now (x .exit)) (now (starts .exit)) (now (columns .exit)) (now (values .exit))) ⌝ }
+    ensures { λ r. ⌜ ReadDone (now (s .entry)) (inputs (now (theta .entry)) (now (y .entry)) (now (weights .entry)) (now (offset .entry)) (now (x .entry)) (now (starts .entry)) (now (columns .entry)) (now (values .entry))) r (inputs (now (theta .exit)) (now (y .exit)) (now (weights .exit)) (now (offset .exit)) (now (x .exit)) (now (starts .exit)) (now (columns .exit)) (now (values .exit))) ⌝ }
 {
     let room = room_in(theta, y, weights, offset, x, starts, columns, values);
     if !room {

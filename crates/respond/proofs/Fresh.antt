@@ -11,7 +11,7 @@ use Rattle.base.specs.Number.{zeroF}
 use Rattle.model.specs.declared.sizes.Settings.{Settings}
 use Rattle.model.specs.declared.sizes.Shape.{Shape}
 use Rattle.results.specs.Nine.{nine}
-use Rattle.table.specs.Tests.{Inputs}
+use Rattle.model.specs.Inputs.{Inputs}
 use Rattle.reader.specs.Reading as reading
 use Rattle.call.specs.Call.{lent, callOf}
 use Rattle.report.specs.Report.{Few}

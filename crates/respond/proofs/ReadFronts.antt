@@ -20,14 +20,15 @@ use Rattle.lines.specs.Lines.{refusedLine}
 use Rattle.reader.specs.declared.whole.Header.{Header}
 use Rattle.reader.specs.declared.whole.Reading.{Reading}
 use Rattle.reader.specs.declared.whole.Reading.the-variants.{Refused, Accepted}
-use Rattle.reader.specs.Reading.{JobSlices, roomy, headerOf, readingBy, filled, leftBy, ReadDone, shapeBy}
+use Rattle.reader.specs.Reading.{roomy, headerOf, readingBy, filled, leftBy, ReadDone, shapeBy}
+use Rattle.model.specs.Inputs.{Inputs}
 use Rattle.reader.proofs.Rooms.{Room, room-of, with-room, sound-is}
 use Rattle.call.specs.Call.{callOf}
 use Rattle.output.specs.Output.{slicesFor, inputsOf, callFor, leftText, outputBy, outputOf}
 use Rattle.respond.specs.Room.{Fronts, frontsOf}
 
 -- a job that was refused, with room for any, had that fault
-pub refused-fault : (s : List ℕ) (b a : JobSlices) (r c : ℕ) (g : Reading) → roomy b ≡ true → g ≡ Refused r c → ReadDone s b g a → faultOf s ≡ At r c
+pub refused-fault : (s : List ℕ) (b a : Inputs) (r c : ℕ) (g : Reading) → roomy b ≡ true → g ≡ Refused r c → ReadDone s b g a → faultOf s ≡ At r c
 unfolding readingBy
 refused-fault s b a r c g room t d = by (faultOf s) refl (rw (t, with-room s b room) at (d .says))
   where
@@ -36,12 +37,12 @@ refused-fault s b a r c g room t d = by (faultOf s) refl (rw (t, with-room s b r
     by (At v k) e p = cc
 
 -- a job that was accepted is sound, and was told and laid
-pub record ReadSound (s : List ℕ) (b : JobSlices) (h : Header) (a : JobSlices) : Type 0 where
+pub record ReadSound (s : List ℕ) (b : Inputs) (h : Header) (a : Inputs) : Type 0 where
   pub fault : faultOf s ≡ Sound
   pub told : h ≡ headerOf (jobOf s)
   pub laidThere : a ≡ filled (jobOf s) b
 
-pub accepted-sound : (s : List ℕ) (b a : JobSlices) (h : Header) (g : Reading) → roomy b ≡ true → g ≡ Accepted h → ReadDone s b g a → ReadSound s b h a
+pub accepted-sound : (s : List ℕ) (b a : Inputs) (h : Header) (g : Reading) → roomy b ≡ true → g ≡ Accepted h → ReadDone s b g a → ReadSound s b h a
 unfolding readingBy leftBy
 accepted-sound s b a h g room t d = by (faultOf s) refl (rw (t, with-room s b room) at (d .says)) (rw (with-room s b room) at (d .leaves))
   where
@@ -63,7 +64,7 @@ laid-holds : {A : Type 0} (n : ℕ) (xs b : List A) → length xs ≤ length b �
 laid-holds n xs b h l = rw (laid-length xs b h) l
 
 -- the fronts are there
-fronts-there : (s : List ℕ) (b : JobSlices) → Room b → Fits s → Fronts (headerOf (jobOf s)) (filled (jobOf s) b)
+fronts-there : (s : List ℕ) (b : Inputs) → Room b → Fits s → Fronts (headerOf (jobOf s)) (filled (jobOf s) b)
 unfolding headerOf jobOf settingsOf sparseOf filled
 fronts-there s b r f =
     let few = entries-few s f in
@@ -89,7 +90,7 @@ fronts-there s b r f =
     }
 
 -- and they are the job's lists
-fronts-are : (s : List ℕ) (b : JobSlices) → frontsOf (headerOf (jobOf s)) (filled (jobOf s) b) ≡ inputsOf (jobOf s)
+fronts-are : (s : List ℕ) (b : Inputs) → frontsOf (headerOf (jobOf s)) (filled (jobOf s) b) ≡ inputsOf (jobOf s)
 unfolding headerOf jobOf settingsOf sparseOf filled frontsOf
 fronts-are s b =
     rw (
@@ -103,13 +104,13 @@ fronts-are s b =
       laid-front _ _ (b .values) (values-before s (rowsIn s)),
     )
 
-pub fronts-fit : (s : List ℕ) (b a : JobSlices) (h : Header) (g : Reading) → roomy b ≡ true → g ≡ Accepted h → ReadDone s b g a → Fronts h a
+pub fronts-fit : (s : List ℕ) (b a : Inputs) (h : Header) (g : Reading) → roomy b ≡ true → g ≡ Accepted h → ReadDone s b g a → Fronts h a
 fronts-fit s b a h g room t d =
     let q = accepted-sound s b a h g room t d in
     rw (q .told, q .laidThere) (fronts-there s b (room-of b room) (sound-fits s (sound-is _ (q .fault))))
 
 -- ---- what is printed
-pub refused-output : (s : List ℕ) (b a : JobSlices) (r c : ℕ) (g : Reading) → roomy b ≡ true → g ≡ Refused r c → ReadDone s b g a → refusedLine r c ≡ outputOf s
+pub refused-output : (s : List ℕ) (b a : Inputs) (r c : ℕ) (g : Reading) → roomy b ≡ true → g ≡ Refused r c → ReadDone s b g a → refusedLine r c ≡ outputOf s
 unfolding outputOf outputBy readOf readBy
 refused-output s b a r c g room t d = rw (refused-fault s b a r c g room t d)
 
@@ -117,7 +118,7 @@ sound-output : (s : List ℕ) → faultOf s ≡ Sound → leftText (callFor (job
 unfolding outputOf outputBy readOf readBy
 sound-output s e = rw e
 
-pub called-output : (s : List ℕ) (b a : JobSlices) (h : Header) (g : Reading) (shape : Shape) → roomy b ≡ true → g ≡ Accepted h → ReadDone s b g a → shape ≡ shapeBy (faultOf s) (shapeOf s)
+pub called-output : (s : List ℕ) (b a : Inputs) (h : Header) (g : Reading) (shape : Shape) → roomy b ≡ true → g ≡ Accepted h → ReadDone s b g a → shape ≡ shapeBy (faultOf s) (shapeOf s)
     → leftText (callOf (h .settings) shape (frontsOf h a) (slicesFor (h .settings))) ≡ outputOf s
 unfolding headerOf jobOf shapeBy
 called-output s b a h g shape room t d e =

@@ -9,7 +9,7 @@ use Rattle.model.specs.declared.sizes.Shape.{Shape}
 use Rattle.job.specs.Lists.{laid}
 use Rattle.lines.specs.Lines.{refusedLine, Written}
 use Rattle.results.specs.Nine.{nine}
-use Rattle.table.specs.Tests.{inputs}
+use Rattle.model.specs.Inputs.{inputs}
 use Rattle.reader.specs.declared.whole.Header.{Header}
 use Rattle.reader.specs.Reading as reading
 use Rattle.call.specs.Call.{Left, callOf}

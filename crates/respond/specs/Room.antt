@@ -2,8 +2,7 @@
 use Prim.Native.Nat.{_+_, _*_, _≤_}
 use lib.ListN.{length, take}
 use Rattle.model.specs.declared.sizes.Settings.{Settings}
-use Rattle.table.specs.Tests.{Inputs, inputs}
-use Rattle.reader.specs.Reading.{JobSlices}
+use Rattle.model.specs.Inputs.{Inputs, inputs}
 use Rattle.reader.specs.declared.whole.Header.{Header}
 
 -- n, p and q are in range from above
@@ -13,7 +12,7 @@ pub record SizesFew (t : Settings) : Type 0 where
   pub q : t .rows ≤ 32
 
 -- the lists of the header's lengths stand in the fronts of the slices
-pub record Fronts (h : Header) (b : JobSlices) : Type 0 where
+pub record Fronts (h : Header) (b : Inputs) : Type 0 where
   pub sizes : SizesFew (h .settings)
   pub theta : h .thetas ≤ length (b .theta)
   pub y : h .settings .n ≤ length (b .y)
@@ -25,7 +24,7 @@ pub record Fronts (h : Header) (b : JobSlices) : Type 0 where
   pub values : h .settings .entries ≤ length (b .values)
 
 -- those lists
-unfoldable pub frontsOf : Header → JobSlices → Inputs
+unfoldable pub frontsOf : Header → Inputs → Inputs
 frontsOf h b =
     inputs (take (h .thetas) (b .theta)) (take (h .settings .n) (b .y)) (take (h .weights) (b .weights)) (take (h .offset) (b .offset))
     (take (h .settings .n * h .settings .p) (b .x))

@@ -6,8 +6,7 @@ ghost use Prim.Native.Nat.{_≤_};
 ghost use lib.ListN.{length};
 ghost use Rattle.lines.specs.Lines.{Written};
 ghost use Rattle.results.specs.Nine.{nine};
-ghost use Rattle.table.specs.Tests.{inputs};
-ghost use Rattle.reader.specs.Reading.{lent as slices};
+ghost use Rattle.model.specs.Inputs.{inputs};
 ghost use Rattle.call.specs.Call.{lent, callOf};
 ghost use Rattle.report.specs.Report.{Few};
 ghost use Rattle.output.specs.Output.{slicesFor, leftText};
@@ -143,8 +142,8 @@ pub fn fit_fronts(
     columns: &[usize],
     values: &[f64],
 ) -> usize
-    requires { ⌜ (131072 ≤ length (now out)) × Fronts header (slices (now theta) (now y) (now weights) (now offset) (now x) (now starts) (now columns) (now values)) ⌝ }
-    ensures { λ r. ⌜ Written (leftText (callOf (header .settings) shape (frontsOf header (slices (now (theta .entry)) (now (y .entry)) (now (weights .entry)) (now (offset .entry)) (now (x .entry)) (now (starts .entry)) (now (columns .entry)) (now (values .entry)))) (slicesFor (header .settings)))) (now (out .entry)) r (now (out .exit)) ⌝ }
+    requires { ⌜ (131072 ≤ length (now out)) × Fronts header (inputs (now theta) (now y) (now weights) (now offset) (now x) (now starts) (now columns) (now values)) ⌝ }
+    ensures { λ r. ⌜ Written (leftText (callOf (header .settings) shape (frontsOf header (inputs (now (theta .entry)) (now (y .entry)) (now (weights .entry)) (now (offset .entry)) (now (x .entry)) (now (starts .entry)) (now (columns .entry)) (now (values .entry)))) (slicesFor (header .settings)))) (now (out .entry)) r (now (out .exit)) ⌝ }
 {
     let settings = header.settings;
     let thetas = header.thetas;

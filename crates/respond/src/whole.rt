@@ -6,7 +6,8 @@ ghost use mathlib.Core.Bool.{true};
 ghost use Prim.Native.Nat.{_≤_};
 ghost use lib.ListN.{length};
 ghost use Rattle.lines.specs.Lines.{Written};
-ghost use Rattle.reader.specs.Reading.{lent, roomy};
+ghost use Rattle.reader.specs.Reading.{roomy};
+ghost use Rattle.model.specs.Inputs.{inputs};
 ghost use Rattle.output.specs.Output.{outputOf, WrittenLong};
 
 // Reads a job into lent slices and answers it.
@@ -22,7 +23,7 @@ fn respond_with(
     columns: &mut [usize],
     values: &mut [f64],
 ) -> usize
-    requires { ⌜ (131072 ≤ length (now out)) × (roomy (lent (now theta) (now y) (now weights) (now offset) (now x) (now starts) (now columns) (now values)) ≡ true) ⌝ }
+    requires { ⌜ (131072 ≤ length (now out)) × (roomy (inputs (now theta) (now y) (now weights) (now offset) (now x) (now starts) (now columns) (now values)) ≡ true) ⌝ }
     ensures { λ r. ⌜ Written (outputOf (now (job .entry))) (now (out .entry)) r (now (out .exit)) ⌝ }
 {
     match reader::read_job(job, theta, y, weights, offset, x, starts, columns, values) {

@@ -18,7 +18,8 @@ use Rattle.model.proofs.Tests.{both, false-unless}
 use Rattle.layout.specs.WorkRows.{rowsLength}
 use Rattle.layout.specs.WorkMatrices.{matricesLength}
 use Rattle.layout.specs.WorkTerms.{termsLength}
-use Rattle.table.specs.Tests.{Inputs, absentOr, goodInputs, goodResults, goodWork, allFinite, finiteNumbers, goodNumbers}
+use Rattle.table.specs.Tests.{absentOr, goodInputs, goodResults, goodWork, allFinite, finiteNumbers, goodNumbers}
+use Rattle.model.specs.Inputs.{Inputs}
 use Rattle.table.specs.Facts.{AbsentOr, InputsFit, ResultsFit, WorkFits, AllFinite, NumbersFinite}
 use Rattle.table.specs.declared.verdicts.LentLengths.{LentLengths}
 

@@ -21,7 +21,7 @@ use Rattle.family.specs.declared.carried.CarriedFamily.{CarriedFamily}
 use Rattle.family.specs.declared.carried.CarriedLink.{CarriedLink}
 use Rattle.family.specs.declared.carried.FamilyCarried.the-variants as familyCarried
 use Rattle.family.specs.declared.carried.LinkCarried.the-variants as linkCarried
-use Rattle.table.specs.Tests.{Inputs}
+use Rattle.model.specs.Inputs.{Inputs}
 use Rattle.table.specs.declared.verdicts.LentLengths.{LentLengths}
 
 -- a list is absent, or has n numbers

@@ -15,7 +15,8 @@ use Rattle.family.specs.declared.carried.FamilyCarried.{FamilyCarried}
 use Rattle.family.specs.declared.carried.FamilyCarried.the-variants as familyCarried
 use Rattle.family.specs.declared.carried.LinkCarried.{LinkCarried}
 use Rattle.family.specs.declared.carried.LinkCarried.the-variants as linkCarried
-use Rattle.table.specs.Tests.{Inputs, goodInputs, goodResults, goodWork, goodNumbers}
+use Rattle.table.specs.Tests.{goodInputs, goodResults, goodWork, goodNumbers}
+use Rattle.model.specs.Inputs.{Inputs}
 use Rattle.table.specs.declared.verdicts.LentLengths.{LentLengths}
 use Rattle.table.specs.declared.verdicts.Verdict.{Verdict}
 use Rattle.table.specs.declared.verdicts.Verdict.the-variants.{Accepted, Refused}

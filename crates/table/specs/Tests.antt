@@ -6,6 +6,7 @@ use lib.Dec.{leb, eqb}
 use lib.ListN.{length}
 use lib.Ieee.{Float}
 use Rattle.base.specs.Sum.{allTo, finiteAt}
+use Rattle.model.specs.Inputs.{Inputs}
 use Rattle.model.specs.Shape.{thetaLength}
 use Rattle.model.specs.declared.sizes.Shape.{Shape}
 use Rattle.model.specs.declared.sizes.Settings.{Settings}
@@ -13,22 +14,6 @@ use Rattle.layout.specs.WorkRows.{rowsLength}
 use Rattle.layout.specs.WorkMatrices.{matricesLength}
 use Rattle.layout.specs.WorkTerms.{termsLength}
 use Rattle.table.specs.declared.verdicts.LentLengths.{LentLengths}
-
--- the lent inputs; Z' by its row starts, columns and values
-pub record Inputs : Type 0 where
-  pub theta : List Float
-  pub y : List Float
-  pub weights : List Float
-  pub offset : List Float
-  pub x : List Float
-  pub starts : List ℕ
-  pub columns : List ℕ
-  pub values : List Float
-
--- eight lists as inputs
-abbrev pub inputs : List Float → List Float → List Float → List Float → List Float → List ℕ → List ℕ → List Float → Inputs
-inputs theta y weights offset x starts columns values =
-    record { theta = theta; y = y; weights = weights; offset = offset; x = x; starts = starts; columns = columns; values = values }
 
 -- ---- number 2, with r responses on one design
 

@@ -6,7 +6,8 @@ ghost use mathlib.Core.Path.{_≡_};
 ghost use mathlib.Core.Bool.{true};
 ghost use Prim.Native.Nat.{_≤_};
 ghost use Rattle.model.specs.Settings.{goodSizes, Sizes};
-ghost use Rattle.table.specs.Tests.{absentOr, inputs, goodInputs, goodResults, goodWork};
+ghost use Rattle.table.specs.Tests.{absentOr, goodInputs, goodResults, goodWork};
+ghost use Rattle.model.specs.Inputs.{inputs};
 
 // A list that may be absent is empty or has one number for each observation.
 fn absent_or(n: usize, length: usize) -> bool

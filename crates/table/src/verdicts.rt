@@ -13,7 +13,7 @@ use model::Refusal;
 use model::Settings;
 use model::Shape;
 ghost use mathlib.Core.Path.{_≡_};
-ghost use Rattle.table.specs.Tests.{inputs};
+ghost use Rattle.model.specs.Inputs.{inputs};
 ghost use Rattle.table.specs.Table.{carriedPair, tableOf};
 
 // How long the lent results and the lent work slices are.

@@ -1,7 +1,7 @@
 -- `jobcall::fit_results` meets its contract: parts of arrays that are +0.0 are what is to be lent. Assumes nothing.
 use mathlib.Core.Path.{_∙_}
 use native.Mathlib.Omega.{arith}
-use Rattle.table.specs.Tests.{inputs}
+use Rattle.model.specs.Inputs.{inputs}
 use Rattle.jobcall.proofs.Lent.{cells-few, beta-few, room-for, done-fresh}
 use borrow.Author.Needs.{needs}
 use Rattle.jobcall.proofs.fronts.fit_results.Statement.{statement}

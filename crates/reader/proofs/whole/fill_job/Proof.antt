@@ -2,7 +2,7 @@
 use mathlib.Core.Path.{refl}
 use native.Mathlib.Omega.{arith}
 use Rattle.job.proofs.RowLaws.{Fits, sound-fits}
-use Rattle.reader.specs.Reading.{lent}
+use Rattle.model.specs.Inputs.{inputs}
 use Rattle.reader.proofs.Rooms.{Room, room-of, filled-is}
 use Rattle.reader.proofs.whole.fill_job.Statement.{statement}
 use Rattle.reader.proofs.whole.fill_job.Tie as tie
@@ -10,7 +10,7 @@ use Rattle.reader.proofs.whole.fill_job.Tie as tie
 fits : (c : tie.Start) → Fits (c .args .s .now)
 fits c = sound-fits _ (c .pre .0)
 
-room : (c : tie.Start) → Room (lent (c .args .theta .now) (c .args .y .now) (c .args .weights .now) (c .args .offset .now) (c .args .x .now) (c .args .starts .now) (c .args .columns .now) (c .args .values .now))
+room : (c : tie.Start) → Room (inputs (c .args .theta .now) (c .args .y .now) (c .args .weights .now) (c .args .offset .now) (c .args .x .now) (c .args .starts .now) (c .args .columns .now) (c .args .values .now))
 room c = room-of _ (c .pre .1)
 
 counts-in-requires : tie.Need-counts-in-requires

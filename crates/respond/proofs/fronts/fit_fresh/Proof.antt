@@ -1,6 +1,6 @@
 -- `respond::fit_fresh` meets its contract: the parts of its arrays are what the program lends. Assumes nothing.
 use native.Mathlib.Omega.{arith}
-use Rattle.table.specs.Tests.{inputs}
+use Rattle.model.specs.Inputs.{inputs}
 use Rattle.respond.proofs.Fresh.{cells-few, fresh-few, called-fresh}
 use Rattle.respond.proofs.Telling.{told-of}
 use borrow.Author.Needs.{needs}
