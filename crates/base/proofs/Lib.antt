@@ -6,6 +6,7 @@ pub mod Sums
 pub mod Order
 pub mod Fills
 pub mod Rows
+pub mod TwoRows
 pub mod InPlace
 pub mod SparseRows
 pub mod Loops

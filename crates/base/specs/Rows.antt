@@ -24,6 +24,11 @@ pub record Only (b n : ℕ) (v w : List Float) : Type 0 where
   pub len : length w ≡ length v
   pub kept : (j : ℕ) → Out b n j → w ! j ≡ v ! j
 
+-- w is as v, but for the n places from b on and the k places from c on
+pub record OnlyTwo (b n c k : ℕ) (v w : List Float) : Type 0 where
+  pub len : length w ≡ length v
+  pub kept : (j : ℕ) → Out b n j → Out c k j → w ! j ≡ v ! j
+
 -- the row at b, and no other place, is f
 pub record Wrote (b n : ℕ) (f v w : List Float) : Type 0 where
   pub row' : row b n w ≡ f

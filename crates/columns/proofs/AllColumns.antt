@@ -9,7 +9,7 @@ use lib.ListN.{length}
 use lib.Ieee.{Float}
 use Rattle.base.specs.Sum.{_!_}
 use Rattle.base.specs.List.{at}
-use Rattle.base.specs.Rows.{row, Only}
+use Rattle.base.specs.Rows.{row, Only, OnlyTwo}
 use Rattle.base.specs.Sparse.{Sparse}
 use Rattle.base.proofs.Sums.{lt-or-ge}
 use Rattle.base.proofs.Fills.{row-fits, build-at, matrix-at}
@@ -25,9 +25,10 @@ use Rattle.factor.specs.Triangle.{SameBelow}
 use Rattle.rule.specs.Given.{Design, qOf, designOf}
 use Rattle.rule.specs.Solve.{unsolvedColumn, solvedColumnAt, solvedColumns, normalEntry, normalOf, normalSideAt, normalSide}
 use Rattle.rule.specs.Working.{weightedColumn}
-use Rattle.columns.specs.Columns.{OnlyTwo, ColumnLeft, ColumnOf, ColumnsLeft, ColumnsOf}
+use Rattle.columns.specs.Columns.{ColumnLeft, ColumnOf, ColumnsLeft, ColumnsOf}
 use Rattle.layout.proofs.LaidOut.{lent-kept}
-use Rattle.columns.proofs.Laws.{normal-same, matrix-is, two-row}
+use Rattle.columns.proofs.Laws.{normal-same}
+use Rattle.base.proofs.TwoRows.{matrix-is, two-row}
 use Rattle.columns.proofs.OneColumn.{Within, within}
 
 -- the columns below a stand as they will at the end

@@ -1,27 +1,22 @@
--- Laws of two rows of a work slice, and what an entry of the normal matrix looks at. Assumes nothing.
-use mathlib.Core.Path.{_≡_, sym, ap, _∙_}
+-- What an entry of the normal matrix looks at, and a right side in a part of a work slice. Assumes nothing.
+use mathlib.Core.Path.{_≡_, ap}
 use mathlib.Core.List.{List}
-use mathlib.Core.Logic.{inl, inr, ⊎-elim}
-use Prim.Native.Nat.{ℕ, _+_, _-_, _*_, _/_, _%_, _<_, _≤_}
-use native.Mathlib.Omega.{arith}
-use borrow.Rule.Slice.PartMut.{putMid, midOf, mid-len}
-use lib.ListN.{length, set, length-set}
-use lib.Seq.{getD-set-other, ext-getD}
-use lib.Ieee.{Float, nan}
+use Prim.Native.Nat.{ℕ, _+_, _-_, _<_, _≤_}
+use borrow.Rule.Slice.PartMut.{putMid, midOf}
+use lib.ListN.{length}
+use lib.Ieee.{Float}
 use Rattle.base.specs.Number.{_⊖_, _⊗_}
 use Rattle.base.specs.Sum.{_!_}
-use Rattle.base.specs.List.{matrix, at}
-use Rattle.base.specs.Rows.{row, Apart, Only, Wrote}
+use Rattle.base.specs.List.{at}
 use Rattle.base.specs.Sparse.{Sparse}
 use Rattle.base.proofs.Sums.{sum-cong}
-use Rattle.base.proofs.Fills.{build-is, by-place}
-use Rattle.base.proofs.Rows.{row-at, row-length, part-wrote}
+use Rattle.base.proofs.TwoRows.{part-made}
 use Rattle.model.specs.declared.sizes.Shape.{Shape}
 use Rattle.linear.specs.Product.{columnDot, mixedTerm, normalAt}
 use Rattle.rule.specs.Solve.{sideOf}
 use Rattle.solve.specs.Ready.{Whatever, IsSide}
 use Rattle.rule.specs.Given.{designOf}
-use Rattle.columns.specs.Columns.{OnlyTwo, WroteSide}
+use Rattle.columns.specs.Columns.{WroteSide}
 
 -- an entry of the normal matrix looks at no solved column but W_b
 pub normal-same : (x : List Float) (p n : ℕ) (xw v W W' : List Float) (q b : ℕ) → ((i : ℕ) → i < q → at q W b i ≡ at q W' b i)
@@ -30,43 +25,7 @@ unfolding normalAt
 normal-same x p n xw v W W' q b h =
     ap (λ (y : Float). columnDot x p n xw b ⊖ y) (sum-cong q (mixedTerm v W q b) (mixedTerm v W' q b) (λ i l. ap (λ (y : Float). (v ! i) ⊗ y) (h i l)))
 
--- a list with the matrix's entries is the matrix
-pub matrix-is : (r c : ℕ) (f : ℕ → ℕ → Float) (w : List Float) → length w ≡ r * c → ((i j : ℕ) → i < r → j < c → at c w i j ≡ f i j) → w ≡ matrix r c f
-unfolding matrix
-matrix-is r c f w l h = build-is (λ t. f (t / c) (t % c)) (r * c) w l (by-place r c f w h)
-
--- a store changes its place only
-pub set-only : (b : ℕ) (v : List Float) (x : Float) → Only b 1 v (set v b x)
-set-only b v x =
-    record {
-      len = length-set v b x;
-      kept = λ j o. getD-set-other v b j x nan (⊎-elim (λ (l : j < b). λ e. omega arith) (λ (l : b + 1 ≤ j). λ e. omega arith) o);
-    }
-
--- one change, then another
-pub two-of : (b n c k : ℕ) {u v w : List Float} → Only b n u v → Only c k v w → OnlyTwo b n c k u w
-two-of b n c k p q = record { len = q .len ∙ p .len; kept = λ j o o'. q .kept j o' ∙ p .kept j o }
-
--- a row apart from both changes is as it was
-pub two-row : (d i b n c k : ℕ) {v w : List Float} → Apart d i b n → Apart d i c k → d + i ≤ length v → OnlyTwo b n c k v w → row d i w ≡ row d i v
-two-row d i b n c k {v} {w} s s' h p =
-    ext-getD nan (row d i w) (row d i v) (row-length d i w hw ∙ sym (row-length d i v h))
-    (λ j l.
-    let l' : j < i = omega (arith, row-length d i w hw) in
-    row-at d i w hw j l'
-    ∙ p .kept (d + j) (⊎-elim (λ x. inl (omega arith)) (λ x. inr (omega arith)) s) (⊎-elim (λ x. inl (omega arith)) (λ x. inr (omega arith)) s')
-    ∙ sym (row-at d i v h j l'))
-  where
-    hw : d + i ≤ length w
-    hw = omega (arith, p .len)
-
--- ---- a part that was lent once
-pub part-made : (b n e : ℕ) (f w ys : List Float) → e ≡ b + n → e ≤ length w → length ys ≡ length (midOf b (e - b) w) → ys ≡ f → Wrote b n f w (putMid b (e - b) w ys)
-part-made b n e f w ys eb h l y =
-    let v : Wrote b n ys w (putMid b (e - b) w ys) = part-wrote b n e w ys eb h (l ∙ mid-len b e w h ∙ omega arith) in
-    record { row' = v .row' ∙ y; only = v .only }
-
--- with a right side
+-- a part that was lent once with a right side
 pub side-wrote : (n q b e : ℕ) (shape : Shape) (theta : List Float) (zt : Sparse) (v t ys : List Float) → e ≡ b + q → e ≤ length t → length ys ≡ length (midOf b (e - b) t)
     → Whatever n shape theta zt (IsSide v ys) → Whatever n shape theta zt (WroteSide b q v t (putMid b (e - b) t ys))
 side-wrote n q b e shape theta zt v t ys eb h l y p offset x = part-made b q e (sideOf (designOf n p shape theta offset x zt) v) t ys eb h l (y p offset x)

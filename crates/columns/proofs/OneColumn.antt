@@ -32,7 +32,7 @@ use Rattle.rule.specs.Working.{weightedColumn}
 use Rattle.rule.specs.Solve.{sideOf, unsolvedColumn, solvedColumn, normalEntry, normalSideAt}
 use Rattle.solve.specs.Ready.{Whatever}
 use Rattle.columns.specs.Columns.{WroteSide, ColumnOf}
-use Rattle.columns.proofs.Laws.{set-only, two-of}
+use Rattle.base.proofs.TwoRows.{set-only, two-of}
 
 -- the pieces of column a lie within those of all columns, and these within the work slices
 pub record Within (n p q a : ℕ) (r m t : List Float) : Type 0 where

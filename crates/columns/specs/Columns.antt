@@ -2,11 +2,10 @@
 use mathlib.Core.Path.{_≡_}
 use mathlib.Core.List.{List}
 use Prim.Native.Nat.{ℕ, _+_, _*_}
-use lib.ListN.{length}
 use lib.Ieee.{Float}
 use Rattle.base.specs.Sum.{_!_}
 use Rattle.base.specs.List.{build}
-use Rattle.base.specs.Rows.{row, Out, Only, Wrote}
+use Rattle.base.specs.Rows.{row, Only, OnlyTwo, Wrote}
 use Rattle.base.specs.Sparse.{Sparse}
 use Rattle.model.specs.declared.sizes.Shape.{Shape}
 use Rattle.layout.specs.WorkRows.{columnRow, workingRow}
@@ -19,11 +18,6 @@ use Rattle.rule.specs.Solve.{sideOf, solvedColumn, solvedColumns, normalEntry, 
 -- Λ'(Z'v) is the row at b, and nothing else has changed
 abbrev pub WroteSide : ℕ → ℕ → List Float → List Float → List Float → Design → Type 0
 WroteSide b q v t t' D = Wrote b q (sideOf D v) t t'
-
--- w is as v, but for the n places from b on and the k places from c on
-pub record OnlyTwo (b n c k : ℕ) (v w : List Float) : Type 0 where
-  pub len : length w ≡ length v
-  pub kept : (j : ℕ) → Out b n j → Out c k j → w ! j ≡ v ! j
 
 -- ---- one column
 

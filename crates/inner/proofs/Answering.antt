@@ -7,10 +7,9 @@ use Prim.Native.Nat.{ℕ, _+_, _*_, _≤_, _<_}
 use native.Mathlib.Omega.{arith}
 use lib.ListN.{length, replicate}
 use lib.Ieee.{Float}
-use Rattle.base.specs.Rows.{row, Out, Apart, Only}
+use Rattle.base.specs.Rows.{row, Out, Apart, Only, OnlyTwo}
 use Rattle.base.proofs.Rows.{only-trans}
-use Rattle.columns.specs.Columns.{OnlyTwo}
-use Rattle.columns.proofs.Laws.{two-row}
+use Rattle.base.proofs.TwoRows.{two-row}
 use Rattle.family.specs.Carried.{linkOf}
 use Rattle.layout.specs.Layout.{WorkRoom, MatricesLaid}
 use Rattle.layout.specs.WorkMatrices.{inversePlace, rootInversePlace, uPlace, trialUPlace, betaPlace, matricesLength}

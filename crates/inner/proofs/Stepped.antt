@@ -15,8 +15,7 @@ use Rattle.base.specs.Rows.{row, Wrote}
 use Rattle.base.specs.Sparse.{Sparse}
 use Rattle.base.specs.Sum.{_!!_}
 use Rattle.base.proofs.Rows.{part-is, only-row, only-none, filled-part}
-use Rattle.columns.specs.Columns.{OnlyTwo}
-use Rattle.columns.proofs.Laws.{two-of}
+use Rattle.base.proofs.TwoRows.{two-none, two-of}
 use Rattle.family.specs.declared.carried.CarriedFamily.{CarriedFamily}
 use Rattle.family.specs.declared.carried.CarriedLink.{CarriedLink}
 use Rattle.layout.specs.WorkMatrices.{betaPlace, logWeightsPlace}
@@ -79,9 +78,6 @@ reads-stand G k fit r r' m l d w =
       system = d .system;
       u = d .u;
     }
-
-two-none : (b n c k : ℕ) (w : List Float) → OnlyTwo b n c k w w
-two-none b n c k w = record { len = refl; kept = λ j o o'. refl }
 
 module _ (family : CarriedFamily) (link : CarriedLink) (shape : Shape) (theta : List Float) (zt : Sparse) (y weights offset : List Float) (n p q : ℕ) (x : List Float) (wish : ℕ) (phi fit : Float) where
   abbrev G : Given

@@ -3,14 +3,13 @@ use mathlib.Core.Path.{_≡_}
 use mathlib.Core.List.{List}
 use Prim.Native.Nat.{ℕ, _+_, _*_, _≤_}
 use lib.Ieee.{Float}
-use Rattle.base.specs.Rows.{row, Only}
+use Rattle.base.specs.Rows.{row, Only, OnlyTwo}
 use Rattle.layout.specs.WorkRows.{xbetaRow, devianceRow, pointRow}
 use Rattle.layout.specs.WorkMatrices.{systemPlace, inversePlace, uPlace, trialUPlace, betaPlace}
 use Rattle.layout.specs.WorkTerms.{termsLength}
 use Rattle.quadrature.specs.declared.orders.Decline.{Decline}
 use Rattle.rule.specs.Given.{Given, nOf, qOf}
 use Rattle.rule.specs.Stop.{Mode}
-use Rattle.columns.specs.Columns.{OnlyTwo}
 use Rattle.agq_rule.specs.Steps.{Integrated, productStep, jointStep, quadratureOf}
 use Rattle.agq_rule.specs.declared.answers.Integral.the-variants.{Declined}
 use Rattle.sums.specs.Summed.{integratedOf}

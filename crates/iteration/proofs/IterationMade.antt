@@ -7,7 +7,7 @@ use Prim.Native.Nat.{ℕ, _+_, _*_, _≤_}
 use native.Mathlib.Omega.{arith}
 use lib.ListN.{length}
 use lib.Ieee.{Float}
-use Rattle.base.specs.Rows.{row, Out, Only}
+use Rattle.base.specs.Rows.{row, Out, Only, OnlyTwo}
 use Rattle.base.specs.Sparse.{Sparse}
 use Rattle.base.proofs.Rows.{only-row, only-wide, only-trans}
 use Rattle.layout.specs.Layout.{WorkRoom}
@@ -27,10 +27,10 @@ use Rattle.rule.specs.Solve.{Solve, Solved, solved, unsolved, solveWorking, sol
 use Rattle.rule.specs.Try.{Trial, Move, Search, foundMove, noMove, triesOf, trialOf}
 use Rattle.stages.specs.Held.{etaRow}
 use Rattle.stages.specs.Weighed.{Weighed, Weighs}
-use Rattle.tries.specs.Told.{trialIn, OnlyBoth, Brief, found, none, briefly, TriesDone}
+use Rattle.tries.specs.Told.{trialIn, Brief, found, none, briefly, TriesDone}
 use Rattle.tries.specs.declared.search.TriesEnd.{TriesEnd}
 use Rattle.tries.specs.declared.search.TriesEnd.the-variants.{Moved, NoMove}
-use Rattle.tries.proofs.Both.{both-row}
+use Rattle.base.proofs.TwoRows.{two-row}
 use Rattle.iteration.specs.Held.{Prepared, HeldSolved}
 use Rattle.iteration.specs.Solving.{SolveTold, SolveLeft, SolvesWorking}
 use Rattle.iteration.specs.Iterated.{IterationLeft}
@@ -170,7 +170,7 @@ module _ (G : Given) (phi : Float) (second : Bool) (r r1 r2 m m2 t t1 t2 : List 
       unfolding solveOf
       solve-is = fs .is
 
-      rows3 : (r3 : List Float) → OnlyBoth (etaRow n (not second)) (muRow n) n r2 r3 → Only 0 (rowsLength n) r r3
+      rows3 : (r3 : List Float) → OnlyTwo (etaRow n (not second)) n (muRow n) n r2 r3 → Only 0 (rowsLength n) r r3
       rows3 r3 o =
           let h : etaRow n (not second) + n ≤ muRow n = eta-before n (not second) in
           only-trans rows2 (record { len = o .len; kept = λ j a. o .kept j (outside j (etaRow n (not second)) (omega arith) a) (outside j (muRow n) (omega arith) a) })
@@ -196,7 +196,7 @@ module _ (G : Given) (phi : Float) (second : Bool) (r r1 r2 m m2 t t1 t2 : List 
       moved r3 pwrss k d =
           let h : etaRow n (not second) + n ≤ muRow n = eta-before n (not second) in
           let l : rowsLength n ≤ length r = lent .rows-long in
-          let raw : row (rawRow n) n r3 ≡ row (rawRow n) n r2 = both-row (etaRow n (not second)) (muRow n) n (rawRow n) (inr (omega arith)) (inr (omega arith)) (omega (arith, rows2 .len)) (d .only) in
+          let raw : row (rawRow n) n r3 ≡ row (rawRow n) n r2 = two-row (rawRow n) n (etaRow n (not second)) n (muRow n) n (inr (omega arith)) (inr (omega arith)) (omega (arith, rows2 .len)) (d .only) in
           let x : FoundItems (triesOf (trialOf G (fs .v) eta)) (record { eta = row (etaRow n (not second)) n r3; mu = row (muRow n) n r3; pwrss = pwrss }) k =
           told-move (triesOf (trialOf G (fs .v) eta)) (record { eta = row (etaRow n (not second)) n r3; mu = row (muRow n) n r3; pwrss = pwrss }) k (d .says ∙ ap (λ (y : Trial). briefly (triesOf y)) trial-is) in
           record {

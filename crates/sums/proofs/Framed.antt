@@ -22,28 +22,12 @@ use Rattle.layout.proofs.LaidOut.{lent-kept}
 use Rattle.rule.specs.Given.{Given, nOf, qOf}
 use Rattle.rule.specs.Stop.{Mode}
 use Rattle.agq.specs.Gained.{Room}
-use Rattle.columns.specs.Columns.{OnlyTwo}
-use Rattle.columns.proofs.Laws.{two-row}
+use Rattle.base.proofs.TwoRows.{two-none, two-first, two-second, two-trans, two-row}
 use Rattle.scale.specs.Tells.{ScaleRoom, ScaleLeaves}
 use Rattle.scale.specs.declared.scales.Scaling.{Scaling}
 use Rattle.scale.proofs.SectionCopied.{square-within}
 use Rattle.sums.specs.Stands.{Roomy, Stands}
 use Rattle.sums.specs.Summed.{StepFrame}
-
--- ---- two stretches
-
-two-none : (b n c k : ℕ) (v : List Float) → OnlyTwo b n c k v v
-two-none b n c k v = record { len = refl; kept = λ j o o'. refl }
-
-two-trans : {b n c k : ℕ} {u v w : List Float} → OnlyTwo b n c k u v → OnlyTwo b n c k v w → OnlyTwo b n c k u w
-two-trans p q = record { len = q .len ∙ p .len; kept = λ j o o'. q .kept j o o' ∙ p .kept j o o' }
-
--- a change of the first alone, or of the second
-two-first : (b n c k : ℕ) {v w : List Float} → Only b n v w → OnlyTwo b n c k v w
-two-first b n c k p = record { len = p .len; kept = λ j o o'. p .kept j o }
-
-two-second : (b n c k : ℕ) {v w : List Float} → Only c k v w → OnlyTwo b n c k v w
-two-second b n c k p = record { len = p .len; kept = λ j o o'. p .kept j o' }
 
 -- ---- frames
 

@@ -7,7 +7,7 @@ use lib.ListN.{length, replicate}
 use lib.Ieee.{Float}
 use Rattle.base.specs.Number.{finite}
 use Rattle.base.specs.List.{build}
-use Rattle.base.specs.Rows.{Only}
+use Rattle.base.specs.Rows.{Only, OnlyTwo}
 use Rattle.layout.specs.WorkRows.{pointRow}
 use Rattle.layout.specs.WorkMatrices.{inversePlace, trialUPlace}
 use Rattle.layout.specs.WorkTerms.{termsLength}
@@ -18,7 +18,6 @@ use Rattle.rule.specs.Given.{Given}
 use Rattle.rule.specs.Stop.{Mode}
 use Rattle.agq_rule.specs.declared.answers.Integral.the-variants.{Declined}
 use Rattle.agq_rule.specs.Steps.{Integrated, answers, pointsBefore}
-use Rattle.columns.specs.Columns.{OnlyTwo}
 use Rattle.sums.specs.Stands.{Stands}
 use Rattle.sums.specs.declared.answers.Summed.{Summed}
 use Rattle.sums.specs.declared.answers.Summed.the-variants.{LogSum, NoSum}

@@ -5,18 +5,18 @@ use Prim.Native.Nat.{ℕ, suc, _+_, _-_, _≤_, _<_}
 use native.Mathlib.Omega.{arith}
 use lib.Ieee.{Float}
 use Rattle.base.specs.Number.{_⊗_, oneF, halfF}
-use Rattle.base.specs.Rows.{row}
+use Rattle.base.specs.Rows.{row, OnlyTwo}
 use Rattle.model.specs.Caps.{triesCap}
 use Rattle.model.proofs.Caps.{tries-few}
 use Rattle.model.specs.Items.{Fate, aTry, isTry, countOf}
 use Rattle.family.specs.Carried.{linkOf}
 use Rattle.family.specs.declared.carried.CarriedLink.{CarriedLink}
 use Rattle.rule.specs.Try.{Trial, refused, tryOf, Search, foundMove, noMove, itemBefore, afterTry, triesFrom, triesOf}
-use Rattle.tries.specs.Told.{Room, trialIn, OnlyBoth, tellTry, TryDone, Brief, found, none, briefly, TriesDone}
+use Rattle.tries.specs.Told.{Room, trialIn, tellTry, TryDone, Brief, found, none, briefly, TriesDone}
 use Rattle.tries.specs.declared.search.Try.{Try}
 use Rattle.tries.specs.declared.search.Try.the-variants.{Accepted}
 use Rattle.tries.specs.declared.search.TriesEnd.the-variants.{Moved, NoMove}
-use Rattle.tries.proofs.Both.{both-row, both-trans, both-none}
+use Rattle.base.proofs.TwoRows.{two-row, two-trans, two-none}
 
 -- ---- counts
 -- a search after k tries that were refused
@@ -50,7 +50,7 @@ module _ (T : Trial) (cap k : ℕ) (step : Float) where
 pub record Going (T : Trial) (next mu cap : ℕ) (before now : List Float) (step : Float) (k : ℕ) : Type 0 where
   pub capped : cap ≤ 100
   pub few : k ≤ cap
-  pub only : OnlyBoth next mu (T .n) before now
+  pub only : OnlyTwo next (T .n) mu (T .n) before now
   pub same : later k (briefly (triesFrom T (cap - k) step)) ≡ briefly (triesOf T)
 
 module _ (T : Trial) (next mu cap : ℕ) (v : List Float) where
@@ -61,7 +61,7 @@ module _ (T : Trial) (next mu cap : ℕ) (v : List Float) where
       record {
         capped = omega (arith, tries-few (linkOf (T .link)));
         few = omega arith;
-        only = both-none next mu (T .n) v;
+        only = two-none next (T .n) mu (T .n) v;
         same = later-none (briefly (triesFrom T (cap - 0) oneF)) ∙ rw (e, h);
       }
 
@@ -70,7 +70,7 @@ module _ (T : Trial) (next mu cap : ℕ) (v : List Float) where
   ends w step k g h = record { says = sym (nothing-left T cap k step h) ∙ g .same; only = g .only; few = omega (arith, g .few, g .capped) }
 
 -- the rows are as long as they were
-pub room-kept : (n q prev next raw mu : ℕ) (u w z v x : List Float) → Room n q prev next raw mu u w z v → OnlyBoth next mu n v x → Room n q prev next raw mu u w z x
+pub room-kept : (n q prev next raw mu : ℕ) (u w z v x : List Float) → Room n q prev next raw mu u w z v → OnlyTwo next n mu n v x → Room n q prev next raw mu u w z x
 room-kept n q prev next raw mu u w z v x r o =
     record {
       prev-in = omega (arith, r .prev-in, o .len);
@@ -93,8 +93,8 @@ module _ (link : CarriedLink) (n q prev next raw mu : ℕ) (u w z : List Float) 
   tried : tellTry r (row next n y) (row mu n y) ≡ tryOf (trialIn link n q prev raw u w z v) step
   tried =
       rw (
-        both-row next mu n prev (room .prev-next) (room .prev-mu) (room .prev-in) (g .only),
-        both-row next mu n raw (room .raw-next) (room .raw-mu) (room .raw-in) (g .only),
+        two-row prev n next n mu n (room .prev-next) (room .prev-mu) (room .prev-in) (g .only),
+        two-row raw n next n mu n (room .raw-next) (room .raw-mu) (room .raw-in) (g .only),
       ) at (d .says)
 
   turned : later k (briefly (afterTry (tellTry r (row next n y) (row mu n y)) (triesFrom (trialIn link n q prev raw u w z v) (cap - (k + 1))) step)) ≡ briefly (triesOf (trialIn link n q prev raw u w z v))
@@ -102,7 +102,7 @@ module _ (link : CarriedLink) (n q prev next raw mu : ℕ) (u w z : List Float) 
 
   pub moved : (p : Float) → r ≡ Accepted p → TriesDone (trialIn link n q prev raw u w z v) next mu v y (Moved p (k + 1))
   unfolding afterTry countOf
-  moved p e = record { says = rw e at turned; only = both-trans next mu n (g .only) (d .only); few = omega (arith, g .capped) }
+  moved p e = record { says = rw e at turned; only = two-trans (g .only) (d .only); few = omega (arith, g .capped) }
 
   pub halved : (f : Fate) → tellTry r (row next n y) (row mu n y) ≡ refused f → Going (trialIn link n q prev raw u w z v) next mu cap v y (step ⊗ halfF) (k + 1)
   unfolding afterTry
@@ -110,6 +110,6 @@ module _ (link : CarriedLink) (n q prev next raw mu : ℕ) (u w z : List Float) 
       record {
         capped = g .capped;
         few = omega arith;
-        only = both-trans next mu n (g .only) (d .only);
+        only = two-trans (g .only) (d .only);
         same = sym (later-one k f (triesFrom (trialIn link n q prev raw u w z v) (cap - (k + 1)) (step ⊗ halfF))) ∙ (rw e at turned);
       }

@@ -1,6 +1,5 @@
 -- Laws of the tries of one iteration. Assumes nothing.
 pub mod Turns
-pub mod Both
 pub mod Tried
 pub mod Counted
 pub mod Unique

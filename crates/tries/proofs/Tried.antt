@@ -1,6 +1,7 @@
 -- A try by its three tests: what the passes wrote and answered is the rule's try. Assumes nothing.
 use mathlib.Core.Path.{_≡_, sym, _∙_}
 use mathlib.Core.List.{List}
+use mathlib.Core.Logic.{inl, inr, ⊎-elim}
 use mathlib.Core.Bool.{Bool, true, false}
 use Prim.Native.Nat.{ℕ, _+_, _-_, _≤_}
 use native.Mathlib.Omega.{arith}
@@ -14,7 +15,7 @@ use Rattle.base.proofs.Rows.{only-row, part-row}
 use Rattle.rule.specs.Try.{Trial, candidateAt, candidateOf, fineEtaAt, meanAt, meansOf, squareAt, addTo, pwrssOf, afterPwrss, tryPwrss, afterMeans, tryMeans, afterEta, tryEta, tryOf}
 use Rattle.tries.specs.Told.{TryDone}
 use Rattle.tries.specs.declared.search.Try.the-variants.{EtaRefused, MeanRefused, PwrssRefused, Accepted}
-use Rattle.tries.proofs.Both.{apart-sym, both-first, both-second, both-trans}
+use Rattle.base.proofs.TwoRows.{two-first, two-of}
 
 module _ (T : Trial) (next mu : ℕ) (step : Float) (v w : List Float) (apart : Apart next (T .n) mu (T .n)) (next-in : next + T .n ≤ length v) (mu-in : mu + T .n ≤ length v) (formed : Wrote next (T .n) (build (candidateAt (T .prev) (T .raw) step) (T .n)) v w) where
   held : row next (T .n) w ≡ candidateOf T step
@@ -32,8 +33,8 @@ module _ (T : Trial) (next mu : ℕ) (step : Float) (v w : List Float) (apart : 
       record {
         says = rw (fine r false e h);
         candidate = held;
-        means = rw (fine r false e h) (only-row mu (T .n) next (T .n) (apart-sym next mu (T .n) apart) mu-in (formed .only));
-        only = both-first next mu (T .n) (formed .only);
+        means = rw (fine r false e h) (only-row mu (T .n) next (T .n) (⊎-elim (λ x. inr x) (λ x. inl x) apart) mu-in (formed .only));
+        only = two-first next (T .n) mu (T .n) (formed .only);
       }
 
   module _ (x : List Float) (f : Bool) (told : f ≡ allTo (T .n) (fineEtaAt (T .link) (row next (T .n) w))) (passed : f ≡ true) (meant : Wrote mu (T .n) (build (meanAt (T .link) (row next (T .n) w)) (T .n)) w x) where
@@ -56,7 +57,7 @@ module _ (T : Trial) (next mu : ℕ) (step : Float) (v w : List Float) (apart : 
           says = rw (fine f true told passed, finites r false e h);
           candidate = held';
           means = rw (fine f true told passed) means';
-          only = both-trans next mu (T .n) (both-first next mu (T .n) (formed .only)) (both-second next mu (T .n) (meant .only));
+          only = two-of next (T .n) mu (T .n) (formed .only) (meant .only);
         }
 
     module _ (g : Bool) (told' : g ≡ allTo (T .n) (finiteAt (row mu (T .n) x))) (passed' : g ≡ true) (p : Float) (summed : p ≡ addTo (T .n) (dotOf (T .q) (T .u) (T .u)) (squareAt (T .w) (T .z) (take (next + T .n - next) (drop next x)))) where
@@ -73,7 +74,7 @@ module _ (T : Trial) (next mu : ℕ) (step : Float) (v w : List Float) (apart : 
             says = rw (fine f true told passed, finites g true told' passed', ← sum, ← e, h);
             candidate = held';
             means = rw (fine f true told passed) means';
-            only = both-trans next mu (T .n) (both-first next mu (T .n) (formed .only)) (both-second next mu (T .n) (meant .only));
+            only = two-of next (T .n) mu (T .n) (formed .only) (meant .only);
           }
 
       -- accepted
@@ -84,5 +85,5 @@ module _ (T : Trial) (next mu : ℕ) (step : Float) (v w : List Float) (apart : 
             says = rw (held', means', fine f true told passed, finites g true told' passed', ← sum, ← e, h);
             candidate = held';
             means = rw (fine f true told passed) means';
-            only = both-trans next mu (T .n) (both-first next mu (T .n) (formed .only)) (both-second next mu (T .n) (meant .only));
+            only = two-of next (T .n) mu (T .n) (formed .only) (meant .only);
           }

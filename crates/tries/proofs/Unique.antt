@@ -10,14 +10,14 @@ use lib.Seq.{ext-getD}
 use lib.Ieee.{Float, nan}
 use Rattle.base.specs.Sum.{_!_, allTo, finiteAt, dotOf}
 use Rattle.base.specs.List.{build}
-use Rattle.base.specs.Rows.{row, Out, Wrote}
+use Rattle.base.specs.Rows.{row, Out, Wrote, OnlyTwo}
 use Rattle.base.proofs.Unique.{one-value}
 use Rattle.base.proofs.Sums.{lt-or-ge}
 use Rattle.base.proofs.Rows.{row-at, wrote-unique}
 use Rattle.model.specs.Items.{etaRefused, meanRefused, pwrssRefused, accepted}
 use Rattle.family.specs.declared.carried.CarriedLink.{CarriedLink}
 use Rattle.rule.specs.Try.{Trial, candidateAt, fineEtaAt, meanAt, squareAt, addTo, Tried, refused, moves}
-use Rattle.tries.specs.Told.{OnlyBoth, tellTry, TryDone, Brief, found, none, tellTries, TriesDone}
+use Rattle.tries.specs.Told.{tellTry, TryDone, Brief, found, none, tellTries, TriesDone}
 use Rattle.tries.specs.declared.search.Try.{Try}
 use Rattle.tries.specs.declared.search.Try.the-variants.{EtaRefused, MeanRefused, PwrssRefused, Accepted}
 use Rattle.tries.specs.declared.search.TriesEnd.{TriesEnd}
@@ -46,7 +46,7 @@ pub pwrss-unique : (n q : ℕ) (u w z c : List Float) (r s : Float) → r ≡ ad
 pwrss-unique n q u w z c r s d e = one-value d e
 
 -- ---- two rows, and all else as it was, leave one list
-both-unique : (b c n : ℕ) (v x y : List Float) → b + n ≤ length v → c + n ≤ length v → OnlyBoth b c n v x → OnlyBoth b c n v y → row b n x ≡ row b n y → row c n x ≡ row c n y → x ≡ y
+both-unique : (b c n : ℕ) (v x y : List Float) → b + n ≤ length v → c + n ≤ length v → OnlyTwo b n c n v x → OnlyTwo b n c n v y → row b n x ≡ row b n y → row c n x ≡ row c n y → x ≡ y
 both-unique b c n v x y hb hc p q eb ec =
     ext-getD nan x y (p .len ∙ sym (q .len)) (λ i l. by-first i (where-is b i))
   where

@@ -5,8 +5,8 @@ use mathlib.Core.Bool.{cond}
 use Prim.Native.Nat.{ℕ, _+_, _≤_}
 use lib.ListN.{length}
 use lib.Ieee.{Float}
-use Rattle.base.specs.Sum.{_!_, allTo}
-use Rattle.base.specs.Rows.{row, Out, Apart}
+use Rattle.base.specs.Sum.{allTo}
+use Rattle.base.specs.Rows.{row, Apart, OnlyTwo}
 use Rattle.model.specs.Items.{isTry, countOf, etaRefused, meanRefused, pwrssRefused}
 use Rattle.family.specs.declared.carried.CarriedLink.{CarriedLink}
 use Rattle.rule.specs.Try.{Trial, fineEtaAt, candidateOf, meansOf, Move, Tried, refused, moves, tryOf, Search, foundMove, noMove, triesOf}
@@ -36,11 +36,6 @@ pub record Room (n q prev next raw mu : ℕ) (u w z rows : List Float) : Type 0 
 abbrev pub trialIn : CarriedLink → (n q prev raw : ℕ) (u w z rows : List Float) → Trial
 trialIn link n q prev raw u w z rows = record { link = link; n = n; q = q; prev = row prev n rows; w = w; z = z; u = u; raw = row raw n rows }
 
--- w is as v, but for the rows of n places at b and at c
-pub record OnlyBoth (b c n : ℕ) (v w : List Float) : Type 0 where
-  pub len : length w ≡ length v
-  pub kept : (j : ℕ) → Out b n j → Out c n j → w ! j ≡ v ! j
-
 -- ---- a try
 
 -- what became of the candidate c with the means m
@@ -55,7 +50,7 @@ pub record TryDone (T : Trial) (next mu : ℕ) (step : Float) (before after : Li
   pub says : tellTry r (row next (T .n) after) (row mu (T .n) after) ≡ tryOf T step
   pub candidate : row next (T .n) after ≡ candidateOf T step
   pub means : row mu (T .n) after ≡ cond (allTo (T .n) (fineEtaAt (T .link) (candidateOf T step))) (meansOf T (candidateOf T step)) (row mu (T .n) before)
-  pub only : OnlyBoth next mu (T .n) before after
+  pub only : OnlyTwo next (T .n) mu (T .n) before after
 
 -- ---- the tries
 
@@ -82,5 +77,5 @@ triesIn (NoMove k) = k
 -- the tries leave an accepted candidate in the row at next and its means in the row at mu
 pub record TriesDone (T : Trial) (next mu : ℕ) (before after : List Float) (r : TriesEnd) : Type 0 where
   pub says : tellTries r (row next (T .n) after) (row mu (T .n) after) ≡ briefly (triesOf T)
-  pub only : OnlyBoth next mu (T .n) before after
+  pub only : OnlyTwo next (T .n) mu (T .n) before after
   pub few : triesIn r ≤ 100

@@ -1,7 +1,7 @@
 -- `columns::solved_into` meets its contract: the part is the solution for the row of t with the factor at its front.
 use mathlib.Core.Path.{refl}
 use Rattle.base.proofs.Rows.{part-is, front-is}
-use Rattle.columns.proofs.Laws.{part-made}
+use Rattle.base.proofs.TwoRows.{part-made}
 use borrow.Author.Needs.{needs}
 use Rattle.columns.proofs.pieces.solved_into.Statement.{statement}
 use Rattle.columns.proofs.pieces.solved_into.Tie as tie
