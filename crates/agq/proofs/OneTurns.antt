@@ -59,7 +59,7 @@ module _ (family : CarriedFamily) (link : CarriedLink) (shape : Shape) (theta : 
     turn-m = only-trans om (p .only)
 
     pub turn-r : Only (xbeta + n + n) n r r2
-    turn-r = only-trans or (p .zb .only)
+    turn-r = only-trans or (p .in-r)
 
     pub turn-trial : Only g 1 (row trial q m) (row trial q m2)
     unfolding oneEffects

@@ -70,5 +70,5 @@ module _ (family : CarriedFamily) (link : CarriedLink) (shape : Shape) (theta : 
         effects = only-row trial q (trial + q) q (inl (omega arith)) (omega (arith, kept .len)) (p .b .only) ∙ moved;
         b = rw (← moved) (p .b .row');
         only = only-trans kept (only-wide (trial + q) q trial (q + q) (omega arith) (omega arith) (p .b .only));
-        zb = rw (← moved) (p .zb);
+        in-r = p .means .only;
       }

@@ -17,7 +17,7 @@ use Rattle.rule.specs.Solve.{bOf, zTimes, rawAt, rawOf}
 use Rattle.rule.specs.Try.{meanAt}
 use Rattle.rule.specs.Stop.{deviancesOf}
 use Rattle.agq_rule.specs.Term.{meansAt, effectsDeviances, gainAt, gainOf, belongs, everyOne}
-use Rattle.points.specs.Gain.{oneAt, markAt, marked, entered}
+use Rattle.points.specs.Gain.{oneAt, markAt, marked, meanOver, entered}
 use Rattle.agq.specs.Gained.{effectsAt, predictedAt, gainFrom}
 
 -- ---- marks
@@ -52,17 +52,19 @@ module _ (G : Given) (beta u devs : List Float) where
       build-at (rawAt (G .design .offset) (G .design .x) (G .design .p) beta (zTimes (G .design) (bOf (G .design) u))) (nOf G) i l
       ∙ rw (build-at (xBetaAt (G .design .x) (G .design .p) beta) (nOf G) i l, same-zb) refl
 
-  entered-at : (i : ℕ) → i < nOf G → entered (G .family) (G .link) (G .y) (G .weights) (G .design .offset) xb zb devs i ≡ gainAt (effectsDeviances G beta u) devs i
-  unfolding entered gainAt effectsDeviances deviancesOf devAt meansAt meanAt
-  entered-at i l =
-      rw (build-at (devAt (G .family) (G .y) (meansAt G (rawOf (G .design) beta (bOf (G .design) u))) (G .weights)) (nOf G) i l, build-at (meanAt (G .link) (rawOf (G .design) beta (bOf (G .design) u))) (nOf G) i l, eta-at i l)
+  -- at a marked observation
+  entered-at : (marks : List Float) (i : ℕ) → i < nOf G → marked marks i ≡ true
+      → entered (G .family) (G .y) (G .weights) (build (meanOver (G .link) (G .design .offset) xb zb marks) (nOf G)) devs i ≡ gainAt (effectsDeviances G beta u) devs i
+  unfolding entered meanOver gainAt effectsDeviances deviancesOf devAt meansAt meanAt
+  entered-at marks i l t =
+      rw (build-at (devAt (G .family) (G .y) (meansAt G (rawOf (G .design) beta (bOf (G .design) u))) (G .weights)) (nOf G) i l, build-at (meanAt (G .link) (rawOf (G .design) beta (bOf (G .design) u))) (nOf G) i l, eta-at i l, build-at (meanOver (G .link) (G .design .offset) xb zb marks) (nOf G) i l, t)
       refl
 
   -- ---- of a group, and of all
   pub group-gain : (s k : ℕ) → gainFrom (G .family) (G .link) (G .y) (G .weights) (G .design .offset) (nOf G) (build (markAt (G .design .zt) s k) (nOf G)) xb zb devs ≡ gainOf (nOf G) (belongs (G .design .zt) s k) (effectsDeviances G beta u) devs
   unfolding gainFrom gainOf
-  group-gain s k = where-cong (nOf G) _ _ _ _ (λ i l. marked-group (G .design .zt) s k (nOf G) i l) (λ i l t. entered-at i l)
+  group-gain s k = where-cong (nOf G) _ _ _ _ (λ i l. marked-group (G .design .zt) s k (nOf G) i l) (λ i l t. entered-at (build (markAt (G .design .zt) s k) (nOf G)) i l t)
 
   pub joint-gain : gainFrom (G .family) (G .link) (G .y) (G .weights) (G .design .offset) (nOf G) (build oneAt (nOf G)) xb zb devs ≡ gainOf (nOf G) everyOne (effectsDeviances G beta u) devs
   unfolding gainFrom gainOf
-  joint-gain = where-cong (nOf G) _ _ _ _ (λ i l. marked-every (nOf G) i l) (λ i l t. entered-at i l)
+  joint-gain = where-cong (nOf G) _ _ _ _ (λ i l. marked-every (nOf G) i l) (λ i l t. entered-at (build oneAt (nOf G)) i l t)

@@ -16,7 +16,7 @@ use Rattle.family.specs.declared.carried.CarriedLink.{CarriedLink}
 use Rattle.stored.specs.Stored.{zTimesAt}
 use Rattle.lambda.specs.Product.{lambdaTimesAt}
 use Rattle.working.specs.Optional.{Optional}
-use Rattle.points.specs.Gain.{marked, entered}
+use Rattle.points.specs.Gain.{marked, meanOver, entered}
 
 -- the sizes that a point asks for
 pub record Room (shape : Shape) (theta : List Float) (starts columns : List ℕ) (values y offset : List Float) (n q xbeta : ℕ) (r : List Float) (trial : ℕ) (m : List Float) : Type 0 where
@@ -39,15 +39,15 @@ predictedAt shape theta Z n q u = build (zTimesAt Z q (effectsAt shape theta q u
 
 -- dd, the marks and the rows Xβ, Zb and deviances at the mode being given
 unfoldable pub gainFrom : CarriedFamily → CarriedLink → List Float → List Float → List Float → ℕ → List Float → List Float → List Float → List Float → Float
-gainFrom family link y weights offset n marks xb zb devs = sumWhere n (marked marks) (entered family link y weights offset xb zb devs)
+gainFrom family link y weights offset n marks xb zb devs = sumWhere n (marked marks) (entered family y weights (build (meanOver link offset xb zb marks) n) devs)
 
 -- dd of the effects t: the rows of r at xbeta are Xβ, the deviances at the mode, and (the fourth) the marks
 unfoldable pub gainIn : CarriedFamily → CarriedLink → Shape → List Float → Sparse → List Float → List Float → List Float → ℕ → ℕ → ℕ → List Float → List Float → Float
 gainIn family link shape theta Z y weights offset n q xbeta r t =
     gainFrom family link y weights offset n (row (xbeta + n + n + n) n r) (row xbeta n r) (predictedAt shape theta Z n q t) (row (xbeta + n) n r)
 
--- what `point_gain` answers and leaves: dd, Λu behind u, Zb in its row
+-- what `point_gain` answers and leaves: dd, Λu behind u, and the means of the marked observations over their Zb
 pub record GainedIn (family : CarriedFamily) (link : CarriedLink) (shape : Shape) (theta : List Float) (Z : Sparse) (y weights offset : List Float) (n q xbeta trial : ℕ) (r r' m m' : List Float) (g : Float) : Type 0 where
   pub gain : g ≡ gainIn family link shape theta Z y weights offset n q xbeta r (row trial q m)
   pub b : Wrote (trial + q) q (effectsAt shape theta q (row trial q m)) m m'
-  pub zb : Wrote (xbeta + n + n) n (predictedAt shape theta Z n q (row trial q m)) r r'
+  pub means : Wrote (xbeta + n + n) n (build (meanOver link offset (row xbeta n r) (predictedAt shape theta Z n q (row trial q m)) (row (xbeta + n + n + n) n r)) n) r r'

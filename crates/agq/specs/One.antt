@@ -7,13 +7,13 @@ use Rattle.base.specs.Number.{_⊕_}
 use Rattle.base.specs.Sum.{_!_}
 use Rattle.base.specs.List.{fillTo, fillAt}
 use Rattle.elementary.specs.Log.{lnOf}
-use Rattle.base.specs.Rows.{row, Only, Wrote}
+use Rattle.base.specs.Rows.{row, Only}
 use Rattle.base.specs.Sparse.{Sparse}
 use Rattle.model.specs.declared.sizes.Shape.{Shape}
 use Rattle.family.specs.declared.carried.CarriedFamily.{CarriedFamily}
 use Rattle.family.specs.declared.carried.CarriedLink.{CarriedLink}
 use Rattle.agq_rule.specs.Term.{deltaOf, penaltyAt, oneMoved}
-use Rattle.agq.specs.Gained.{effectsAt, predictedAt, gainIn}
+use Rattle.agq.specs.Gained.{effectsAt, gainIn}
 
 -- the effects `before` with that of group g moved from û
 unfoldable pub oneEffects : ℕ → Float → Float → List Float → List Float → List Float
@@ -24,20 +24,20 @@ unfoldable pub oneTermIn : CarriedFamily → CarriedLink → Shape → List Floa
 oneTermIn family link shape theta Z y weights offset n q xbeta g logWeight inv u r t =
     logWeight ⊕ deltaOf inv (gainIn family link shape theta Z y weights offset n q xbeta r t) (penaltyAt t u g)
 
--- what `one_point` answers and leaves: the log term, the effects with Λ times them behind, Zb in its row
+-- what `one_point` answers and leaves: the log term, the effects with Λ times them behind; nothing else changed but the row of means
 pub record OneIn (family : CarriedFamily) (link : CarriedLink) (shape : Shape) (theta : List Float) (Z : Sparse) (y weights offset : List Float) (n q xbeta g : ℕ) (sigma node logWeight inv : Float) (u trial : ℕ) (r r' m m' : List Float) (x : Float) : Type 0 where
   pub term : x ≡ oneTermIn family link shape theta Z y weights offset n q xbeta g logWeight inv (row u q m) r (oneEffects g sigma node (row u q m) (row trial q m))
   pub effects : row trial q m' ≡ oneEffects g sigma node (row u q m) (row trial q m)
   pub b : row (trial + q) q m' ≡ effectsAt shape theta q (oneEffects g sigma node (row u q m) (row trial q m))
   pub only : Only trial (q + q) m m'
-  pub zb : Wrote (xbeta + n + n) n (predictedAt shape theta Z n q (oneEffects g sigma node (row u q m) (row trial q m))) r r'
+  pub in-r : Only (xbeta + n + n) n r r'
 
 -- the log term at node i
 unfoldable pub oneTermAtNode : CarriedFamily → CarriedLink → Shape → List Float → Sparse → List Float → List Float → List Float → ℕ → ℕ → ℕ → ℕ → Float → Float → List Float → List Float → List Float → List Float → List Float → ℕ → Float
 oneTermAtNode family link shape theta Z y weights offset n q xbeta g sigma inv u r before nodes ws i =
     oneTermIn family link shape theta Z y weights offset n q xbeta g (lnOf (ws ! i)) inv u r (oneEffects g sigma (nodes ! i) u before)
 
--- what `one_terms` leaves: the log terms, and nothing else changed but the trial effects with Λ times them, and the row of Zb
+-- what `one_terms` leaves: the log terms, and nothing else changed but the trial effects with Λ times them, and the row of means
 pub record OnesIn (f : ℕ → Float) (n q xbeta trial size : ℕ) (r r' m m' t t' : List Float) : Type 0 where
   pub terms : t' ≡ fillTo size f t
   pub in-m : Only trial (q + q) m m'

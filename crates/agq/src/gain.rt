@@ -4,11 +4,12 @@ use family::CarriedLink;
 use model::Shape;
 use points::deviance_gain;
 use points::lambda_within;
+use points::point_means;
 ghost use Rattle.stored.specs.Stored.{sparse};
 ghost use Rattle.agq.specs.Gained.{Room, GainedIn};
 
-// dd of the effects in the q places of m at trial: b = Λu goes behind them, Zb into the third of the four rows of r at xbeta, which hold Xβ,
-// the deviances at the mode, Zb and the mark.
+// dd of the effects in the q places of m at trial: b = Λu goes behind them, Zb and then the means into the third of the four rows of r at xbeta,
+// which hold Xβ, the deviances at the mode, the means and the mark.
 pub fn point_gain(
     family: CarriedFamily,
     link: CarriedLink,
@@ -37,17 +38,6 @@ pub fn point_gain(
     let mark = zb + n;
     lambda_within(shape, theta, q, trial, b, m);
     stored::z_times(starts, columns, values, q, n, &m[b..be], &mut r[zb..mark]);
-    deviance_gain(
-        family,
-        link,
-        y,
-        weights,
-        offset,
-        n,
-        xbeta,
-        devs,
-        zb,
-        mark,
-        r,
-    )
+    point_means(link, offset, n, xbeta, zb, mark, r);
+    deviance_gain(family, y, weights, n, devs, zb, mark, r)
 }

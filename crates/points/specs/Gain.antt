@@ -33,7 +33,10 @@ pub record MarkedIn (Z : Sparse) (a b n : ℕ) (v w : List Float) : Type 0 where
   pub here : (i : ℕ) → i < n → w ! (b + i) ≡ cond (stored Z a i) oneF (v ! (b + i))
   pub only : Only b n v w
 
--- what observation i adds: its deviance at Xβ + Zb, then offset, less its deviance at the mode
-unfoldable pub entered : CarriedFamily → CarriedLink → List Float → List Float → List Float → List Float → List Float → List Float → ℕ → Float
-entered family link y weights offset xb zb devs i =
-    devResid family (y ! i) (linkInv link (plusOffset offset i ((xb ! i) ⊕ (zb ! i)))) (weightAt weights i) ⊖ (devs ! i)
+-- the row of means: the mean of a marked observation at Xβ + Zb, then offset; Zb of any other
+unfoldable pub meanOver : CarriedLink → List Float → List Float → List Float → List Float → ℕ → Float
+meanOver link offset xb zb marks i = cond (marked marks i) (linkInv link (plusOffset offset i ((xb ! i) ⊕ (zb ! i)))) (zb ! i)
+
+-- what observation i adds: its deviance at its mean, less its deviance at the mode
+unfoldable pub entered : CarriedFamily → List Float → List Float → List Float → List Float → ℕ → Float
+entered family y weights means devs i = devResid family (y ! i) (means ! i) (weightAt weights i) ⊖ (devs ! i)

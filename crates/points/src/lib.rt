@@ -7,6 +7,7 @@ pub use gains::delta;
 pub use gains::deviance_gain;
 pub use gains::mark_all;
 pub use gains::mark_group;
+pub use gains::point_means;
 pub use grid::log_weight;
 pub use grid::point_nodes;
 pub use trials::group_penalty;

@@ -92,5 +92,5 @@ module _ (q s k size l u trial point : ℕ) (nodes m m1 m2 : List Float) (g : Gr
         gained = rw (← trial-effects) (p .gain);
         effects = only-row trial q (trial + q) q (inl (omega arith)) (omega (arith, g .in-m, trial-only .len)) (p .b .only) ∙ trial-effects;
         in-m = only-trans trial-only (only-wide (trial + q) q trial (q + q + q) (omega arith) (omega arith) (p .b .only));
-        in-r = p .zb .only;
+        in-r = p .means .only;
       }

@@ -1,6 +1,6 @@
--- `agq::point_gain` meets its contract: Λu beside u, Zb of it into its row, and the sum over rows of which only that one has changed.
+-- `agq::point_gain` meets its contract: Λu beside u, Zb of it and then the means into their row, and the sum over rows of which only that one has changed.
 use mathlib.Core.Path.{refl}
-use mathlib.Core.Logic.{inl}
+use mathlib.Core.Logic.{inl, inr}
 use Prim.Native.Nat.{_+_}
 use Rattle.base.proofs.Rows.{part-is, filled-part}
 use Rattle.stored.specs.Stored.{sparse}
@@ -59,12 +59,20 @@ z-times-requires c κs =
     let s = c .before .before .before .before .before .before .before .before .before .before .before .before .before .before .before .before in
     (s .pre .rows, (search needs, search needs))
 
-deviance-gain-requires : tie.Need-deviance-gain-requires
-deviance-gain-requires c κs =
+point-means-requires : tie.Need-point-means-requires
+point-means-requires c κs =
     let s = c .before .before .before .before .before .before .before .before .before .before .before .before .before .before .before .before .before .before .before .before in
     let a = s .args in
     let w = filled-part (a .xbeta + a .n + a .n) (a .n) _ _ (a .r .now) (c .before .before .before .z-times .last .1 .1 .1 .1 .1 .1 .0) refl (omega (arith, s .pre .in-r)) (c .before .before .before .z-times .kept .1 .1 .1 .1 .1 .1 .0) (c .before .before .before .z-times .ensures) in
-    (s .pre .responses, s .pre .offsets, omega (arith, s .pre .in-r, w .only .len), omega (arith, s .pre .in-r, w .only .len), omega (arith, s .pre .in-r, w .only .len), omega (arith, s .pre .in-r, w .only .len))
+    (s .pre .offsets, omega (arith, s .pre .in-r, w .only .len), omega (arith, s .pre .in-r, w .only .len), omega (arith, s .pre .in-r, w .only .len), inl (omega arith), inr (omega arith))
+
+deviance-gain-requires : tie.Need-deviance-gain-requires
+deviance-gain-requires c κs =
+    let s = c .before .before .before .before .before .before .before .before .before .before .before .before .before .before .before .before .before .before .before .before .before .before .before .before in
+    let a = s .args in
+    let w = filled-part (a .xbeta + a .n + a .n) (a .n) _ _ (a .r .now) (c .before .before .before .before .before .before .before .z-times .last .1 .1 .1 .1 .1 .1 .0) refl (omega (arith, s .pre .in-r)) (c .before .before .before .before .before .before .before .z-times .kept .1 .1 .1 .1 .1 .1 .0) (c .before .before .before .before .before .before .before .z-times .ensures) in
+    let len = c .before .before .before .point-means .ensures .only .len in
+    (s .pre .responses, omega (arith, s .pre .in-r, w .only .len, len), omega (arith, s .pre .in-r, w .only .len, len), omega (arith, s .pre .in-r, w .only .len, len))
 
 same-length : tie.Need-same-length
 same-length c = search needs
@@ -74,10 +82,9 @@ same-length-2 c = search needs
 
 returns : tie.Need-returns
 returns c =
-    let s = c .before .before .before .before .before .before .before .before .before .before .before .before .before .before .before .before .before .before .before .before .before in
+    let s = c .before .before .before .before .before .before .before .before .before .before .before .before .before .before .before .before .before .before .before .before .before .before .before .before .before in
     let a = s .args in
-    let w = filled-part (a .xbeta + a .n + a .n) (a .n) _ _ (a .r .now) (c .before .before .before .before .z-times .last .1 .1 .1 .1 .1 .1 .0) refl (omega (arith, s .pre .in-r)) (c .before .before .before .before .z-times .kept .1 .1 .1 .1 .1 .1 .0) (c .before .before .before .before .z-times .ensures) in
-    gain-made (a .family) (a .link) (a .shape) (a .theta .now) (sparse (a .starts .now) (a .columns .now) (a .values .now)) (a .y .now) (a .weights .now) (a .offset .now) (a .n) (a .q) (a .xbeta) (a .trial) (a .r .now) _ (a .m .now) _ _ _ (s .pre .in-r) (c .before .before .before .before .before .before .before .before .before .before .lambda-within .ensures) (part-is (a .trial + a .q) (a .q) _ _ refl) w (c .deviance-gain .ensures)
+    gain-made (a .family) (a .link) (a .shape) (a .theta .now) (sparse (a .starts .now) (a .columns .now) (a .values .now)) (a .y .now) (a .weights .now) (a .offset .now) (a .n) (a .q) (a .xbeta) (a .trial) (a .r .now) _ _ (a .m .now) _ _ _ (s .pre .in-r) (c .before .before .before .before .before .before .before .before .before .before .before .before .before .before .lambda-within .ensures) (part-is (a .trial + a .q) (a .q) _ _ refl) (filled-part (a .xbeta + a .n + a .n) (a .n) _ _ (a .r .now) (c .before .before .before .before .before .before .before .before .z-times .last .1 .1 .1 .1 .1 .1 .0) refl (omega (arith, s .pre .in-r)) (c .before .before .before .before .before .before .before .before .z-times .kept .1 .1 .1 .1 .1 .1 .0) (c .before .before .before .before .before .before .before .before .z-times .ensures)) (c .before .before .before .before .point-means .ensures) (c .deviance-gain .ensures)
 
 pub point-gain-spec : {M : Type 1} → statement M
 point-gain-spec =
@@ -98,6 +105,7 @@ point-gain-spec =
     part-z-times-start-2
     part-z-times-end-2
     z-times-requires
+    point-means-requires
     deviance-gain-requires
     same-length
     same-length-2
