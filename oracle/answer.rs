@@ -23,7 +23,7 @@ pub fn answer(bytes: &[u8]) -> String {
     }
 }
 
-fn fit(job: Job) -> (Option<GlmmCoefficients>, Account) {
+pub fn fit(job: Job) -> (Option<GlmmCoefficients>, Account) {
     let q = job.z_starts.len() - 1;
     let blocks = job.blocks.iter().map(|&(m, k)| ReBlock { m, k, theta_len: k * (k + 1) / 2 }).collect();
     let mut data = GlmmData::new_weighted(
@@ -42,6 +42,25 @@ fn fit(job: Job) -> (Option<GlmmCoefficients>, Account) {
     (fitted, account::read())
 }
 
+/// Every result by its name, in the order in which they are printed.
+pub fn results(fitted: &GlmmCoefficients) -> [(&'static str, Vec<f64>); 11] {
+    let rows = &fitted.v_beta_unscaled;
+    let v = (0..rows.nrows()).flat_map(|i| (0..rows.ncols()).map(move |j| rows[[i, j]])).collect();
+    [
+        ("deviance", vec![fitted.deviance]),
+        ("phi", vec![fitted.phi]),
+        ("beta", fitted.beta.to_vec()),
+        ("se", fitted.beta_se.to_vec()),
+        ("z", fitted.beta_z.to_vec()),
+        ("u", fitted.u.to_vec()),
+        ("b", fitted.b.to_vec()),
+        ("mu", fitted.fitted.to_vec()),
+        ("eta", fitted.eta.to_vec()),
+        ("residual", fitted.residuals.to_vec()),
+        ("v", v),
+    ]
+}
+
 fn lines(fitted: Option<&GlmmCoefficients>, account: Account) -> String {
     let (end, order, flag, iterations) = match fitted {
         Some(fitted) => (0, fitted.effective_n_agq, fitted.dispersion_converged as usize, fitted.iterations),
@@ -52,22 +71,7 @@ fn lines(fitted: Option<&GlmmCoefficients>, account: Account) -> String {
         end, order, flag, iterations, account.fits, account.solves, account.tries, account.points
     );
     if let Some(fitted) = fitted {
-        let rows = &fitted.v_beta_unscaled;
-        let v = (0..rows.nrows()).flat_map(|i| (0..rows.ncols()).map(move |j| rows[[i, j]])).collect();
-        let lists: [(&str, Vec<f64>); 11] = [
-            ("deviance", vec![fitted.deviance]),
-            ("phi", vec![fitted.phi]),
-            ("beta", fitted.beta.to_vec()),
-            ("se", fitted.beta_se.to_vec()),
-            ("z", fitted.beta_z.to_vec()),
-            ("u", fitted.u.to_vec()),
-            ("b", fitted.b.to_vec()),
-            ("mu", fitted.fitted.to_vec()),
-            ("eta", fitted.eta.to_vec()),
-            ("residual", fitted.residuals.to_vec()),
-            ("v", v),
-        ];
-        for (name, list) in &lists {
+        for (name, list) in &results(fitted) {
             for (index, &x) in list.iter().enumerate() {
                 writeln!(text, "{} {} {}", name, index, hex(x)).unwrap();
             }

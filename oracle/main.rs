@@ -5,10 +5,13 @@
 //! oracle < job            what `fitjob` must print
 //! oracle many [FILE..]    the same for many jobs (their names on standard input, where none is given), each after a line `job FILE`
 //! oracle vectors NAME     what the test program `cases_NAME` must print
+//! oracle bench FILE..     where it is built with `--cfg fits`: the times of these jobs' fits, the Rattle library's and the Rust's (bench.rs)
 #![allow(dead_code)]
 
 mod account;
 mod answer;
+#[cfg(fits)]
+mod bench;
 mod elementary;
 mod family;
 #[allow(unused_assignments, unused_variables)] // they are only logged
@@ -64,6 +67,8 @@ fn main() {
         }
         ["many"] => many(io::stdin().lock().lines().map(|line| line.expect("standard input"))),
         ["many", ..] => many(arguments[1..].iter().cloned()),
+        #[cfg(fits)]
+        ["bench", ..] => bench::run(&arguments[1..]),
         ["vectors", name] if vectors::put(name) => {}
         _ => {
             eprintln!("usage: oracle < job | oracle many [FILE..] | oracle vectors {}", vectors::names());
