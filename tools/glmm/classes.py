@@ -1,5 +1,5 @@
 """Classes of jobs with their answers. A class is a title and a name, or a title with a row and a column. `classes_of` gives those of one job; CLAIMED has every
-class that a comparison must have met, IMPOSSIBLE those that no job can be in, with the reason; `faults` holds what was met to both."""
+class that a comparison must have met, IMPOSSIBLE those that no job can be in, with the reason; `missing` and `surprises` hold what was met to both."""
 import math
 from form import FAMILIES, LINKS
 from kinds import PAIRS
@@ -225,8 +225,12 @@ def tables(counts):
         yield from (line([row, *(told(counts, (title, (row, column))) for column in columns)]) for row in rows)
 
 
-def faults(counts):
-    """What was claimed and not met, and what was met and not claimed."""
-    yield from (f"NOT REACHED {name}" for name in CLAIMED if not counts[name])
-    yield from (f"IMPOSSIBLE, but met: {name}: {why}" for name, why in IMPOSSIBLE.items() if counts[name])
-    yield from (f"UNKNOWN {name}" for name in counts if name not in ALL)
+def missing(counts):
+    """What is claimed and was not met."""
+    return [f"NOT REACHED {name}" for name in CLAIMED if not counts[name]]
+
+
+def surprises(counts):
+    """What was met and is not claimed: a class that is said to be impossible, or is not named at all."""
+    said = [f"IMPOSSIBLE, but met: {name}: {why}" for name, why in IMPOSSIBLE.items() if counts[name]]
+    return said + [f"UNKNOWN {name}" for name in counts if name not in ALL]
