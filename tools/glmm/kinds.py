@@ -340,6 +340,31 @@ def second_block(r):
     return {**apart(about), "n_agq": r.randint(2, 7)}
 
 
+def outlying(r, about, weight, far):
+    """The last observation without X, of another weight, and far out in one row of Z'."""
+    last = len(about["y"]) - 1
+    about["x"], about["weights"] = [[float(i < last)] for i in range(last + 1)], [1.0] * last + [weight]
+    about["zt"] = [[entry for entry in row if entry[0] < last] for row in about["zt"]]
+    r.choice(about["zt"]).append([last, far])
+    return about
+
+
+def weightless(r):
+    """A weight of 0 where the means of outer points overflow: 0 times infinity, so that the quadrature declines after its points."""
+    blocks = r.choice([[{"m": 1, "k": 1}], [{"m": 2, "k": 1}], [{"m": 1, "k": 2}], [{"m": 1, "k": 1}] * 2])
+    about = description(r, r.choice([("gaussian", "log"), ("gaussian", "log"), ("poisson", "log")]), r.randint(4, 7), 1, blocks)
+    return {**outlying(r, about, 0.0, r.choice([1e3, 1e4, 1e5])), "n_agq": r.choice([3, 5])}
+
+
+def reaching(r):
+    """An effect that reaches far out at an observation of little weight: no step is accepted, in some jobs in a late round of the dispersion loop only."""
+    about = description(r, ("gaussian", "log"), r.randint(3, 7), 1, [{"m": 2, "k": 1}])
+    about["y"] = [v * r.choice([1e-3, 0.1, 1.0, 1.0, 100.0, 1e4]) for v in about["y"]]
+    far = between(r, 1.0, 9.0) * r.choice([1e5, 1e6, 1e7, 1e8, 1e9])
+    about["theta"] = [between(r, 0.1, 9.0) * r.choice([1e4, 1e5, 1e6, 1e7]) / far]
+    return outlying(r, about, r.choice([0.0, 1e-30, 1e-12, 1e-6]), far)
+
+
 def out_of_range(r):
     """Responses outside the family's range: NaN deviances, logarithms of nothing."""
     about = r.choice([plain, scalar, product, joint])(r)
@@ -402,7 +427,7 @@ def not_carried(r, about):
 
 
 KINDS = {plain: 24, middle: 6, scalar: 8, product: 8, joint: 6, strong: 4, weights: 5, thetas: 5, stored_zeros: 5, limits: 3, dispersion: 6, halved: 4, overshot: 1, far: 3, least: 3, wide: 2,
-         singular: 2, in_vain: 1, pivots: 3, coupled: 4, later_group: 1, second_block: 1, out_of_range: 3, extremes: 3, no_residual: 1, refused: 3, large: 1, full_joint: 1}
+         singular: 2, in_vain: 1, pivots: 3, coupled: 4, later_group: 1, second_block: 1, weightless: 1, reaching: 1, out_of_range: 3, extremes: 3, no_residual: 1, refused: 3, large: 1, full_joint: 1}
 
 
 def points(about, wish):
