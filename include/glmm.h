@@ -1,6 +1,7 @@
 /* The fit of a generalised linear mixed model at a given theta, for C99 and C++.
  *
- * Link with libglmm_c.a (made by `rt staticlib glmm_c`, for x86-64). It has the functions of libelementary_c.a too: link one of the two.
+ * Link with libglmm_c.a (made by `rt staticlib glmm_c`, for x86-64). It has the functions of libelementary_c.a too: link one of the two. The fit over a
+ * list of blocks is in libblocks_c.a (`rt staticlib blocks_c`), which may be linked beside either, or alone.
  * No heap, no files, no state: every function may be called from several threads at once as long as no two calls write to the same buffer. A call
  * is finished by a bounded amount of work, on a bounded stack (docs/EMBEDDED.md).
  *
@@ -77,6 +78,79 @@ uint64_t glmm_fit_job_theta(const uint8_t *job, size_t job_length,
                             double *terms, size_t terms_length,
                             double *results, size_t results_length,
                             uint64_t *counts, size_t counts_length);
+
+/* ---- the same fit with the numbers of a job in arrays of their own: link with libblocks_c.a */
+
+/* A block of random effects: m groups with k effects each. */
+struct glmm_block {
+    size_t m, k;
+};
+
+/* Families and links that can be named; Gamma and probit are refused with 5, a link that does not go with its family with 4. */
+enum { GLMM_BINOMIAL = 0, GLMM_POISSON = 1, GLMM_GAUSSIAN = 2, GLMM_GAMMA = 3 };
+enum { GLMM_LOGIT = 0, GLMM_PROBIT = 1, GLMM_CLOGLOG = 2, GLMM_LOG = 3, GLMM_IDENTITY = 4, GLMM_INVERSE = 5, GLMM_SQRT = 6 };
+
+/* In place of a limit: 100 iterations, 1000 for the inverse link. */
+#define GLMM_NO_LIMIT 1023
+
+struct glmm_settings {
+    size_t family, link; /* as named above; another number is refused with 1 */
+    size_t n_agq;        /* the quadrature's order that is wished for; 0 or 1 for the Laplace deviance */
+    size_t limit;        /* of iterations, 0 to 1000, or GLMM_NO_LIMIT */
+    size_t n, p;         /* observations, 1 to 512, and columns of X, 1 to 16 */
+    size_t q;            /* random effects, 1 to 32: the sum of m times k over all blocks */
+    size_t entries;      /* of Z', at most 8,192 */
+};
+
+/* What is returned. But for number 0 it is all 0, save the work of a call that was accepted (10 to 13). */
+struct glmm_answer {
+    uint64_t number;      /* 0 fitted; 10, 11, 12, 13 as in counts[GLMM_NUMBER]; else the refusal's number: 1, 2, 7, 6, 3, 4, 5, tested in this order */
+    double deviance, phi;
+    uint64_t order, flag, iterations, fits, solves, tries, points; /* as the counts of these names */
+};
+
+/* blocks     1 to 8 blocks (else 1), each with 1 to 8 effects and at least one group
+ * theta      k(k + 1)/2 numbers for each block: its lower triangle column by column
+ * y          n responses
+ * weights, offset
+ *            n numbers each, or none: a length of 0
+ * x          n times p numbers, row by row
+ * starts, columns, values
+ *            Z' by rows, one for each effect: row r has the entries starts[r] to starts[r + 1] - 1, so starts has q + 1 numbers, the first 0 and the
+ *            last `entries`; columns[e] is the observation of entry e, 0 to n - 1, ascending within a row, and values[e] its number (else 6)
+ * beta, se, z
+ *            results, p numbers each
+ * u, b       q numbers each
+ * mu, eta, residual
+ *            n numbers each
+ * v          p times p numbers, row by row
+ * rows, matrices, terms
+ *            work buffers of at least the lengths above (else 7), left as glmm_fit_job leaves them
+ *
+ * A length that is not as told here is refused with 2, a number that is not finite with 3. The results are written where the answer's number is 0, and
+ * are else as lent; after a refusal everything is. */
+struct glmm_answer glmm_fit_blocks(struct glmm_settings settings,
+                                   const struct glmm_block *blocks, size_t blocks_length,
+                                   const double *theta, size_t theta_length,
+                                   const double *y, size_t y_length,
+                                   const double *weights, size_t weights_length,
+                                   const double *offset, size_t offset_length,
+                                   const double *x, size_t x_length,
+                                   const size_t *starts, size_t starts_length,
+                                   const size_t *columns, size_t columns_length,
+                                   const double *values, size_t values_length,
+                                   double *beta, size_t beta_length,
+                                   double *se, size_t se_length,
+                                   double *z, size_t z_length,
+                                   double *u, size_t u_length,
+                                   double *b, size_t b_length,
+                                   double *mu, size_t mu_length,
+                                   double *eta, size_t eta_length,
+                                   double *residual, size_t residual_length,
+                                   double *v, size_t v_length,
+                                   double *rows, size_t rows_length,
+                                   double *matrices, size_t matrices_length,
+                                   double *terms, size_t terms_length);
 
 /* ---- the elementary functions that the fit uses, the same bits on every machine (docs/ELEMENTARY.md); any argument */
 double glmm_exp(double x);

@@ -4,37 +4,16 @@
  * machine has them) go beside the job in place of its own. Every buffer is lent exactly as long as it must be, with a pattern behind it; a pattern
  * that changed, or a work buffer that was not left as the header says, is told in place of the answer. `edges` calls it with a job that can be fitted
  * and buffers one short each, and prints for each a line: what was short, what was returned, and whether all else was left as lent. */
-#include <stdio.h>
-#include <string.h>
+#include "lent.h"
 
-#include "glmm.h"
-
-#define GUARD 16
 #define MOST_THETA 528
-static const double pattern = 9.25;
 static const uint64_t mark = 0x5a5a5a5a5a5a5a5aU;
-static uint8_t job[65537];
 static double theta[MOST_THETA], rows[GLMM_MOST_ROWS + GUARD], matrices[GLMM_MOST_MATRICES + GUARD], terms[GLMM_TERMS + GUARD],
     results[GLMM_MOST_RESULTS + GUARD];
 static uint64_t counts[GLMM_COUNTS + GUARD];
 
 /* n observations, p columns and q effects of a job, as far as its header and blocks can be read; else 1 of each. */
 static struct { size_t n, p, q; } sizes;
-
-static unsigned bits(size_t length, size_t at, unsigned width)
-{
-    unsigned value = 0;
-    for (; width > 0; width--, at++)
-        value = 2 * value + (at / 8 < length ? (job[at / 8] >> (7 - at % 8)) & 1U : 0);
-    return value;
-}
-
-static uint64_t pattern_of(double x)
-{
-    uint64_t pattern;
-    memcpy(&pattern, &x, 8);
-    return x == x ? pattern : 0x7ff8000000000000U;
-}
 
 /* What the job says of its sizes; sizes that are not carried are told as 1, since such a job is refused whatever is lent. */
 static void read_sizes(size_t length)
@@ -47,52 +26,15 @@ static void read_sizes(size_t length)
         sizes.n = sizes.p = sizes.q = 1;
 }
 
-static void fill(double *buffer, size_t length)
-{
-    while (length-- > 0)
-        buffer[length] = pattern;
-}
-
-/* How many of the first numbers are x, bit for bit. */
-static size_t alike(const double *buffer, size_t length, double x)
-{
-    size_t i = 0;
-    while (i < length && memcmp(buffer + i, &x, 8) == 0)
-        i++;
-    return i;
-}
-
-/* Whether a buffer is as the header says: its first numbers +0.0 after an accepted call, as lent after a refusal, and the guard whole. */
-static int kept(const char *name, const double *buffer, size_t length, int accepted)
-{
-    size_t first = alike(buffer, length, accepted ? 0.0 : pattern);
-    if (first == length && alike(buffer + length, GUARD, pattern) == GUARD)
-        return 1;
-    printf("%s: place %u of %u is not as it should be\n", name, (unsigned)first, (unsigned)length);
-    return 0;
-}
-
-static void values(const char *name, const double *first, size_t length)
-{
-    size_t i;
-    for (i = 0; i < length; i++) {
-        uint64_t x = pattern_of(first[i]);
-        printf("%s %u %08X%08X\n", name, (unsigned)i, (unsigned)(x >> 32), (unsigned)(x & 0xffffffffU));
-    }
-}
-
 static void answer(uint64_t refused)
 {
-    static const char *const words[] = {"end", "order", "disp", "iters", "fits", "solves", "tries", "points"};
     const double *next = results;
     size_t n = sizes.n, p = sizes.p, q = sizes.q;
-    int i;
     if (refused != 0) {
         printf("refused %u at %u\n", (unsigned)refused, (unsigned)counts[GLMM_BYTE]);
         return;
     }
-    for (i = 0; i < 8; i++)
-        printf("%s %u%c", words[i], (unsigned)counts[i], i < 7 ? ' ' : '\n');
+    first_line(counts);
     if (counts[GLMM_NUMBER] != 0)
         return;
     values("deviance", next, 1), next += 1;
@@ -171,15 +113,6 @@ static void edges(size_t length)
     }
     edge("job", 0, 0, 0, none);
     edge("theta", length, 0, 1, none);
-}
-
-static size_t read_file(const char *name, void *to, size_t size, size_t count)
-{
-    FILE *file = fopen(name, "rb");
-    size_t length = file == NULL ? 0 : fread(to, size, count, file);
-    if (file != NULL)
-        fclose(file);
-    return length;
 }
 
 int main(int count, char **words)

@@ -1,5 +1,5 @@
-"""The proved C library: built, and linked into static x86-64 programs; natively on x86-64, elsewhere with a cross compiler and an emulator."""
-import platform, shutil, subprocess, sys
+"""The proved C library, by its archives: built, and linked into static x86-64 programs; natively on x86-64, elsewhere with a cross compiler and an emulator."""
+import functools, platform, shutil, subprocess, sys
 from pathlib import Path
 
 ROOT = Path(__file__).resolve().parent.parent
@@ -17,13 +17,14 @@ def told(words, **more):
     return done.stdout
 
 
-def built():
-    """The archive, proved anew where a source has changed."""
+@functools.cache
+def built(crate):
+    """The archive of a crate, proved anew where a source has changed."""
     for tool in [COMPILER["c99"], *EMULATOR, "rt"]:
         if not shutil.which(tool):
             sys.exit(f"{tool} is missing")
-    told(["rt", "staticlib", "glmm_c"])
-    return ROOT / "target" / "staticlib" / "libglmm_c.a"
+    told(["rt", "staticlib", crate])
+    return ROOT / "target" / "staticlib" / f"lib{crate}.a"
 
 
 def header_compiles():
@@ -32,8 +33,8 @@ def header_compiles():
         told([COMPILER[language], f"-std={language}", *STRICT, "-fsyntax-only", "-x", name, "include/glmm.h"])
 
 
-def program(source, folder):
-    """The words that run a C program over the library."""
+def program(source, folder, *archives):
+    """The words that run a C program over the library: over glmm_c's archive, unless others are named."""
     made = Path(folder) / Path(source).stem
-    told([COMPILER["c99"], "-std=c99", *STRICT, "-O2", "-Iinclude", "-static", source, built(), "-o", made])
+    told([COMPILER["c99"], "-std=c99", *STRICT, "-O2", "-Iinclude", "-static", source, *map(built, archives or ["glmm_c"]), "-o", made])
     return [*EMULATOR, str(made)]

@@ -9,7 +9,8 @@ ghost use Rattle.model.specs.Inputs.{inputs};
 ghost use Rattle.call.specs.Call.{lent, left, callOf};
 ghost use Rattle.blocks.specs.Blocks.{noBlock, blankShape, putAt, shapeOf};
 
-// m groups with k effects each.
+// m groups with k effects each, laid out as C's struct for `blocks_c`.
+#[repr(C)]
 pub struct Block {
     pub m: usize,
     pub k: usize,

@@ -1,0 +1,77 @@
+/* What the test programs over the C library share: the bytes of a job, buffers with a pattern behind them, and the lines of an answer as fitjob prints them. */
+#include <stdio.h>
+#include <string.h>
+
+#include "glmm.h"
+
+#define GUARD 16
+static const double pattern = 9.25;
+static uint8_t job[65537];
+
+/* A field of the job; what is cut short reads as zero bits. */
+static unsigned bits(size_t length, size_t at, unsigned width)
+{
+    unsigned value = 0;
+    for (; width > 0; width--, at++)
+        value = 2 * value + (at / 8 < length ? (job[at / 8] >> (7 - at % 8)) & 1U : 0);
+    return value;
+}
+
+static uint64_t pattern_of(double x)
+{
+    uint64_t pattern;
+    memcpy(&pattern, &x, 8);
+    return x == x ? pattern : 0x7ff8000000000000U;
+}
+
+static void fill(double *buffer, size_t length)
+{
+    while (length-- > 0)
+        buffer[length] = pattern;
+}
+
+/* How many of the first numbers are x, bit for bit. */
+static size_t alike(const double *buffer, size_t length, double x)
+{
+    size_t i = 0;
+    while (i < length && memcmp(buffer + i, &x, 8) == 0)
+        i++;
+    return i;
+}
+
+/* Whether a buffer is as the header says: its first numbers +0.0 after an accepted call, as lent after a refusal, and the guard whole. */
+static int kept(const char *name, const double *buffer, size_t length, int accepted)
+{
+    size_t first = alike(buffer, length, accepted ? 0.0 : pattern);
+    if (first == length && alike(buffer + length, GUARD, pattern) == GUARD)
+        return 1;
+    printf("%s: place %u of %u is not as it should be\n", name, (unsigned)first, (unsigned)length);
+    return 0;
+}
+
+static void values(const char *name, const double *first, size_t length)
+{
+    size_t i;
+    for (i = 0; i < length; i++) {
+        uint64_t x = pattern_of(first[i]);
+        printf("%s %u %08X%08X\n", name, (unsigned)i, (unsigned)(x >> 32), (unsigned)(x & 0xffffffffU));
+    }
+}
+
+/* The first line of an answer: its number, then seven counts. */
+static void first_line(const uint64_t *eight)
+{
+    static const char *const words[] = {"end", "order", "disp", "iters", "fits", "solves", "tries", "points"};
+    int i;
+    for (i = 0; i < 8; i++)
+        printf("%s %u%c", words[i], (unsigned)eight[i], i < 7 ? ' ' : '\n');
+}
+
+static size_t read_file(const char *name, void *to, size_t size, size_t count)
+{
+    FILE *file = fopen(name, "rb");
+    size_t length = file == NULL ? 0 : fread(to, size, count, file);
+    if (file != NULL)
+        fclose(file);
+    return length;
+}
