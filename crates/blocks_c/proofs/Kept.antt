@@ -10,7 +10,7 @@ use Rattle.model.specs.declared.sizes.Shape.{Shape}
 use Rattle.model.specs.declared.sizes.Settings.{Settings}
 use Rattle.family.specs.declared.carried.CarriedFamily.{CarriedFamily}
 use Rattle.family.specs.declared.carried.CarriedLink.{CarriedLink}
-use Rattle.table.specs.Tests.{Inputs}
+use Rattle.model.specs.Inputs.{Inputs}
 use Rattle.table.specs.Table.{tableOf}
 use Rattle.table.specs.declared.verdicts.Verdict.{Verdict}
 use Rattle.table.specs.declared.verdicts.Verdict.the-variants.{Accepted, Refused}

@@ -11,7 +11,7 @@ use Rattle.model.specs.declared.names.FamilyFound.the-variants as familyFound
 use Rattle.model.specs.declared.names.LinkFound.the-variants as linkFound
 use Rattle.model.specs.declared.sizes.Shape.{Shape}
 use Rattle.model.proofs.Sized.{not-sized}
-use Rattle.table.specs.Tests.{Inputs}
+use Rattle.model.specs.Inputs.{Inputs}
 use Rattle.table.specs.Table.{refuseUnless, tableOf}
 use Rattle.table.specs.declared.verdicts.Verdict.the-variants.{Refused}
 use Rattle.call.specs.Call.{Lent, lengthsOf}

@@ -2,7 +2,7 @@
 use mathlib.Core.Bool.{cond}
 use mathlib.Core.List.{List}
 use Rattle.model.specs.declared.ends.Answer.{Answer}
-use Rattle.table.specs.Tests.{Inputs}
+use Rattle.model.specs.Inputs.{Inputs}
 use Rattle.call.specs.Call.{Lent, Left, callOf}
 use Rattle.blocks.specs.Blocks.{shapeOf}
 use Rattle.blocks.specs.declared.Block.{Block}

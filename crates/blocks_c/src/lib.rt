@@ -12,7 +12,7 @@ ghost use mathlib.Core.Path.{_≡_};
 ghost use mathlib.Core.Bool.{cond};
 ghost use Rattle.model.specs.Names.{linkCoded};
 ghost use Rattle.job.specs.Job.{limitFrom};
-ghost use Rattle.table.specs.Tests.{inputs};
+ghost use Rattle.model.specs.Inputs.{inputs};
 ghost use Rattle.call.specs.Call.{lent};
 ghost use Rattle.blocks_c.specs.Coded.{noSettings, named, withLink, settingsOf};
 ghost use Rattle.blocks_c.specs.Plain.{plainOf, shown, fitBlocksOf};
