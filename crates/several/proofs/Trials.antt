@@ -4,6 +4,7 @@ use mathlib.Core.Logic.{inl, inr}
 use mathlib.Core.Bool.{true}
 use mathlib.Core.List.{List}
 use Prim.Native.Nat.{ℕ, _+_, _*_, _<_, _≤_}
+use native.Mathlib.Nat.{zero-add}
 use native.Mathlib.Omega.{arith}
 use lib.ListN.{length}
 use lib.Ieee.{Float}
@@ -67,6 +68,7 @@ module _ (q s k size l u trial point : ℕ) (nodes m m1 m2 : List Float) (g : Gr
         only-row l (k * k) (trial + q + q) k (inl (omega (arith, g .factor, g .hats))) (omega (arith, g .factor, g .hats, g .in-m)) (w .only),
         w .row',
         only-row (u + s) k (trial + q + q) k (inl (omega (arith, g .within, g .hats))) (omega (arith, g .within, g .hats, g .in-m)) (w .only),
+        zero-add i,
         stretch-at u q s k m (g .within) (omega (arith, g .hats, g .in-m)) i h,
       )
       refl
