@@ -8,6 +8,7 @@ pub use gains::deviance_gain;
 pub use gains::mark_all;
 pub use gains::mark_group;
 pub use grid::log_weight;
+pub use grid::log_weights;
 pub use grid::point_nodes;
 pub use trials::group_penalty;
 pub use trials::lambda_within;
