@@ -19,7 +19,7 @@ use Rattle.layout.specs.WorkRows.{xbetaRow, markRow}
 use Rattle.layout.specs.WorkMatrices.{inversePlace, uPlace, trialUPlace}
 use Rattle.layout.proofs.Inside.{inverse-in, u-in}
 use Rattle.quadrature.specs.Orders.{sizeOf}
-use Rattle.quadrature.specs.Rules.{nodesOf, weightsOf, padded}
+use Rattle.quadrature.specs.Rules.{nodesOf, padded}
 use Rattle.quadrature.specs.declared.orders.Decline.{Decline}
 use Rattle.quadrature.specs.declared.orders.Order.{Order}
 use Rattle.rule.specs.Given.{Given, nOf, qOf}
@@ -34,6 +34,7 @@ use Rattle.scale.specs.declared.scales.Scaling.the-variants.{Scaled, Unscaled}
 use Rattle.scale.proofs.SectionCopied.{square-within}
 use Rattle.agq.specs.Gained.{gainIn}
 use Rattle.several.specs.Several.{groupTermIn, TermsIn}
+use Rattle.several.proofs.Nodes.{LogsOf}
 use Rattle.several.proofs.SeveralRuled.{group-ruled}
 use Rattle.sums.specs.Stands.{Stands, givenWith}
 use Rattle.sums.specs.Summed.{groupSumOf, StepFrame, SumLeft, GroupLeft, tellsThen}
@@ -57,11 +58,11 @@ module _ (G : Given) (M : Mode) (phi : Float) (o : Order) (s k : ℕ) (c : Scali
   several-told A f h = rw (← e, f, h) (terms-told (build (groupTerm G M phi o s k L) (sizeOf o ^ k)) rest)
 
 -- ---- a group of k effects from s on, in the rule's words
-module _ (G : Given) (M : Mode) (phi : Float) (o : Order) (s k size l u trial mark xbeta : ℕ) (nodes ws r r1 m t : List Float)
+module _ (G : Given) (M : Mode) (phi : Float) (o : Order) (s k size l u trial mark xbeta : ℕ) (nodes logs r r1 m t : List Float)
     (lent : WorkRoom (nOf G) (G .design .p) (qOf (G .design)) r m t) (stands : Stands G M r m)
     (h : s + k ≤ qOf (G .design)) (el : l ≡ inversePlace (qOf (G .design)))
     (eu : u ≡ uPlace (G .design .p) (qOf (G .design))) (et : trial ≡ trialUPlace (G .design .p) (qOf (G .design))) (em : mark ≡ markRow (nOf G)) (ex : xbeta ≡ xbetaRow (nOf G))
-    (en : nodes ≡ padded (nodesOf o)) (ew : ws ≡ padded (weightsOf o)) (es : size ≡ sizeOf o)
+    (en : nodes ≡ padded (nodesOf o)) (eg : LogsOf o logs) (es : size ≡ sizeOf o)
     (wrote : Wrote mark (nOf G) (build (markAt (G .design .zt) s k) (nOf G)) r r1) where
   abbrev n : ℕ
   n = nOf G
@@ -87,14 +88,14 @@ module _ (G : Given) (M : Mode) (phi : Float) (o : Order) (s k size l u trial ma
       (only-row l (k * k) trial q (inl (grid-places p q s k l u trial h el eu et .1)) (omega (arith, inverse-in (lent .sizes) m el (lent .matrices-long), square-within q s k h)) (fillat-only trial q q (entryFrom m u) m (omega arith)))
 
   pub group-term-ruled : (i : ℕ)
-      → groupTermIn (gainIn (G .family) (G .link) (G .design .shape) (G .design .theta) (G .design .zt) (G .y) (G .weights) (G .design .offset) n q xbeta r1) s k (inversePhi phi) nodes ws size (row l (k * k) m1) (row u q m1) (row trial q m1) i
+      → groupTermIn (gainIn (G .family) (G .link) (G .design .shape) (G .design .theta) (G .design .zt) (G .y) (G .weights) (G .design .offset) n q xbeta r1) s k (inversePhi phi) nodes logs size (row l (k * k) m1) (row u q m1) (row trial q m1) i
       ≡ groupTerm G M phi o s k (row (inversePlace q) (k * k) m) i
   group-term-ruled i =
       rw (same-factor, copied-u n p q u trial r m t lent eu et, copied-trial n p q u trial r m t lent eu et, hat)
-      (group-ruled G M phi o xbeta r1 nodes ws size
+      (group-ruled G M phi o xbeta r1 nodes logs size
       (marked-fixed n p q mark xbeta _ r r1 m t lent em ex wrote ∙ stands .fixed)
       (marked-devs n p q mark xbeta _ r r1 m t lent em ex wrote ∙ stands .deviances)
-      en ew es s k (row (inversePlace q) (k * k) m) (M .u) i
+      en eg es s k (row (inversePlace q) (k * k) m) (M .u) i
       (marked-row n p q mark xbeta _ r r1 m t lent em ex wrote) (only-none s k (M .u)) hat-long)
 
 -- ---- the same for the arguments of the code, of which q is the number of effects
@@ -102,17 +103,17 @@ module _ (family : CarriedFamily) (link : CarriedLink) (shape : Shape) (theta : 
   abbrev G : List Float → Given
   G = givenWith family link shape theta zt y weights offset n p
 
-  module _ (inv : Float) (l u trial mark xbeta size count : ℕ) (nodes ws r r1 r2 m m1 m2 t t' : List Float) (a : GroupSum)
+  module _ (inv : Float) (l u trial mark xbeta size count : ℕ) (nodes logs r r1 r2 m m1 m2 t t' : List Float) (a : GroupSum)
       (eq : q ≡ effectsOf shape) (lent : WorkRoom n p q r m t) (few : count ≤ 7000) (em : mark ≡ markRow n)
       (eu : u ≡ uPlace p q) (et : trial ≡ trialUPlace p q) (el : l ≡ inversePlace q) (ex : xbeta ≡ xbetaRow n) (ei : inv ≡ inversePhi phi)
-      (es : size ≡ sizeOf o) (en : nodes ≡ padded (nodesOf o)) (ew : ws ≡ padded (weightsOf o)) (ea : a ≡ groupSumOf (row 0 count t')) where
+      (es : size ≡ sizeOf o) (en : nodes ≡ padded (nodesOf o)) (eg : LogsOf o logs) (ea : a ≡ groupSumOf (row 0 count t')) where
     pub several-made : (s k : ℕ) → s + k ≤ q → count ≡ size ^ k → Wrote mark n (build (markAt zt s k) n) r r1 → m1 ≡ fillAt trial q (entryFrom m u) m
-        → TermsIn (groupTermIn (gainIn family link shape theta zt y weights offset n q xbeta r1) s k inv nodes ws size (row l (k * k) m1) (row u q m1) (row trial q m1)) n q xbeta trial count r1 r2 m1 m2 t t'
+        → TermsIn (groupTermIn (gainIn family link shape theta zt y weights offset n q xbeta r1) s k inv nodes logs size (row l (k * k) m1) (row u q m1) (row trial q m1)) n q xbeta trial count r1 r2 m1 m2 t t'
         → SumLeft G (severalTerms phi o s k (row (inversePlace q) (k * k) m)) n p q (sizeOf o ^ k) r r2 m m2 t t' a
     several-made s k h ec wrote copied made =
         sum-made G (severalTerms phi o s k (row (inversePlace q) (k * k) m)) n p q (sizeOf o ^ k) count
-        (groupTermIn (gainIn family link shape theta zt y weights offset n q xbeta r1) s k inv nodes ws size (row l (k * k) m1) (row u q m1) (row trial q m1)) r r2 m m2 t t' a (ec ∙ ap (λ (z : ℕ). z ^ k) es) few lent (made .terms) ea
-        (λ x M st i d. rw (copied, ei, eq) (group-term-ruled (G x) M phi o s k size l u trial mark xbeta nodes ws r r1 m t (rw eq at lent) st (rw eq at h) (rw eq at el) (rw eq at eu) (rw eq at et) em ex en ew es wrote i))
+        (groupTermIn (gainIn family link shape theta zt y weights offset n q xbeta r1) s k inv nodes logs size (row l (k * k) m1) (row u q m1) (row trial q m1)) r r2 m m2 t t' a (ec ∙ ap (λ (z : ℕ). z ^ k) es) few lent (made .terms) ea
+        (λ x M st i d. rw (copied, ei, eq) (group-term-ruled (G x) M phi o s k size l u trial mark xbeta nodes logs r r1 m t (rw eq at lent) st (rw eq at h) (rw eq at el) (rw eq at eu) (rw eq at et) em ex en eg es wrote i))
         (frame-terms n p q mark xbeta trial count _ r r1 r2 m m1 m2 t t' em ex et few (wrote .only) (made .in-r) (rw copied (copied-only n p q u trial r m t lent eu et)) (made .in-m) (made .terms))
 
   -- ---- a group, from the scale of its block

@@ -7,6 +7,7 @@ use layout::trial_u_at;
 use layout::u_at;
 use layout::xbeta_row;
 use model::Shape;
+use points::log_weights;
 use points::mark_group;
 use quadrature::Order;
 use quadrature::gh_rule;
@@ -67,6 +68,8 @@ fn several_sums(
     let size = rule.size;
     let nodes = rule.nodes;
     let node_weights = rule.weights;
+    let mut node_logs = [0.0; 11];
+    log_weights(&node_weights, size, &mut node_logs);
     let count = power(size, k);
     group_terms(
         family,
@@ -84,7 +87,7 @@ fn several_sums(
         xbeta,
         r,
         &nodes,
-        &node_weights,
+        &node_logs,
         size,
         s,
         k,

@@ -18,7 +18,7 @@ use Rattle.layout.specs.WorkRows.{xbetaRow, markRow}
 use Rattle.layout.specs.WorkMatrices.{inversePlace, uPlace, trialUPlace}
 use Rattle.layout.proofs.Inside.{u-in}
 use Rattle.quadrature.specs.Orders.{sizeOf}
-use Rattle.quadrature.specs.Rules.{nodesOf, weightsOf, padded}
+use Rattle.quadrature.specs.Rules.{nodesOf, padded}
 use Rattle.quadrature.specs.declared.orders.Decline.{Decline}
 use Rattle.quadrature.specs.declared.orders.Order.{Order}
 use Rattle.rule.specs.Given.{Given, nOf, qOf}
@@ -34,6 +34,7 @@ use Rattle.scale.specs.declared.scales.Scaling.the-variants.{Scaled, Unscaled}
 use Rattle.scale.proofs.ScaleFound.{joint-scale}
 use Rattle.agq.specs.Gained.{gainIn}
 use Rattle.several.specs.Several.{jointTermIn, TermsIn}
+use Rattle.several.proofs.Nodes.{LogsOf}
 use Rattle.several.proofs.SeveralRuled.{joint-ruled}
 use Rattle.sums.specs.Stands.{Stands, givenWith}
 use Rattle.sums.specs.Summed.{carry, groupSumOf, integratedOf, StepFrame, SumLeft, StepLeft}
@@ -67,10 +68,10 @@ module _ (G : Given) (M : Mode) (phi fit : Float) (o : Order) (c : Scaling) (L :
       ∙ (rw (← h) (joint-carried (A .sum) (A .points) o M)))
 
 -- ---- all effects at once, in the rule's words
-module _ (G : Given) (M : Mode) (phi : Float) (o : Order) (size l u mark xbeta : ℕ) (nodes ws r r1 m t : List Float)
+module _ (G : Given) (M : Mode) (phi : Float) (o : Order) (size l u mark xbeta : ℕ) (nodes logs r r1 m t : List Float)
     (lent : WorkRoom (nOf G) (G .design .p) (qOf (G .design)) r m t) (stands : Stands G M r m) (el : l ≡ inversePlace (qOf (G .design)))
     (eu : u ≡ uPlace (G .design .p) (qOf (G .design))) (em : mark ≡ markRow (nOf G)) (ex : xbeta ≡ xbetaRow (nOf G))
-    (en : nodes ≡ padded (nodesOf o)) (ew : ws ≡ padded (weightsOf o)) (es : size ≡ sizeOf o)
+    (en : nodes ≡ padded (nodesOf o)) (eg : LogsOf o logs) (es : size ≡ sizeOf o)
     (wrote : Wrote mark (nOf G) (build oneAt (nOf G)) r r1) where
   all-hat : row u (qOf (G .design)) m ≡ M .u
   all-hat = rw eu (stands .u)
@@ -79,14 +80,14 @@ module _ (G : Given) (M : Mode) (phi : Float) (o : Order) (size l u mark xbeta :
   all-long = rw (← all-hat) (row-length u (qOf (G .design)) m (u-in (lent .sizes) m eu (lent .matrices-long)))
 
   pub joint-term-ruled : (i : ℕ)
-      → jointTermIn (gainIn (G .family) (G .link) (G .design .shape) (G .design .theta) (G .design .zt) (G .y) (G .weights) (G .design .offset) (nOf G) (qOf (G .design)) xbeta r1) (qOf (G .design)) (inversePhi phi) nodes ws size (row l (qOf (G .design) * qOf (G .design)) m) (row u (qOf (G .design)) m) i
+      → jointTermIn (gainIn (G .family) (G .link) (G .design .shape) (G .design .theta) (G .design .zt) (G .y) (G .weights) (G .design .offset) (nOf G) (qOf (G .design)) xbeta r1) (qOf (G .design)) (inversePhi phi) nodes logs size (row l (qOf (G .design) * qOf (G .design)) m) (row u (qOf (G .design)) m) i
       ≡ jointTerm G M phi o (row (inversePlace (qOf (G .design))) (qOf (G .design) * qOf (G .design)) m) i
   joint-term-ruled i =
       rw (all-hat, el)
-      (joint-ruled G M phi o xbeta r1 nodes ws size
+      (joint-ruled G M phi o xbeta r1 nodes logs size
       (marked-fixed (nOf G) (G .design .p) (qOf (G .design)) mark xbeta _ r r1 m t lent em ex wrote ∙ stands .fixed)
       (marked-devs (nOf G) (G .design .p) (qOf (G .design)) mark xbeta _ r r1 m t lent em ex wrote ∙ stands .deviances)
-      en ew es (row (inversePlace (qOf (G .design))) (qOf (G .design) * qOf (G .design)) m) i
+      en eg es (row (inversePlace (qOf (G .design))) (qOf (G .design) * qOf (G .design)) m) i
       (marked-row (nOf G) (G .design .p) (qOf (G .design)) mark xbeta _ r r1 m t lent em ex wrote) all-long)
 
 -- ---- the same for the arguments of the code, of which q is the number of effects
@@ -94,17 +95,17 @@ module _ (family : CarriedFamily) (link : CarriedLink) (shape : Shape) (theta : 
   abbrev G : List Float → Given
   G = givenWith family link shape theta zt y weights offset n p
 
-  module _ (inv : Float) (l u trial mark xbeta size count : ℕ) (nodes ws r r1 r2 m m1 m2 t t' : List Float) (a : GroupSum)
+  module _ (inv : Float) (l u trial mark xbeta size count : ℕ) (nodes logs r r1 r2 m m1 m2 t t' : List Float) (a : GroupSum)
       (eq : q ≡ effectsOf shape) (lent : WorkRoom n p q r m t) (few : count ≤ 7000) (em : mark ≡ markRow n)
       (eu : u ≡ uPlace p q) (et : trial ≡ trialUPlace p q) (el : l ≡ inversePlace q) (ex : xbeta ≡ xbetaRow n) (ei : inv ≡ inversePhi phi)
-      (es : size ≡ sizeOf o) (en : nodes ≡ padded (nodesOf o)) (ew : ws ≡ padded (weightsOf o)) (ea : a ≡ groupSumOf (row 0 count t')) where
+      (es : size ≡ sizeOf o) (en : nodes ≡ padded (nodesOf o)) (eg : LogsOf o logs) (ea : a ≡ groupSumOf (row 0 count t')) where
     pub joint-made : count ≡ size ^ q → Wrote mark n (build oneAt n) r r1
-        → TermsIn (jointTermIn (gainIn family link shape theta zt y weights offset n q xbeta r1) q inv nodes ws size (row l (q * q) m) (row u q m)) n q xbeta trial count r1 r2 m m2 t t'
+        → TermsIn (jointTermIn (gainIn family link shape theta zt y weights offset n q xbeta r1) q inv nodes logs size (row l (q * q) m) (row u q m)) n q xbeta trial count r1 r2 m m2 t t'
         → SumLeft G (jointTerms phi o (row (inversePlace q) (q * q) m)) n p q (sizeOf o ^ q) r r2 m m2 t t' a
     joint-made ec wrote made =
         sum-made G (jointTerms phi o (row (inversePlace q) (q * q) m)) n p q (sizeOf o ^ q) count
-        (jointTermIn (gainIn family link shape theta zt y weights offset n q xbeta r1) q inv nodes ws size (row l (q * q) m) (row u q m)) r r2 m m2 t t' a (ec ∙ ap (λ (z : ℕ). z ^ q) es) few lent (made .terms) ea
-        (λ x M st i d. rw (ei, eq) (joint-term-ruled (G x) M phi o size l u mark xbeta nodes ws r r1 m t (rw eq at lent) st (rw eq at el) (rw eq at eu) em ex en ew es wrote i))
+        (jointTermIn (gainIn family link shape theta zt y weights offset n q xbeta r1) q inv nodes logs size (row l (q * q) m) (row u q m)) r r2 m m2 t t' a (ec ∙ ap (λ (z : ℕ). z ^ q) es) few lent (made .terms) ea
+        (λ x M st i d. rw (ei, eq) (joint-term-ruled (G x) M phi o size l u mark xbeta nodes logs r r1 m t (rw eq at lent) st (rw eq at el) (rw eq at eu) em ex en eg es wrote i))
         (frame-terms n p q mark xbeta trial count _ r r1 r2 m m m2 t t' em ex et few (wrote .only) (made .in-r) (only-none trial (q + q + q) m) (made .in-m) (made .terms))
 
   -- ---- all effects, from the scale of A

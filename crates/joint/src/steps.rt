@@ -8,6 +8,7 @@ use layout::trial_u_at;
 use layout::u_at;
 use layout::xbeta_row;
 use model::Shape;
+use points::log_weights;
 use points::mark_all;
 use quadrature::Order;
 use quadrature::gh_rule;
@@ -66,6 +67,8 @@ fn joint_sums(
     let size = rule.size;
     let nodes = rule.nodes;
     let node_weights = rule.weights;
+    let mut node_logs = [0.0; 11];
+    log_weights(&node_weights, size, &mut node_logs);
     let count = power(size, q);
     joint_terms(
         family,
@@ -83,7 +86,7 @@ fn joint_sums(
         xbeta,
         r,
         &nodes,
-        &node_weights,
+        &node_logs,
         size,
         count,
         inv,

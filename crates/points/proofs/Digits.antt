@@ -11,8 +11,7 @@ use Rattle.base.specs.Sum.{_!_, sumTo}
 use Rattle.base.specs.List.{fillAt}
 use Rattle.base.proofs.Sums.{sum-step}
 use Rattle.base.proofs.Fills.{fillat-step}
-use Rattle.elementary.specs.Log.{lnOf}
-use Rattle.agq_rule.specs.Point.{digitEntry, logEntry}
+use Rattle.agq_rule.specs.Point.{digitEntry}
 
 -- before the first nothing is taken off
 pub rest-all : (b t : ℕ) → t ≡ t / b ^ 0
@@ -28,6 +27,6 @@ unfolding digitEntry
 node-step nodes b t j r z v w e x = rw e (fillat-step z (digitEntry nodes b t) v j w x)
 
 -- the logarithm of one dimension more is added
-pub log-step : (ws : List Float) (b t j r : ℕ) (s x : Float) → r ≡ t / b ^ j → x ≡ lnOf (ws ! (r % b)) → s ≡ sumTo j (logEntry ws b t) → s ⊕ x ≡ sumTo (j + 1) (logEntry ws b t)
-unfolding logEntry digitEntry
-log-step ws b t j r s x e y q = rw (y, e) (sum-step (logEntry ws b t) j s q)
+pub log-step : (logs : List Float) (b t j r : ℕ) (s : Float) → r ≡ t / b ^ j → s ≡ sumTo j (digitEntry logs b t) → s ⊕ (logs ! (r % b)) ≡ sumTo (j + 1) (digitEntry logs b t)
+unfolding digitEntry
+log-step logs b t j r s e q = rw e (sum-step (digitEntry logs b t) j s q)

@@ -9,6 +9,7 @@ pub use gains::mark_all;
 pub use gains::mark_group;
 pub use gains::point_means;
 pub use grid::log_weight;
+pub use grid::log_weights;
 pub use grid::point_nodes;
 pub use trials::group_penalty;
 pub use trials::lambda_within;

@@ -8,7 +8,7 @@ use Rattle.base.specs.List.{build}
 use Rattle.base.specs.Rows.{row, Only}
 use Rattle.linear.specs.Product.{xBetaAt}
 use Rattle.quadrature.specs.Orders.{sizeOf}
-use Rattle.quadrature.specs.Rules.{nodesOf, weightsOf, padded}
+use Rattle.quadrature.specs.Rules.{nodesOf, padded}
 use Rattle.quadrature.specs.declared.orders.Order.{Order}
 use Rattle.rule.specs.Given.{Given, qOf, nOf}
 use Rattle.rule.specs.Stop.{Mode}
@@ -19,14 +19,14 @@ use Rattle.agq.proofs.OneTurns.{filled-same}
 use Rattle.agq.proofs.Ruled.{group-gain, joint-gain}
 use Rattle.agq.specs.Gained.{gainIn}
 use Rattle.several.specs.Several.{movedEffects, groupEffects, groupTermWith, groupTermIn, jointEffects, jointTermWith, jointTermIn}
-use Rattle.several.proofs.Nodes.{nodes-ruled, weight-ruled}
+use Rattle.several.proofs.Nodes.{LogsOf, nodes-ruled, weight-ruled}
 use Rattle.several.proofs.Terms.{whole-filled}
 
--- the rows hold Xβ and the deviances at the mode; nodes and weights are those of the order, padded
-module _ (G : Given) (M : Mode) (phi : Float) (o : Order) (xbeta : ℕ) (r nodes ws : List Float) (size : ℕ)
+-- the rows hold Xβ and the deviances at the mode; the nodes are those of the order, padded, and the logarithms begin with those of its weights
+module _ (G : Given) (M : Mode) (phi : Float) (o : Order) (xbeta : ℕ) (r nodes logs : List Float) (size : ℕ)
     (fixed : row xbeta (nOf G) r ≡ build (xBetaAt (G .design .x) (G .design .p) (M .beta)) (nOf G))
     (devs : row (xbeta + nOf G) (nOf G) r ≡ M .devs)
-    (node : nodes ≡ padded (nodesOf o)) (weight : ws ≡ padded (weightsOf o)) (many : size ≡ sizeOf o) where
+    (node : nodes ≡ padded (nodesOf o)) (log : LogsOf o logs) (many : size ≡ sizeOf o) where
   abbrev gain : List Float → Float
   gain = gainIn (G .family) (G .link) (G .design .shape) (G .design .theta) (G .design .zt) (G .y) (G .weights) (G .design .offset) (nOf G) (qOf (G .design)) xbeta r
 
@@ -39,10 +39,10 @@ module _ (G : Given) (M : Mode) (phi : Float) (o : Order) (xbeta : ℕ) (r nodes
   pub group-ruled : (s k : ℕ) (L before : List Float) (i : ℕ)
       → row (xbeta + nOf G + nOf G + nOf G) (nOf G) r ≡ build (markAt (G .design .zt) s k) (nOf G)
       → Only s k (M .u) before → s + k ≤ length (M .u)
-      → groupTermIn gain s k (inversePhi phi) nodes ws size L (M .u) before i ≡ groupTerm G M phi o s k L i
+      → groupTermIn gain s k (inversePhi phi) nodes logs size L (M .u) before i ≡ groupTerm G M phi o s k L i
   unfolding groupTermIn groupTermWith gainIn groupTerm groupTermAt termOf
   group-ruled s k L before i mark kept within =
-      rw (group-trial s k L before i kept within, weight, many, weight-ruled o k i, mark, fixed, devs, group-gain G (M .beta) (trialBy s k L (M .u) (pointOf o k i)) (M .devs) s k)
+      rw (group-trial s k L before i kept within, many, weight-ruled o logs k i log, mark, fixed, devs, group-gain G (M .beta) (trialBy s k L (M .u) (pointOf o k i)) (M .devs) s k)
       refl
 
   joint-trial : (L : List Float) (i : ℕ) → length (M .u) ≡ qOf (G .design) → jointEffects (qOf (G .design)) nodes size L (M .u) i ≡ trialBy 0 (qOf (G .design)) L (M .u) (pointOf o (qOf (G .design)) i)
@@ -53,8 +53,8 @@ module _ (G : Given) (M : Mode) (phi : Float) (o : Order) (xbeta : ℕ) (r nodes
   pub joint-ruled : (L : List Float) (i : ℕ)
       → row (xbeta + nOf G + nOf G + nOf G) (nOf G) r ≡ build oneAt (nOf G)
       → length (M .u) ≡ qOf (G .design)
-      → jointTermIn gain (qOf (G .design)) (inversePhi phi) nodes ws size L (M .u) i ≡ jointTerm G M phi o L i
+      → jointTermIn gain (qOf (G .design)) (inversePhi phi) nodes logs size L (M .u) i ≡ jointTerm G M phi o L i
   unfolding jointTermIn jointTermWith gainIn jointTerm jointTermAt jointPenalty termOf
   joint-ruled L i mark long =
-      rw (joint-trial L i long, weight, many, weight-ruled o (qOf (G .design)) i, mark, fixed, devs, joint-gain G (M .beta) (trialBy 0 (qOf (G .design)) L (M .u) (pointOf o (qOf (G .design)) i)) (M .devs))
+      rw (joint-trial L i long, many, weight-ruled o logs (qOf (G .design)) i log, mark, fixed, devs, joint-gain G (M .beta) (trialBy 0 (qOf (G .design)) L (M .u) (pointOf o (qOf (G .design)) i)) (M .devs))
       refl

@@ -45,9 +45,9 @@ hats-of u q m up hats e d = rw (← e) d
 
 -- ---- what a point is made of
 module _ (family : CarriedFamily) (link : CarriedLink) (shape : Shape) (theta : List Float) (Z : Sparse) (y weights offset : List Float) (n q xbeta : ℕ) (r r1 : List Float) (hr : xbeta + n + n + n + n ≤ length r) where
-  module _ (size l u trial : ℕ) (nodes ws : List Float) (inv : Float) (m m1 t t1 : List Float) (i : ℕ) where
+  module _ (size l u trial : ℕ) (nodes logs : List Float) (inv : Float) (m m1 t t1 : List Float) (i : ℕ) where
     -- of a group
-    module _ (s k : ℕ) (g : Grid q s k size l u trial nodes m) (p : TermsIn (groupTermIn (gainIn family link shape theta Z y weights offset n q xbeta r) s k inv nodes ws size (row l (k * k) m) (row u q m) (row trial q m)) n q xbeta trial i r r1 m m1 t t1)
+    module _ (s k : ℕ) (g : Grid q s k size l u trial nodes m) (p : TermsIn (groupTermIn (gainIn family link shape theta Z y weights offset n q xbeta r) s k inv nodes logs size (row l (k * k) m) (row u q m) (row trial q m)) n q xbeta trial i r r1 m m1 t t1)
         (o : Only s k (row trial q m) (row trial q m1)) where
       same-effects : groupEffects s k nodes size (row l (k * k) m1) (row u q m1) (row trial q m1) i ≡ groupEffects s k nodes size (row l (k * k) m) (row u q m) (row trial q m) i
       unfolding groupEffects movedEffects
@@ -55,22 +55,22 @@ module _ (family : CarriedFamily) (link : CarriedLink) (shape : Shape) (theta : 
           rw (only-row l (k * k) trial (q + q + q) (inl (omega (arith, g .factor, g .hats))) (omega (arith, g .factor, g .hats, g .in-m)) (p .in-m), only-row u q trial (q + q + q) (inl (g .hats)) (omega (arith, g .hats, g .in-m)) (p .in-m))
           (filled-same s k (movedAt k (row l (k * k) m) (nodesAt nodes size k i) s (row u q m)) (row trial q m) (row trial q m1) (omega (arith, g .within, row-length trial q m (omega (arith, g .in-m)))) o)
 
-      module _ (r2 m2 : List Float) (x : Float) (c : PointIn (groupTermIn (gainIn family link shape theta Z y weights offset n q xbeta r1) s k inv nodes ws size (row l (k * k) m1) (row u q m1) (row trial q m1) i) (groupEffects s k nodes size (row l (k * k) m1) (row u q m1) (row trial q m1) i) n q xbeta trial r1 r2 m1 m2 x) where
-        group-same : groupTermIn (gainIn family link shape theta Z y weights offset n q xbeta r1) s k inv nodes ws size (row l (k * k) m1) (row u q m1) (row trial q m1) i ≡ groupTermIn (gainIn family link shape theta Z y weights offset n q xbeta r) s k inv nodes ws size (row l (k * k) m) (row u q m) (row trial q m) i
+      module _ (r2 m2 : List Float) (x : Float) (c : PointIn (groupTermIn (gainIn family link shape theta Z y weights offset n q xbeta r1) s k inv nodes logs size (row l (k * k) m1) (row u q m1) (row trial q m1) i) (groupEffects s k nodes size (row l (k * k) m1) (row u q m1) (row trial q m1) i) n q xbeta trial r1 r2 m1 m2 x) where
+        group-same : groupTermIn (gainIn family link shape theta Z y weights offset n q xbeta r1) s k inv nodes logs size (row l (k * k) m1) (row u q m1) (row trial q m1) i ≡ groupTermIn (gainIn family link shape theta Z y weights offset n q xbeta r) s k inv nodes logs size (row l (k * k) m) (row u q m) (row trial q m) i
         unfolding groupTermIn
         group-same = rw (gain-kept family link shape theta Z y weights offset n q xbeta r r1 hr (p .in-r), same-effects, only-row u q trial (q + q + q) (inl (g .hats)) (omega (arith, g .hats, g .in-m)) (p .in-m)) refl
 
         -- and the trial row outside the group's places is as it was
-        pub group-turn : (TermsIn (groupTermIn (gainIn family link shape theta Z y weights offset n q xbeta r) s k inv nodes ws size (row l (k * k) m) (row u q m) (row trial q m)) n q xbeta trial (i + 1) r r2 m m2 t (set t1 i x)) × (Only s k (row trial q m) (row trial q m2))
+        pub group-turn : (TermsIn (groupTermIn (gainIn family link shape theta Z y weights offset n q xbeta r) s k inv nodes logs size (row l (k * k) m) (row u q m) (row trial q m)) n q xbeta trial (i + 1) r r2 m m2 t (set t1 i x)) × (Only s k (row trial q m) (row trial q m2))
         unfolding groupEffects movedEffects
         group-turn = (terms-step p c group-same, rw (c .effects ∙ same-effects) (fillat-only s k k (movedAt k (row l (k * k) m) (nodesAt nodes size k i) s (row u q m)) (row trial q m) (omega arith)))
 
     -- of all effects
-    module _ (hats : Float) (g : Grid q 0 q size l u trial nodes m) (h : hats ≡ dotOf q (row u q m) (row u q m)) (p : TermsIn (jointTermIn (gainIn family link shape theta Z y weights offset n q xbeta r) q inv nodes ws size (row l (q * q) m) (row u q m)) n q xbeta trial i r r1 m m1 t t1) where
-      joint-same : jointTermWith (gainIn family link shape theta Z y weights offset n q xbeta r1) q (logWeightIn ws size q i) inv hats (jointEffects q nodes size (row l (q * q) m1) (row u q m1) i) ≡ jointTermIn (gainIn family link shape theta Z y weights offset n q xbeta r) q inv nodes ws size (row l (q * q) m) (row u q m) i
+    module _ (hats : Float) (g : Grid q 0 q size l u trial nodes m) (h : hats ≡ dotOf q (row u q m) (row u q m)) (p : TermsIn (jointTermIn (gainIn family link shape theta Z y weights offset n q xbeta r) q inv nodes logs size (row l (q * q) m) (row u q m)) n q xbeta trial i r r1 m m1 t t1) where
+      joint-same : jointTermWith (gainIn family link shape theta Z y weights offset n q xbeta r1) q (logWeightIn logs size q i) inv hats (jointEffects q nodes size (row l (q * q) m1) (row u q m1) i) ≡ jointTermIn (gainIn family link shape theta Z y weights offset n q xbeta r) q inv nodes logs size (row l (q * q) m) (row u q m) i
       unfolding jointTermIn
       joint-same = rw (gain-kept family link shape theta Z y weights offset n q xbeta r r1 hr (p .in-r), h, only-row l (q * q) trial (q + q + q) (inl (omega (arith, g .factor, g .hats))) (omega (arith, g .factor, g .hats, g .in-m)) (p .in-m), only-row u q trial (q + q + q) (inl (g .hats)) (omega (arith, g .hats, g .in-m)) (p .in-m)) refl
 
-      pub joint-turn : (r2 m2 : List Float) (x : Float) → PointIn (jointTermWith (gainIn family link shape theta Z y weights offset n q xbeta r1) q (logWeightIn ws size q i) inv hats (jointEffects q nodes size (row l (q * q) m1) (row u q m1) i)) (jointEffects q nodes size (row l (q * q) m1) (row u q m1) i) n q xbeta trial r1 r2 m1 m2 x
-          → TermsIn (jointTermIn (gainIn family link shape theta Z y weights offset n q xbeta r) q inv nodes ws size (row l (q * q) m) (row u q m)) n q xbeta trial (i + 1) r r2 m m2 t (set t1 i x)
+      pub joint-turn : (r2 m2 : List Float) (x : Float) → PointIn (jointTermWith (gainIn family link shape theta Z y weights offset n q xbeta r1) q (logWeightIn logs size q i) inv hats (jointEffects q nodes size (row l (q * q) m1) (row u q m1) i)) (jointEffects q nodes size (row l (q * q) m1) (row u q m1) i) n q xbeta trial r1 r2 m1 m2 x
+          → TermsIn (jointTermIn (gainIn family link shape theta Z y weights offset n q xbeta r) q inv nodes logs size (row l (q * q) m) (row u q m)) n q xbeta trial (i + 1) r r2 m m2 t (set t1 i x)
       joint-turn r2 m2 x c = terms-step p c joint-same

@@ -9,7 +9,7 @@ use Rattle.base.specs.Number.{_⊕_, _⊖_}
 use Rattle.base.specs.Sum.{sumTo, allTo, finiteAt, dotOf}
 use Rattle.base.specs.List.{build, fillTo, fillAt}
 use Rattle.base.specs.Rows.{row, Only}
-use Rattle.agq_rule.specs.Point.{digitEntry, logEntry}
+use Rattle.agq_rule.specs.Point.{digitEntry}
 use Rattle.agq_rule.specs.Term.{deltaOf, movedAt, groupPenalty}
 
 -- the places and sizes that the points ask for: the k effects from s on are among the q; L at l, û at u, then the effects at a point, Λ times them and its nodes
@@ -28,9 +28,9 @@ pub record Grid (q s k size l u trial : ℕ) (nodes m : List Float) : Type 0 whe
 unfoldable pub nodesAt : List Float → ℕ → ℕ → ℕ → List Float
 nodesAt nodes size k point = build (digitEntry nodes size point) k
 
--- its log weight
+-- its log weight, from the logarithms of the weights
 unfoldable pub logWeightIn : List Float → ℕ → ℕ → ℕ → Float
-logWeightIn ws size k point = sumTo k (logEntry ws size point)
+logWeightIn logs size k point = sumTo k (digitEntry logs size point)
 
 -- the effects `before` with the k of them from s on moved by L z from û
 unfoldable pub movedEffects : ℕ → ℕ → List Float → List Float → List Float → List Float → List Float
@@ -68,8 +68,8 @@ groupTermWith gain s k logWeight inv u t = logWeight ⊕ deltaOf inv (gain t) (g
 
 -- the log term of a point
 unfoldable pub groupTermIn : (List Float → Float) → ℕ → ℕ → Float → List Float → List Float → ℕ → List Float → List Float → List Float → ℕ → Float
-groupTermIn gain s k inv nodes ws size L u before point =
-    groupTermWith gain s k (logWeightIn ws size k point) inv u (groupEffects s k nodes size L u before point)
+groupTermIn gain s k inv nodes logs size L u before point =
+    groupTermWith gain s k (logWeightIn logs size k point) inv u (groupEffects s k nodes size L u before point)
 
 -- ---- all q effects at once
 
@@ -83,5 +83,5 @@ jointTermWith gain q logWeight inv hats t = logWeight ⊕ deltaOf inv (gain t) (
 
 -- the log term of a point
 unfoldable pub jointTermIn : (List Float → Float) → ℕ → Float → List Float → List Float → ℕ → List Float → List Float → ℕ → Float
-jointTermIn gain q inv nodes ws size L u point =
-    jointTermWith gain q (logWeightIn ws size q point) inv (dotOf q u u) (jointEffects q nodes size L u point)
+jointTermIn gain q inv nodes logs size L u point =
+    jointTermWith gain q (logWeightIn logs size q point) inv (dotOf q u u) (jointEffects q nodes size L u point)

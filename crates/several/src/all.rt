@@ -30,7 +30,7 @@ pub fn joint_point(
     xbeta: usize,
     r: &mut [f64],
     nodes: &[f64],
-    node_weights: &[f64],
+    node_logs: &[f64],
     size: usize,
     point: usize,
     inv_phi: f64,
@@ -42,8 +42,8 @@ pub fn joint_point(
 ) -> f64
     requires { ⌜ Room shape (now theta) (now starts) (now columns) (now values) (now y) (now offset) n q xbeta (now r) trial (now m) ⌝ }
     requires { ⌜ Grid q 0 q size l u trial (now nodes) (now m) ⌝ }
-    requires { ⌜ size ≤ length (now «node_weights») ⌝ }
-    ensures { λ x. ⌜ PointIn (jointTermWith (gainIn family link shape (now (theta .entry)) (sparse (now (starts .entry)) (now (columns .entry)) (now (values .entry))) (now (y .entry)) (now (weights .entry)) (now (offset .entry)) n q xbeta (now (r .entry))) q (logWeightIn (now («node_weights» .entry)) size q point) «inv_phi» hats (jointEffects q (now (nodes .entry)) size (row l (q * q) (now (m .entry))) (row u q (now (m .entry))) point)) (jointEffects q (now (nodes .entry)) size (row l (q * q) (now (m .entry))) (row u q (now (m .entry))) point) n q xbeta trial (now (r .entry)) (now (r .exit)) (now (m .entry)) (now (m .exit)) x ⌝ }
+    requires { ⌜ size ≤ length (now «node_logs») ⌝ }
+    ensures { λ x. ⌜ PointIn (jointTermWith (gainIn family link shape (now (theta .entry)) (sparse (now (starts .entry)) (now (columns .entry)) (now (values .entry))) (now (y .entry)) (now (weights .entry)) (now (offset .entry)) n q xbeta (now (r .entry))) q (logWeightIn (now («node_logs» .entry)) size q point) «inv_phi» hats (jointEffects q (now (nodes .entry)) size (row l (q * q) (now (m .entry))) (row u q (now (m .entry))) point)) (jointEffects q (now (nodes .entry)) size (row l (q * q) (now (m .entry))) (row u q (now (m .entry))) point) n q xbeta trial (now (r .entry)) (now (r .exit)) (now (m .entry)) (now (m .exit)) x ⌝ }
 {
     let dd = trial_gain(
         family,
@@ -72,7 +72,7 @@ pub fn joint_point(
     );
     let end = trial + q;
     let squares = dot(&m[trial..end], &m[trial..end], q);
-    let weight = log_weight(node_weights, size, q, point);
+    let weight = log_weight(node_logs, size, q, point);
     weight + delta(inv_phi, dd, squares - hats)
 }
 
@@ -93,7 +93,7 @@ pub fn joint_terms(
     xbeta: usize,
     r: &mut [f64],
     nodes: &[f64],
-    node_weights: &[f64],
+    node_logs: &[f64],
     size: usize,
     count: usize,
     inv_phi: f64,
@@ -105,8 +105,8 @@ pub fn joint_terms(
 )
     requires { ⌜ Room shape (now theta) (now starts) (now columns) (now values) (now y) (now offset) n q xbeta (now r) trial (now m) ⌝ }
     requires { ⌜ Grid q 0 q size l u trial (now nodes) (now m) ⌝ }
-    requires { ⌜ (size ≤ length (now «node_weights»)) × (count ≤ length (now terms)) ⌝ }
-    ensures { λ _. ⌜ TermsIn (jointTermIn (gainIn family link shape (now (theta .entry)) (sparse (now (starts .entry)) (now (columns .entry)) (now (values .entry))) (now (y .entry)) (now (weights .entry)) (now (offset .entry)) n q xbeta (now (r .entry))) q «inv_phi» (now (nodes .entry)) (now («node_weights» .entry)) size (row l (q * q) (now (m .entry))) (row u q (now (m .entry)))) n q xbeta trial count (now (r .entry)) (now (r .exit)) (now (m .entry)) (now (m .exit)) (now (terms .entry)) (now (terms .exit)) ⌝ }
+    requires { ⌜ (size ≤ length (now «node_logs»)) × (count ≤ length (now terms)) ⌝ }
+    ensures { λ _. ⌜ TermsIn (jointTermIn (gainIn family link shape (now (theta .entry)) (sparse (now (starts .entry)) (now (columns .entry)) (now (values .entry))) (now (y .entry)) (now (weights .entry)) (now (offset .entry)) n q xbeta (now (r .entry))) q «inv_phi» (now (nodes .entry)) (now («node_logs» .entry)) size (row l (q * q) (now (m .entry))) (row u q (now (m .entry)))) n q xbeta trial count (now (r .entry)) (now (r .exit)) (now (m .entry)) (now (m .exit)) (now (terms .entry)) (now (terms .exit)) ⌝ }
 {
     let end = u + q;
     let hats = dot(&m[u..end], &m[u..end], q);
@@ -128,7 +128,7 @@ pub fn joint_terms(
             xbeta,
             r,
             nodes,
-            node_weights,
+            node_logs,
             size,
             i,
             inv_phi,

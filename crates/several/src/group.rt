@@ -30,7 +30,7 @@ pub fn group_point(
     xbeta: usize,
     r: &mut [f64],
     nodes: &[f64],
-    node_weights: &[f64],
+    node_logs: &[f64],
     size: usize,
     point: usize,
     s: usize,
@@ -43,8 +43,8 @@ pub fn group_point(
 ) -> f64
     requires { ⌜ Room shape (now theta) (now starts) (now columns) (now values) (now y) (now offset) n q xbeta (now r) trial (now m) ⌝ }
     requires { ⌜ Grid q s k size l u trial (now nodes) (now m) ⌝ }
-    requires { ⌜ size ≤ length (now «node_weights») ⌝ }
-    ensures { λ x. ⌜ PointIn (groupTermIn (gainIn family link shape (now (theta .entry)) (sparse (now (starts .entry)) (now (columns .entry)) (now (values .entry))) (now (y .entry)) (now (weights .entry)) (now (offset .entry)) n q xbeta (now (r .entry))) s k «inv_phi» (now (nodes .entry)) (now («node_weights» .entry)) size (row l (k * k) (now (m .entry))) (row u q (now (m .entry))) (row trial q (now (m .entry))) point) (groupEffects s k (now (nodes .entry)) size (row l (k * k) (now (m .entry))) (row u q (now (m .entry))) (row trial q (now (m .entry))) point) n q xbeta trial (now (r .entry)) (now (r .exit)) (now (m .entry)) (now (m .exit)) x ⌝ }
+    requires { ⌜ size ≤ length (now «node_logs») ⌝ }
+    ensures { λ x. ⌜ PointIn (groupTermIn (gainIn family link shape (now (theta .entry)) (sparse (now (starts .entry)) (now (columns .entry)) (now (values .entry))) (now (y .entry)) (now (weights .entry)) (now (offset .entry)) n q xbeta (now (r .entry))) s k «inv_phi» (now (nodes .entry)) (now («node_logs» .entry)) size (row l (k * k) (now (m .entry))) (row u q (now (m .entry))) (row trial q (now (m .entry))) point) (groupEffects s k (now (nodes .entry)) size (row l (k * k) (now (m .entry))) (row u q (now (m .entry))) (row trial q (now (m .entry))) point) n q xbeta trial (now (r .entry)) (now (r .exit)) (now (m .entry)) (now (m .exit)) x ⌝ }
 {
     let dd = trial_gain(
         family,
@@ -76,7 +76,7 @@ pub fn group_point(
     let hat = u + s;
     let hat_end = hat + k;
     let pen = group_penalty(&m[at..end], &m[hat..hat_end], k);
-    let weight = log_weight(node_weights, size, k, point);
+    let weight = log_weight(node_logs, size, k, point);
     weight + delta(inv_phi, dd, pen)
 }
 
@@ -97,7 +97,7 @@ pub fn group_terms(
     xbeta: usize,
     r: &mut [f64],
     nodes: &[f64],
-    node_weights: &[f64],
+    node_logs: &[f64],
     size: usize,
     s: usize,
     k: usize,
@@ -111,8 +111,8 @@ pub fn group_terms(
 )
     requires { ⌜ Room shape (now theta) (now starts) (now columns) (now values) (now y) (now offset) n q xbeta (now r) trial (now m) ⌝ }
     requires { ⌜ Grid q s k size l u trial (now nodes) (now m) ⌝ }
-    requires { ⌜ (size ≤ length (now «node_weights»)) × (count ≤ length (now terms)) ⌝ }
-    ensures { λ _. ⌜ TermsIn (groupTermIn (gainIn family link shape (now (theta .entry)) (sparse (now (starts .entry)) (now (columns .entry)) (now (values .entry))) (now (y .entry)) (now (weights .entry)) (now (offset .entry)) n q xbeta (now (r .entry))) s k «inv_phi» (now (nodes .entry)) (now («node_weights» .entry)) size (row l (k * k) (now (m .entry))) (row u q (now (m .entry))) (row trial q (now (m .entry)))) n q xbeta trial count (now (r .entry)) (now (r .exit)) (now (m .entry)) (now (m .exit)) (now (terms .entry)) (now (terms .exit)) ⌝ }
+    requires { ⌜ (size ≤ length (now «node_logs»)) × (count ≤ length (now terms)) ⌝ }
+    ensures { λ _. ⌜ TermsIn (groupTermIn (gainIn family link shape (now (theta .entry)) (sparse (now (starts .entry)) (now (columns .entry)) (now (values .entry))) (now (y .entry)) (now (weights .entry)) (now (offset .entry)) n q xbeta (now (r .entry))) s k «inv_phi» (now (nodes .entry)) (now («node_logs» .entry)) size (row l (k * k) (now (m .entry))) (row u q (now (m .entry))) (row trial q (now (m .entry)))) n q xbeta trial count (now (r .entry)) (now (r .exit)) (now (m .entry)) (now (m .exit)) (now (terms .entry)) (now (terms .exit)) ⌝ }
 {
     let mut i = 0;
     while i < count {
@@ -132,7 +132,7 @@ pub fn group_terms(
             xbeta,
             r,
             nodes,
-            node_weights,
+            node_logs,
             size,
             i,
             s,

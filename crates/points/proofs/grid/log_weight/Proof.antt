@@ -5,16 +5,16 @@ use native.Mathlib.Nat.{mod-lt}
 use native.Mathlib.Omega.{arith}
 use Rattle.base.specs.Sum.{sumTo}
 use Rattle.base.proofs.Sums.{sum-none, sum-end}
-use Rattle.agq_rule.specs.Point.{logEntry}
+use Rattle.agq_rule.specs.Point.{digitEntry}
 use Rattle.points.proofs.Digits.{rest-all, rest-step, log-step}
 use Rattle.points.proofs.grid.log_weight.Statement.{statement}
 use Rattle.points.proofs.grid.log_weight.Tie as tie
 
 abbrev Inv-loop : tie.InvT-loop
-Inv-loop weights size k point rest₀ sum₀ j₀ rest sum j = (j ≤ k) × (rest ≡ point / size ^ j) × (sum ≡ sumTo j (logEntry weights size point))
+Inv-loop logs size k point rest₀ sum₀ j₀ rest sum j = (j ≤ k) × (rest ≡ point / size ^ j) × (sum ≡ sumTo j (digitEntry logs size point))
 
 abbrev μ-loop : tie.MeasureT-loop
-μ-loop weights size k point rest₀ sum₀ j₀ rest sum j = k - j
+μ-loop logs size k point rest₀ sum₀ j₀ rest sum j = k - j
 
 loop-holds : tie.Need-loop-holds Inv-loop μ-loop
 loop-holds c = (omega arith, rest-all _ _, sum-none _)
@@ -22,20 +22,17 @@ loop-holds c = (omega arith, rest-all _ _, sum-none _)
 rem-d : tie.Need-rem-d Inv-loop μ-loop
 rem-d c = omega arith
 
-mul-ln : tie.Need-mul-ln Inv-loop μ-loop
-mul-ln c =
-    let s = c .before .before .before in
+mul-sum : tie.Need-mul-sum Inv-loop μ-loop
+mul-sum c =
+    let s = c .before .before in
     let some : 0 < s .args .size = omega (arith, s .pre .0) in
     omega (arith, mod-lt (c .before .loop .rest) some)
 
-shared-slice-read-ln : tie.Need-shared-slice-read-ln Inv-loop μ-loop
-shared-slice-read-ln c =
-    let s = c .before .before .before .before in
+shared-slice-read-sum : tie.Need-shared-slice-read-sum Inv-loop μ-loop
+shared-slice-read-sum c =
+    let s = c .before .before .before in
     let some : 0 < s .args .size = omega (arith, s .pre .0) in
     omega (arith, mod-lt (c .before .before .loop .rest) some)
-
-ln-requires : tie.Need-ln-requires Inv-loop μ-loop
-ln-requires c κs = omega arith
 
 div-rest : tie.Need-div-rest Inv-loop μ-loop
 div-rest c = omega arith
@@ -48,9 +45,9 @@ loop-less c = omega arith
 
 loop-again : tie.Need-loop-again Inv-loop μ-loop
 loop-again c =
-    let a = c .before .before .before .before .before .args in
-    let l = c .before .before .before .loop in
-    (omega arith, rest-step (a .size) (a .point) (l .j) (l .rest) (l .inv .1), log-step (a .weights .now) (a .size) (a .point) (l .j) (l .rest) _ _ (l .inv .1) (c .ln .ensures) (l .inv .2))
+    let a = c .before .before .before .args in
+    let l = c .before .before .loop in
+    (omega arith, rest-step (a .size) (a .point) (l .j) (l .rest) (l .inv .1), log-step (a .logs .now) (a .size) (a .point) (l .j) (l .rest) _ (l .inv .1) (l .inv .2))
 
 returns : tie.Need-returns Inv-loop μ-loop
 returns c = sum-end _ _ _ _ (c .before .loop .inv .2) (omega arith) (omega arith)
@@ -63,9 +60,8 @@ log-weight-spec =
     μ-loop
     loop-holds
     rem-d
-    mul-ln
-    shared-slice-read-ln
-    ln-requires
+    mul-sum
+    shared-slice-read-sum
     div-rest
     add-j
     loop-less

@@ -15,10 +15,10 @@ use Rattle.several.proofs.all.joint_terms.Statement.{statement}
 use Rattle.several.proofs.all.joint_terms.Tie as tie
 
 abbrev Inv-loop : tie.InvT-loop
-Inv-loop family link shape theta starts columns values y weights offset n q xbeta r₀ nodes node-weights size count inv-phi l u trial m₀ terms₀ end hats i₀ r m terms i = (i ≤ count) × (hats ≡ dotOf q (row u q m₀) (row u q m₀)) × (TermsIn (jointTermIn (gainIn family link shape theta (sparse starts columns values) y weights offset n q xbeta r₀) q inv-phi nodes node-weights size (row l (q * q) m₀) (row u q m₀)) n q xbeta trial i r₀ r m₀ m terms₀ terms)
+Inv-loop family link shape theta starts columns values y weights offset n q xbeta r₀ nodes node-logs size count inv-phi l u trial m₀ terms₀ end hats i₀ r m terms i = (i ≤ count) × (hats ≡ dotOf q (row u q m₀) (row u q m₀)) × (TermsIn (jointTermIn (gainIn family link shape theta (sparse starts columns values) y weights offset n q xbeta r₀) q inv-phi nodes node-logs size (row l (q * q) m₀) (row u q m₀)) n q xbeta trial i r₀ r m₀ m terms₀ terms)
 
 abbrev μ-loop : tie.MeasureT-loop
-μ-loop family link shape theta starts columns values y weights offset n q xbeta r₀ nodes node-weights size count inv-phi l u trial m₀ terms₀ end hats i₀ r m terms i = count - i
+μ-loop family link shape theta starts columns values y weights offset n q xbeta r₀ nodes node-logs size count inv-phi l u trial m₀ terms₀ end hats i₀ r m terms i = count - i
 
 add-end : tie.Need-add-end Inv-loop μ-loop
 add-end c = omega (arith, c .before .before .before .before .before .before .before .before .before .before .before .before .good .1 .1 .1 .1 .1 .1 .1 .1 .1 .1 .1 .1 .1 .1 .1 .1 .1 .1 .1 .1 .1 .1 .0, c .before .before .before .before .before .before .before .before .before .before .before .before .pre .1 .0 .in-m, c .before .before .before .before .before .before .before .before .before .before .before .before .pre .1 .0 .hats)
@@ -77,7 +77,7 @@ loop-again : tie.Need-loop-again Inv-loop μ-loop
 loop-again c =
     let a = c .before .before .before .before .before .before .before .before .before .before .before .before .before .before .before .before .before .before .before .before .before .before .before .before .before .args in
     let at = c .before .before .before .before .before .before .before .before .loop in
-    (omega (arith, c .before .before .before .before .before .before .before .loop-test .taken), at .inv .1, joint-turn (a .family) (a .link) (a .shape) (a .theta .now) (sparse (a .starts .now) (a .columns .now) (a .values .now)) (a .y .now) (a .weights .now) (a .offset .now) (a .n) (a .q) (a .xbeta) (a .r .now) (at .r) (c .before .before .before .before .before .before .before .before .before .before .before .before .before .before .before .before .before .before .before .before .before .before .before .before .before .pre .0 .in-r) (a .size) (a .l) (a .u) (a .trial) (a .nodes .now) (a .node-weights .now) (a .inv-phi) (a .m .now) (at .m) (a .terms .now) (at .terms) (at .i) _ (c .before .before .before .before .before .before .before .before .before .before .before .before .before .before .before .before .before .before .before .before .before .before .before .before .before .pre .1 .0) (at .inv .1) (at .inv .2) _ _ _ (c .before .before .before .before .joint-point .ensures))
+    (omega (arith, c .before .before .before .before .before .before .before .loop-test .taken), at .inv .1, joint-turn (a .family) (a .link) (a .shape) (a .theta .now) (sparse (a .starts .now) (a .columns .now) (a .values .now)) (a .y .now) (a .weights .now) (a .offset .now) (a .n) (a .q) (a .xbeta) (a .r .now) (at .r) (c .before .before .before .before .before .before .before .before .before .before .before .before .before .before .before .before .before .before .before .before .before .before .before .before .before .pre .0 .in-r) (a .size) (a .l) (a .u) (a .trial) (a .nodes .now) (a .node-logs .now) (a .inv-phi) (a .m .now) (at .m) (a .terms .now) (at .terms) (at .i) _ (c .before .before .before .before .before .before .before .before .before .before .before .before .before .before .before .before .before .before .before .before .before .before .before .before .before .pre .1 .0) (at .inv .1) (at .inv .2) _ _ _ (c .before .before .before .before .joint-point .ensures))
 
 same-length : tie.Need-same-length Inv-loop μ-loop
 same-length c = c .before .loop .inv .2 .in-r .len

@@ -12,10 +12,10 @@ use Rattle.several.proofs.group.group_terms.Statement.{statement}
 use Rattle.several.proofs.group.group_terms.Tie as tie
 
 abbrev Inv-loop : tie.InvT-loop
-Inv-loop family link shape theta starts columns values y weights offset n q xbeta r₀ nodes node-weights size s k count inv-phi l u trial m₀ terms₀ i₀ r m terms i = (i ≤ count) × (TermsIn (groupTermIn (gainIn family link shape theta (sparse starts columns values) y weights offset n q xbeta r₀) s k inv-phi nodes node-weights size (row l (k * k) m₀) (row u q m₀) (row trial q m₀)) n q xbeta trial i r₀ r m₀ m terms₀ terms) × (Only s k (row trial q m₀) (row trial q m))
+Inv-loop family link shape theta starts columns values y weights offset n q xbeta r₀ nodes node-logs size s k count inv-phi l u trial m₀ terms₀ i₀ r m terms i = (i ≤ count) × (TermsIn (groupTermIn (gainIn family link shape theta (sparse starts columns values) y weights offset n q xbeta r₀) s k inv-phi nodes node-logs size (row l (k * k) m₀) (row u q m₀) (row trial q m₀)) n q xbeta trial i r₀ r m₀ m terms₀ terms) × (Only s k (row trial q m₀) (row trial q m))
 
 abbrev μ-loop : tie.MeasureT-loop
-μ-loop family link shape theta starts columns values y weights offset n q xbeta r₀ nodes node-weights size s k count inv-phi l u trial m₀ terms₀ i₀ r m terms i = count - i
+μ-loop family link shape theta starts columns values y weights offset n q xbeta r₀ nodes node-logs size s k count inv-phi l u trial m₀ terms₀ i₀ r m terms i = count - i
 
 loop-holds : tie.Need-loop-holds Inv-loop μ-loop
 loop-holds c = (omega arith, terms-none, only-none _ _ _)
@@ -42,7 +42,7 @@ loop-again : tie.Need-loop-again Inv-loop μ-loop
 loop-again c =
     let a = c .before .before .before .before .before .before .before .before .before .before .before .before .before .before .before .before .before .before .before .before .before .args in
     let at = c .before .before .before .before .before .before .before .before .loop in
-    let p = group-turn (a .family) (a .link) (a .shape) (a .theta .now) (sparse (a .starts .now) (a .columns .now) (a .values .now)) (a .y .now) (a .weights .now) (a .offset .now) (a .n) (a .q) (a .xbeta) (a .r .now) (at .r) (c .before .before .before .before .before .before .before .before .before .before .before .before .before .before .before .before .before .before .before .before .before .pre .0 .in-r) (a .size) (a .l) (a .u) (a .trial) (a .nodes .now) (a .node-weights .now) (a .inv-phi) (a .m .now) (at .m) (a .terms .now) (at .terms) (at .i) (a .s) (a .k) (c .before .before .before .before .before .before .before .before .before .before .before .before .before .before .before .before .before .before .before .before .before .pre .1 .0) (at .inv .1) (at .inv .2) _ _ _ (c .before .before .before .before .group-point .ensures) in
+    let p = group-turn (a .family) (a .link) (a .shape) (a .theta .now) (sparse (a .starts .now) (a .columns .now) (a .values .now)) (a .y .now) (a .weights .now) (a .offset .now) (a .n) (a .q) (a .xbeta) (a .r .now) (at .r) (c .before .before .before .before .before .before .before .before .before .before .before .before .before .before .before .before .before .before .before .before .before .pre .0 .in-r) (a .size) (a .l) (a .u) (a .trial) (a .nodes .now) (a .node-logs .now) (a .inv-phi) (a .m .now) (at .m) (a .terms .now) (at .terms) (at .i) (a .s) (a .k) (c .before .before .before .before .before .before .before .before .before .before .before .before .before .before .before .before .before .before .before .before .before .pre .1 .0) (at .inv .1) (at .inv .2) _ _ _ (c .before .before .before .before .group-point .ensures) in
     (omega (arith, c .before .before .before .before .before .before .before .loop-test .taken), p .0, p .1)
 
 same-length : tie.Need-same-length Inv-loop μ-loop
