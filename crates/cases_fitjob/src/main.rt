@@ -2,6 +2,7 @@
 // The first job is one byte longer than a job may be, and stands here.
 ghost use Prim.Native.Nat.{_≤_};
 ghost use lib.ListN.{length};
+ghost use Rattle.report.specs.Report.{outRoom};
 
 // At most b.
 fn least(a: usize, b: usize) -> usize
@@ -14,7 +15,7 @@ fn least(a: usize, b: usize) -> usize
 }
 
 fn put_job(number: u64, job: &[u8], out: &mut [u8])
-    requires { ⌜ 131072 ≤ length (now out) ⌝ }
+    requires { ⌜ outRoom ≤ length (now out) ⌝ }
 {
     text::put_word(b"job");
     text::put_count(number);
@@ -25,7 +26,7 @@ fn put_job(number: u64, job: &[u8], out: &mut [u8])
 
 // The first n bytes as a job.
 fn put_front(number: u64, bytes: &[u8], n: usize, out: &mut [u8])
-    requires { ⌜ 131072 ≤ length (now out) ⌝ }
+    requires { ⌜ outRoom ≤ length (now out) ⌝ }
 {
     let m = least(n, bytes.len());
     put_job(number, &bytes[0..m], out);
@@ -41,7 +42,7 @@ fn job_size(high: u8, middle: u8, low: u8) -> usize
 
 // One job from standard input; whether there was one.
 fn next_job(number: u64, size: &mut [u8], space: &mut [u8], out: &mut [u8]) -> bool
-    requires { ⌜ (3 ≤ length (now size)) × (65536 ≤ length (now space)) × (131072 ≤ length (now out)) ⌝ }
+    requires { ⌜ (3 ≤ length (now size)) × (65536 ≤ length (now space)) × (outRoom ≤ length (now out)) ⌝ }
 {
     let had = io::read_full(0, size);
     if had < 3 {
@@ -54,7 +55,7 @@ fn next_job(number: u64, size: &mut [u8], space: &mut [u8], out: &mut [u8]) -> b
 }
 
 fn all_jobs(size: &mut [u8], space: &mut [u8], out: &mut [u8])
-    requires { ⌜ (3 ≤ length (now size)) × (65536 ≤ length (now space)) × (131072 ≤ length (now out)) ⌝ }
+    requires { ⌜ (3 ≤ length (now size)) × (65536 ≤ length (now space)) × (outRoom ≤ length (now out)) ⌝ }
 {
     let mut number: u64 = 1;
     while number < 1000 {

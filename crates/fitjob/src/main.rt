@@ -1,6 +1,7 @@
 // The program: one job from standard input, its answer on standard output. What is printed of a job is `respond`'s contract; here it is only read and written.
 ghost use Prim.Native.Nat.{_≤_};
 ghost use lib.ListN.{length};
+ghost use Rattle.report.specs.Report.{outRoom};
 ghost use Rattle.fitjob.specs.Input.{heldOf};
 
 // What standard input held: so many bytes, more than there is room for, or it could not be read.
@@ -53,14 +54,14 @@ fn put(bytes: &[u8]) {
 }
 
 fn put_answer(job: &[u8], out: &mut [u8])
-    requires { ⌜ 131072 ≤ length (now out) ⌝ }
+    requires { ⌜ outRoom ≤ length (now out) ⌝ }
 {
     let n = respond::respond(job, out);
     put(&out[0..n]);
 }
 
 fn put_too_long(out: &mut [u8])
-    requires { ⌜ 131072 ≤ length (now out) ⌝ }
+    requires { ⌜ outRoom ≤ length (now out) ⌝ }
 {
     let n = respond::respond_long(out);
     put(&out[0..n]);

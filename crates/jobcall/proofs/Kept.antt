@@ -25,8 +25,9 @@ use Rattle.dispersion.specs.Rounds.{Result, result, noResult, Dispersed}
 use Rattle.call.specs.Fit.{Fitted}
 use Rattle.call.specs.Call.{Lent, lengthsOf, callOf}
 use Rattle.call.proofs.Leaves.{refused-left, askedFit, unfitted-answer, fitted-number}
-use Rattle.jobcall.specs.Told.{Buffers, lentFor, done, resultsBy, doneOf, doneFor, returnedBy, toldBy, answered, counted, withTheta, fitJobOf, fitJobThetaOf}
-use Rattle.jobcall.proofs.Lent.{refusal-some}
+use Rattle.jobfit.specs.Done.{lentFor, done, resultsBy, doneOf, doneFor}
+use Rattle.jobfit.proofs.Lent.{refusal-some}
+use Rattle.jobcall.specs.Told.{Buffers, returnedBy, toldBy, answered, counted, withTheta, fitJobOf, fitJobThetaOf}
 
 -- all but the counts is as lent
 pub record AsLent (before after : Buffers) : Type 0 where

@@ -1,7 +1,6 @@
 -- The laws of the call with a job. Assumes nothing.
-pub mod Behind
-pub mod Lent
-pub mod Reading
+pub mod Nine
+pub mod Telling
 pub mod Within
 pub mod Kept
 pub mod Unique

@@ -4,17 +4,20 @@ use Prim.Native.Nat.{ℕ}
 use Rattle.model.specs.Shape.{within}
 use Rattle.layout.specs.WorkRows.{rowsLength}
 use Rattle.layout.specs.WorkMatrices.{matricesLength}
-use Rattle.jobcall.specs.Told.{resultsLength}
+use Rattle.jobfit.specs.Done.{resultsLength}
 
 -- x where k is from 1 to most, else 0
 unfoldable pub whenIn : ℕ → ℕ → ℕ → ℕ
 whenIn most k x = cond (within 1 most k) x 0
 
+-- the length of `rows` for n observations
 abbrev pub rowsAsked : ℕ → ℕ
 rowsAsked n = whenIn 512 n (rowsLength n)
 
+-- the length of `matrices` for p columns of X and q effects
 abbrev pub matricesAsked : ℕ → ℕ → ℕ
 matricesAsked p q = whenIn 16 p (whenIn 32 q (matricesLength p q))
 
+-- the length of `results`
 abbrev pub resultsAsked : ℕ → ℕ → ℕ → ℕ
 resultsAsked n p q = whenIn 512 n (whenIn 16 p (whenIn 32 q (resultsLength n p q)))

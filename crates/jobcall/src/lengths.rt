@@ -1,5 +1,5 @@
 // The lengths of the buffers that a caller must lend; 0 where the sizes are not carried.
-use crate::fronts::results_length;
+use jobfit::results_length;
 ghost use mathlib.Core.Path.{_≡_};
 ghost use Rattle.model.specs.Shape.{within};
 ghost use Rattle.jobcall.specs.Asked.{rowsAsked, matricesAsked, resultsAsked};

@@ -1,7 +1,5 @@
 // A call of the fit with the bytes of a job: read, refused or fitted, and told in lent buffers.
-mod copies;
 mod counts;
-mod fronts;
 mod lengths;
 mod whole;
 

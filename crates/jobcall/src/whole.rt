@@ -2,20 +2,21 @@
 use crate::counts::put_counts;
 use crate::counts::put_refusal;
 use crate::counts::returned;
-use crate::fronts::fit_fronts;
+use jobfit::fit_fronts;
 use reader::Header;
 use reader::Reading;
 ghost use mathlib.Core.Path.{_≡_};
-ghost use mathlib.Core.Bool.{true};
+ghost use mathlib.Core.Bool.{true, cond};
 ghost use Prim.Native.Nat.{_≤_};
-ghost use lib.ListN.{length};
+ghost use lib.ListN.{length, take};
 ghost use Rattle.job.specs.Format.{shapeOf};
 ghost use Rattle.job.specs.Faults.{faultOf};
 ghost use Rattle.job.specs.Job.{readOf};
 ghost use Rattle.reader.specs.Reading.{roomy, shapeBy};
 ghost use Rattle.model.specs.Inputs.{inputs};
-ghost use Rattle.jobcall.specs.Told.{buffers, told, doneFor, toldBy, answered, withTheta, fitJobOf, fitJobThetaOf};
-ghost use Rattle.jobcall.specs.Room.{Fronts, frontsOf};
+ghost use Rattle.jobfit.specs.Done.{doneFor};
+ghost use Rattle.jobfit.specs.Room.{Fronts, frontsOf};
+ghost use Rattle.jobcall.specs.Told.{buffers, told, toldBy, answered, counted, thetaBy, fitJobOf, fitJobThetaOf};
 
 // The fit of a job that has been read, and its counts.
 fn fit_read(
@@ -59,9 +60,22 @@ fn fit_read(
     returned(answer.number)
 }
 
-// A job with its own theta, read into lent slices.
-fn call_own(
+// The theta of a call: the job's own, which was read into the front of a slice, or the one beside the job.
+fn theta_of<'a>(own: bool, read: &'a [f64], thetas: usize, given: &'a [f64]) -> &'a [f64]
+    requires { ⌜ thetas ≤ length (now read) ⌝ }
+    ensures { λ r. ⌜ now r ≡ cond own (take thetas (now (read .entry))) (now (given .entry)) ⌝ }
+{
+    if own {
+        return &read[0..thetas];
+    }
+    given
+}
+
+// A job with its own theta or with the one beside it, read into lent slices.
+fn call_read(
     job: &[u8],
+    own: bool,
+    given: &[f64],
     theta: &mut [f64],
     y: &mut [f64],
     weights: &mut [f64],
@@ -77,7 +91,7 @@ fn call_own(
     counts: &mut [u64],
 ) -> u64
     requires { ⌜ (9 ≤ length (now counts)) × (roomy (inputs (now theta) (now y) (now weights) (now offset) (now x) (now starts) (now columns) (now values)) ≡ true) ⌝ }
-    ensures { λ r. ⌜ told r (buffers (now (rows .exit)) (now (matrices .exit)) (now (terms .exit)) (now (results .exit)) (now (counts .exit))) ≡ answered (readOf (now (job .entry))) (buffers (now (rows .entry)) (now (matrices .entry)) (now (terms .entry)) (now (results .entry)) (now (counts .entry))) ⌝ }
+    ensures { λ r. ⌜ told r (buffers (now (rows .exit)) (now (matrices .exit)) (now (terms .exit)) (now (results .exit)) (now (counts .exit))) ≡ answered (thetaBy own (now (given .entry)) (readOf (now (job .entry)))) (buffers (now (rows .entry)) (now (matrices .entry)) (now (terms .entry)) (now (results .entry)) (now (counts .entry))) ⌝ }
 {
     match reader::read_job(job, theta, y, weights, offset, x, starts, columns, values) {
         Reading::Refused(number, byte) => {
@@ -86,10 +100,11 @@ fn call_own(
         }
         Reading::Accepted(header) => {
             let thetas = header.thetas;
+            let chosen = theta_of(own, theta, thetas, given);
             fit_read(
                 job,
                 header,
-                &theta[0..thetas],
+                chosen,
                 y,
                 weights,
                 offset,
@@ -107,62 +122,18 @@ fn call_own(
     }
 }
 
-// A job with another theta, which is passed on as it is.
-fn call_given(
+// A call with arrays of its own for the job's lists.
+fn call(
     job: &[u8],
+    own: bool,
     given: &[f64],
-    theta: &mut [f64],
-    y: &mut [f64],
-    weights: &mut [f64],
-    offset: &mut [f64],
-    x: &mut [f64],
-    starts: &mut [usize],
-    columns: &mut [usize],
-    values: &mut [f64],
     rows: &mut [f64],
     matrices: &mut [f64],
     terms: &mut [f64],
     results: &mut [f64],
     counts: &mut [u64],
 ) -> u64
-    requires { ⌜ (9 ≤ length (now counts)) × (roomy (inputs (now theta) (now y) (now weights) (now offset) (now x) (now starts) (now columns) (now values)) ≡ true) ⌝ }
-    ensures { λ r. ⌜ told r (buffers (now (rows .exit)) (now (matrices .exit)) (now (terms .exit)) (now (results .exit)) (now (counts .exit))) ≡ answered (withTheta (now (given .entry)) (readOf (now (job .entry)))) (buffers (now (rows .entry)) (now (matrices .entry)) (now (terms .entry)) (now (results .entry)) (now (counts .entry))) ⌝ }
-{
-    match reader::read_job(job, theta, y, weights, offset, x, starts, columns, values) {
-        Reading::Refused(number, byte) => {
-            put_refusal(number, byte, counts);
-            number
-        }
-        Reading::Accepted(header) => fit_read(
-            job,
-            header,
-            given,
-            y,
-            weights,
-            offset,
-            x,
-            starts,
-            columns,
-            values,
-            rows,
-            matrices,
-            terms,
-            results,
-            counts,
-        ),
-    }
-}
-
-// The fit of a job; nothing is required.
-pub fn fit_job(
-    job: &[u8],
-    rows: &mut [f64],
-    matrices: &mut [f64],
-    terms: &mut [f64],
-    results: &mut [f64],
-    counts: &mut [u64],
-) -> u64
-    ensures { λ r. ⌜ told r (buffers (now (rows .exit)) (now (matrices .exit)) (now (terms .exit)) (now (results .exit)) (now (counts .exit))) ≡ fitJobOf (now (job .entry)) (buffers (now (rows .entry)) (now (matrices .entry)) (now (terms .entry)) (now (results .entry)) (now (counts .entry))) ⌝ }
+    ensures { λ r. ⌜ told r (buffers (now (rows .exit)) (now (matrices .exit)) (now (terms .exit)) (now (results .exit)) (now (counts .exit))) ≡ counted (thetaBy own (now (given .entry)) (readOf (now (job .entry)))) (buffers (now (rows .entry)) (now (matrices .entry)) (now (terms .entry)) (now (results .entry)) (now (counts .entry))) ⌝ }
 {
     if counts.len() < 9 {
         return 2;
@@ -175,49 +146,9 @@ pub fn fit_job(
     let mut starts = [0usize; 33];
     let mut columns = [0usize; 8192];
     let mut values = [0.0; 8192];
-    call_own(
+    call_read(
         job,
-        &mut theta,
-        &mut y,
-        &mut weights,
-        &mut offset,
-        &mut x,
-        &mut starts,
-        &mut columns,
-        &mut values,
-        rows,
-        matrices,
-        terms,
-        results,
-        counts,
-    )
-}
-
-// The fit of a job at a theta beside it; nothing is required.
-pub fn fit_job_theta(
-    job: &[u8],
-    given: &[f64],
-    rows: &mut [f64],
-    matrices: &mut [f64],
-    terms: &mut [f64],
-    results: &mut [f64],
-    counts: &mut [u64],
-) -> u64
-    ensures { λ r. ⌜ told r (buffers (now (rows .exit)) (now (matrices .exit)) (now (terms .exit)) (now (results .exit)) (now (counts .exit))) ≡ fitJobThetaOf (now (job .entry)) (now (given .entry)) (buffers (now (rows .entry)) (now (matrices .entry)) (now (terms .entry)) (now (results .entry)) (now (counts .entry))) ⌝ }
-{
-    if counts.len() < 9 {
-        return 2;
-    }
-    let mut theta = [0.0; 288];
-    let mut y = [0.0; 512];
-    let mut weights = [0.0; 512];
-    let mut offset = [0.0; 512];
-    let mut x = [0.0; 8192];
-    let mut starts = [0usize; 33];
-    let mut columns = [0usize; 8192];
-    let mut values = [0.0; 8192];
-    call_given(
-        job,
+        own,
         given,
         &mut theta,
         &mut y,
@@ -233,4 +164,34 @@ pub fn fit_job_theta(
         results,
         counts,
     )
+}
+
+// The fit of a job; nothing is required.
+pub fn fit_job(
+    job: &[u8],
+    rows: &mut [f64],
+    matrices: &mut [f64],
+    terms: &mut [f64],
+    results: &mut [f64],
+    counts: &mut [u64],
+) -> u64
+    ensures { λ r. ⌜ told r (buffers (now (rows .exit)) (now (matrices .exit)) (now (terms .exit)) (now (results .exit)) (now (counts .exit))) ≡ fitJobOf (now (job .entry)) (buffers (now (rows .entry)) (now (matrices .entry)) (now (terms .entry)) (now (results .entry)) (now (counts .entry))) ⌝ }
+{
+    let none = [0.0; 1];
+    call(job, true, &none, rows, matrices, terms, results, counts)
+}
+
+// The fit of a job at a theta beside it; nothing is required.
+pub fn fit_job_theta(
+    job: &[u8],
+    given: &[f64],
+    rows: &mut [f64],
+    matrices: &mut [f64],
+    terms: &mut [f64],
+    results: &mut [f64],
+    counts: &mut [u64],
+) -> u64
+    ensures { λ r. ⌜ told r (buffers (now (rows .exit)) (now (matrices .exit)) (now (terms .exit)) (now (results .exit)) (now (counts .exit))) ≡ fitJobThetaOf (now (job .entry)) (now (given .entry)) (buffers (now (rows .entry)) (now (matrices .entry)) (now (terms .entry)) (now (results .entry)) (now (counts .entry))) ⌝ }
+{
+    call(job, false, given, rows, matrices, terms, results, counts)
 }

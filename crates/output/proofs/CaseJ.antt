@@ -28,7 +28,8 @@ use Rattle.call.specs.Fit.{resultBy, totalOf, innerAt, fitBy, fitOf}
 use Rattle.call.specs.Call.{lengthsOf, callGiven}
 use Rattle.call.proofs.Leaves.{askedFit, unfitted-answer}
 use Rattle.report.specs.Report.{answerText}
-use Rattle.output.specs.Output.{zeros, slicesFor, inputsOf, callFor, leftText, outputBy, outputOf}
+use Rattle.jobfit.specs.Done.{inputsOf, zeros}
+use Rattle.output.specs.Output.{slicesFor, callFor, leftText, outputBy, outputOf}
 
 -- it is accepted
 accepted-J : tableOf 1 (jobJ .settings) (jobJ .shape) (inputsOf jobJ) (lengthsOf (slicesFor (jobJ .settings))) ≡ Accepted Poisson Log

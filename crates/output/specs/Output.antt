@@ -1,19 +1,13 @@
 -- What the program prints, as one function of the bytes of a job. Document 01, "The job and the program". Assumes nothing.
 use mathlib.Core.List.{List}
 use Prim.Native.Nat.{ℕ, _*_, _<_}
-use lib.Ieee.{Float}
-use lib.ListN.{length, replicate}
-use Rattle.base.specs.Number.{zeroF}
+use lib.ListN.{length}
 use Rattle.model.specs.declared.sizes.Settings.{Settings}
 use Rattle.job.specs.Job.{Job, Read, faulty, sound, readOf}
 use Rattle.lines.specs.Lines.{refusedLine, Written}
-use Rattle.model.specs.Inputs.{Inputs, inputs}
 use Rattle.call.specs.Call.{Lent, lent, Left, callOf}
 use Rattle.report.specs.Report.{answerText}
-
--- n times +0.0
-unfoldable pub zeros : ℕ → List Float
-zeros n = replicate n zeroF
+use Rattle.jobfit.specs.Done.{inputsOf, zeros}
 
 -- what the program lends: the nine results exactly as long as the sizes ask, and work slices that are long enough for every size
 unfoldable pub slicesFor : Settings → Lent
@@ -21,10 +15,6 @@ slicesFor t =
     lent (zeros (t .p)) (zeros (t .p)) (zeros (t .p)) (zeros (t .rows)) (zeros (t .rows)) (zeros (t .n)) (zeros (t .n)) (zeros (t .n)) (zeros (t .p * t .p)) (zeros 8192)
     (zeros 5696)
     (zeros 7000)
-
--- the lists of a job as the inputs of the call
-abbrev pub inputsOf : Job → Inputs
-inputsOf j = inputs (j .theta) (j .y) (j .weights) (j .offset) (j .x) (j .z .starts) (j .z .columns) (j .z .values)
 
 -- the call that a job asks for
 abbrev pub callFor : Job → Left

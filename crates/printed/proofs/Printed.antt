@@ -23,7 +23,8 @@ use Rattle.call.specs.Fit.{Fitted, answerOf}
 use Rattle.call.specs.Call.{fitLeft}
 use Rattle.call.proofs.Leaves.{refused-left, accepted-left, unfitted-answer, fitted-results, fitted-number}
 use Rattle.report.specs.Report.{fittedText, answerText}
-use Rattle.output.specs.Output.{slicesFor, inputsOf, callFor, leftText, outputBy, outputOf}
+use Rattle.jobfit.specs.Done.{inputsOf}
+use Rattle.output.specs.Output.{slicesFor, callFor, leftText, outputBy, outputOf}
 use Rattle.printed.specs.Asked.{verdictOn, givenBy, fitFor}
 
 -- ---- a job that cannot be read

@@ -11,7 +11,8 @@ use Rattle.dispersion.specs.Rounds.{Total, Dispersed}
 use Rattle.job.specs.Job.{jobOf}
 use Rattle.call.specs.Fit.{Fitted, fitOf}
 use Rattle.call.specs.Call.{lengthsOf, callGiven}
-use Rattle.output.specs.Output.{slicesFor, inputsOf}
+use Rattle.jobfit.specs.Done.{inputsOf}
+use Rattle.output.specs.Output.{slicesFor}
 
 -- what the table says of a job's call
 abbrev pub verdictOn : List ℕ → Verdict

@@ -58,6 +58,14 @@ pub record Few (R : Results) : Type 0 where
   pub residual : length (R .residual) ≤ 512
   pub v : length (R .v) ≤ 256
 
+-- the bytes that these results take at most: 1,904 lines of 64
+abbrev pub resultsMost : ℕ
+resultsMost = 121856
+
+-- the bytes that a caller lends for what is printed of any answer
+abbrev pub outRoom : ℕ
+outRoom = 131072
+
 -- a piece of at most so many bytes stands behind the first `at` bytes of the buffer, nothing else has changed, and r is where it ends
 pub record Grown (piece : List ℕ) (most at : ℕ) (before : List ℕ) (r : ℕ) (after : List ℕ) : Type 0 where
   pub put : Appended piece at before r after

@@ -4,7 +4,7 @@ ghost use Prim.Native.Nat.{_+_, _*_, _≤_};
 ghost use lib.ListN.{length};
 ghost use Rattle.lines.specs.Lines.{valueLine, Written};
 ghost use Rattle.results.specs.Nine.{nine};
-ghost use Rattle.report.specs.Report.{valueLines, fixedLines, effectLines, rowLines, resultLines, fittedText, answerText, Few, Grown};
+ghost use Rattle.report.specs.Report.{valueLines, fixedLines, effectLines, rowLines, resultLines, fittedText, answerText, Few, resultsMost, outRoom, Grown};
 
 // One line of a value, behind the first `at` bytes.
 fn put_value(out: &mut [u8], at: usize, name: &[u8], index: usize, x: f64) -> usize
@@ -74,8 +74,8 @@ fn put_results(
     residual: &[f64],
     v: &[f64],
 ) -> usize
-    requires { ⌜ (at ≤ 512) × (131072 ≤ length (now out)) × Few (nine (now beta) (now se) (now z) (now u) (now b) (now mu) (now eta) (now residual) (now v)) ⌝ }
-    ensures { λ r. ⌜ Grown (resultLines (nine (now (beta .entry)) (now (se .entry)) (now (z .entry)) (now (u .entry)) (now (b .entry)) (now (mu .entry)) (now (eta .entry)) (now (residual .entry)) (now (v .entry)))) 121856 at (now (out .entry)) r (now (out .exit)) ⌝ }
+    requires { ⌜ (at ≤ 512) × (outRoom ≤ length (now out)) × Few (nine (now beta) (now se) (now z) (now u) (now b) (now mu) (now eta) (now residual) (now v)) ⌝ }
+    ensures { λ r. ⌜ Grown (resultLines (nine (now (beta .entry)) (now (se .entry)) (now (z .entry)) (now (u .entry)) (now (b .entry)) (now (mu .entry)) (now (eta .entry)) (now (residual .entry)) (now (v .entry)))) resultsMost at (now (out .entry)) r (now (out .exit)) ⌝ }
 {
     let fixed_end = put_fixed(out, at, beta, se, z);
     let effects_end = put_effects(out, fixed_end, u, b);
@@ -97,7 +97,7 @@ fn put_fitted(
     residual: &[f64],
     v: &[f64],
 ) -> usize
-    requires { ⌜ (131072 ≤ length (now out)) × Few (nine (now beta) (now se) (now z) (now u) (now b) (now mu) (now eta) (now residual) (now v)) ⌝ }
+    requires { ⌜ (outRoom ≤ length (now out)) × Few (nine (now beta) (now se) (now z) (now u) (now b) (now mu) (now eta) (now residual) (now v)) ⌝ }
     ensures { λ r. ⌜ Written (fittedText answer (nine (now (beta .entry)) (now (se .entry)) (now (z .entry)) (now (u .entry)) (now (b .entry)) (now (mu .entry)) (now (eta .entry)) (now (residual .entry)) (now (v .entry)))) (now (out .entry)) r (now (out .exit)) ⌝ }
 {
     let ended = lines::end_line(out, answer);
@@ -120,7 +120,7 @@ pub fn put_answer(
     residual: &[f64],
     v: &[f64],
 ) -> usize
-    requires { ⌜ (131072 ≤ length (now out)) × Few (nine (now beta) (now se) (now z) (now u) (now b) (now mu) (now eta) (now residual) (now v)) ⌝ }
+    requires { ⌜ (outRoom ≤ length (now out)) × Few (nine (now beta) (now se) (now z) (now u) (now b) (now mu) (now eta) (now residual) (now v)) ⌝ }
     ensures { λ r. ⌜ Written (answerText answer (nine (now (beta .entry)) (now (se .entry)) (now (z .entry)) (now (u .entry)) (now (b .entry)) (now (mu .entry)) (now (eta .entry)) (now (residual .entry)) (now (v .entry)))) (now (out .entry)) r (now (out .exit)) ⌝ }
 {
     let number = answer.number;

@@ -1,4 +1,3 @@
 -- The laws of the program's function. Assumes nothing.
-pub mod Fresh
-pub mod ReadFronts
+pub mod Found
 pub mod Telling

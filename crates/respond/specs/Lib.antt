@@ -1,2 +1,2 @@
--- What the functions from bytes to bytes ask of sizes and lists. Assumes nothing.
-pub mod Room
+-- Where the lists of a fitted call stand in one buffer. Assumes nothing.
+pub mod Flat

@@ -1,5 +1,5 @@
 // From the bytes of a job to the bytes that are printed.
-mod fronts;
+mod flat;
 mod whole;
 
 pub use whole::respond;

@@ -2,7 +2,7 @@
 use native.Mathlib.Omega.{arith}
 use lib.ListN.{length-set}
 use Rattle.jobcall.specs.Told.{countsOf}
-use Rattle.jobcall.proofs.Behind.{nine-set}
+use Rattle.jobcall.proofs.Nine.{nine-set}
 use borrow.Author.Needs.{needs}
 use Rattle.jobcall.proofs.counts.put_counts.Statement.{statement}
 use Rattle.jobcall.proofs.counts.put_counts.Tie as tie

@@ -1,5 +1,5 @@
 -- `jobcall::fit_read` meets its contract: what is told is of the call that was done. Assumes nothing.
-use Rattle.jobcall.proofs.Reading.{read-told}
+use Rattle.jobcall.proofs.Telling.{read-told}
 use borrow.Author.Needs.{needs}
 use Rattle.jobcall.proofs.whole.fit_read.Statement.{statement}
 use Rattle.jobcall.proofs.whole.fit_read.Tie as tie

@@ -1,5 +1,5 @@
 -- `respond::respond` meets its contract: its arrays have room for any job. Assumes nothing.
-use Rattle.respond.proofs.Fresh.{fresh-room}
+use Rattle.jobfit.proofs.Reading.{fresh-room}
 use borrow.Author.Needs.{needs}
 use Rattle.respond.proofs.whole.respond.Statement.{statement}
 use Rattle.respond.proofs.whole.respond.Tie as tie
