@@ -37,8 +37,8 @@ use Rattle.rule.specs.Results.{vFrom, seOf, zValues, residualsOf}
 use Rattle.agq_rule.specs.Inner.{withPoints, afterRun, innerWith, innerOf}
 use Rattle.dispersion.specs.Phi.{effectiveN, roundOf}
 use Rattle.dispersion.specs.Rounds.{Result, result, noResult, Total, Dispersed, totalBefore, withFlag, lastFit, afterRound, afterFit, dispersionFrom, dispersionOf, fixedOf}
-use Rattle.dispersion.specs.declared.rounds.Round.{Round}
-use Rattle.dispersion.specs.declared.rounds.Round.the-variants.{Settled, Next}
+use Rattle.dispersion.specs.declared.round.Round.{Round}
+use Rattle.dispersion.specs.declared.round.Round.the-variants.{Settled, Next}
 use Rattle.results.specs.Nine.{Results, resultsFrom, resultsOf}
 use Rattle.model.specs.Inputs.{Inputs}
 use Rattle.table.specs.Table.{tableOf}

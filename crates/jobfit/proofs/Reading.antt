@@ -21,7 +21,7 @@ use Rattle.reader.specs.declared.whole.Header.{Header}
 use Rattle.reader.specs.declared.whole.Reading.{Reading}
 use Rattle.reader.specs.declared.whole.Reading.the-variants.{Refused, Accepted}
 use Rattle.reader.specs.Reading.{roomy, headerOf, readingBy, filled, leftBy, ReadDone, shapeBy}
-use Rattle.model.specs.Inputs.{Inputs}
+use Rattle.model.specs.Inputs.{Inputs, inputs}
 use Rattle.reader.proofs.Rooms.{Room, room-of, with-room, sound-is}
 use Rattle.jobfit.specs.Done.{inputsAt}
 use Rattle.jobfit.specs.Room.{Fronts, frontsOf}
@@ -64,7 +64,7 @@ laid-holds n xs b h l = rw (laid-length xs b h) l
 
 -- another theta in lent lists
 abbrev pub beside : List Float → Inputs → Inputs
-beside theta b = lent theta (b .y) (b .weights) (b .offset) (b .x) (b .starts) (b .columns) (b .values)
+beside theta b = inputs theta (b .y) (b .weights) (b .offset) (b .x) (b .starts) (b .columns) (b .values)
 
 -- the fronts are there
 fronts-there : (s : List ℕ) (b : Inputs) (theta : List Float) → Room b → Fits s → Fronts (headerOf (jobOf s)) (beside theta (filled (jobOf s) b))
@@ -167,6 +167,6 @@ module _ (s : List ℕ) (b a : Inputs) (g : Reading) (room : roomy b ≡ true) (
         }
 
 -- ---- there is room for any job in eight arrays
-pub fresh-room : roomy (lent (replicate 288 zeroF) (replicate 512 zeroF) (replicate 512 zeroF) (replicate 512 zeroF) (replicate 8192 zeroF) (replicate 33 0) (replicate 8192 0) (replicate 8192 zeroF)) ≡ true
+pub fresh-room : roomy (inputs (replicate 288 zeroF) (replicate 512 zeroF) (replicate 512 zeroF) (replicate 512 zeroF) (replicate 8192 zeroF) (replicate 33 0) (replicate 8192 0) (replicate 8192 zeroF)) ≡ true
 unfolding roomy
 fresh-room = refl
