@@ -17,7 +17,7 @@ use Rattle.model.specs.declared.ends.Refusal.the-variants.{OutOfRange, Lengths,
 use Rattle.model.specs.declared.sizes.Shape.{Shape}
 use Rattle.model.specs.declared.sizes.Settings.{Settings}
 use Rattle.job.specs.Lists.{laid}
-use Rattle.model.specs.Inputs.{Inputs, inputs, inputs as slices}
+use Rattle.model.specs.Inputs.{Inputs, inputs}
 use Rattle.table.specs.Table.{tableOf}
 use Rattle.table.specs.Facts.{Sound}
 use Rattle.table.specs.declared.verdicts.Verdict.{Verdict}
@@ -170,7 +170,7 @@ done-fresh t s I rows matrices terms results w few width = ap (λ (L : Lent). do
 -- ---- the call of parts from 0 on is the call of the fronts
 pub done-parts : (h : Header) (shape : Shape) (theta y weights offset x : List Float) (starts columns : List ℕ) (values rows matrices terms results : List Float)
     → doneFor (h .settings) shape (inputs theta (take (h .settings .n - 0) (drop 0 y)) (take (h .weights - 0) (drop 0 weights)) (take (h .offset - 0) (drop 0 offset)) (take (h .settings .n * h .settings .p - 0) (drop 0 x)) (take (h .settings .rows + 1 - 0) (drop 0 starts)) (take (h .settings .entries - 0) (drop 0 columns)) (take (h .settings .entries - 0) (drop 0 values))) rows matrices terms results
-    ≡ doneFor (h .settings) shape (frontsOf h (slices theta y weights offset x starts columns values)) rows matrices terms results
+    ≡ doneFor (h .settings) shape (frontsOf h (inputs theta y weights offset x starts columns values)) rows matrices terms results
 unfolding frontsOf
 done-parts h shape theta y weights offset x starts columns values rows matrices terms results =
     rw (
