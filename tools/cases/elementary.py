@@ -191,7 +191,7 @@ def line(x):
     print("at", *map(text, (x, sqrt(x), exp(x), ln(x), ln_1p(x), exp_m1(x))))
 
 
-EXP_TABLE, LN_TABLE = numbers("crates/elementary/specs/ExpTable.antt"), numbers("crates/elementary/specs/LogTable.antt")
+EXP_TABLE, LN_TABLE = numbers("crates/tabulated/specs/ExpTable.antt"), numbers("crates/tabulated/specs/LogTable.antt")
 SPECIAL = numbers("crates/text/src/specials.rt")
 if __name__ == "__main__":
     for entry in SPECIAL + numbers("crates/cases_elementary/src/main.rt"):

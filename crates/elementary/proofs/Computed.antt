@@ -2,9 +2,9 @@
 use mathlib.Core.Path.{_≡_, refl}
 use lib.Ieee.{ofBits, toBits, ofInt, lt, le, eq, add, sub, mul}
 use Rattle.base.specs.Number.{bits, absF}
-use Rattle.elementary.specs.ExpTable.{expTable, expRow}
+use Rattle.tabulated.specs.ExpTable.{expTable, expRow}
 use Rattle.elementary.specs.Exp.{reduced, rowTail, scaleBits, excess, scaled, large, refitted, fitted, small, edge, ended, expMain, aboveZero, expOf}
-use Rattle.elementary.specs.LogTable.{logTable, logRow}
+use Rattle.tabulated.specs.LogTable.{logTable, logRow}
 use Rattle.elementary.specs.LogPoly.{nearPoly, nearSum, nearOf, lnSum}
 use Rattle.elementary.specs.Log.{nearOne, lnNear, lnRow, lnMain, lnFar, lnOf}
 

@@ -1,5 +1,4 @@
--- The law of the tables' `match`, and what is fixed of the four functions. Assumes nothing.
-pub mod Arms
+-- What is fixed of the four functions. Assumes nothing.
 pub mod ExpFacts
 pub mod LogFacts
 pub mod Computed

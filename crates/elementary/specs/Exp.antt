@@ -5,7 +5,7 @@ use Prim.Native.Nat.{ℕ, _+_, _*_, _/_, _%_, _^_}
 use lib.Dec.{eqb}
 use lib.Ieee.{Float, inf, binary64, toBits, lt}
 use Rattle.base.specs.Number.{_⊕_, _⊖_, _⊗_, bits, zeroF, oneF, absF}
-use Rattle.elementary.specs.ExpTable.{expRow}
+use Rattle.tabulated.specs.ExpTable.{expRow}
 
 -- ---- constants
 -- N / ln 2

@@ -1,7 +1,5 @@
 -- exp, ln, exp_m1 and ln_1p as ordered operations. Assumes nothing.
-pub mod ExpTable
 pub mod Exp
-pub mod LogTable
 pub mod LogPoly
 pub mod Log
 pub mod Parts

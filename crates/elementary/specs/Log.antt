@@ -5,7 +5,7 @@ use Prim.Native.Nat.{ℕ, _+_, _/_, _%_}
 use lib.IntN.{pos}
 use lib.Ieee.{Float, nan, inf, binary64, toBits, ofInt, lt, le, eq}
 use Rattle.base.specs.Number.{_⊕_, _⊖_, _⊗_, bits, zeroF, oneF, hugeF}
-use Rattle.elementary.specs.LogTable.{logRow}
+use Rattle.tabulated.specs.LogTable.{logRow}
 use Rattle.elementary.specs.LogPoly.{nearOf, logLn2Hi, lnSum}
 
 -- x is from 1 - 2^-4 to below 1.064697265625, where |ln x| is below 2^-4 or little more

@@ -1,5 +1,5 @@
 // exp by the table-driven algorithm of ARM's optimized routines: exp x = 2^(k/128) exp r.
-use crate::exptable::exp_row;
+use tabulated::exp_row;
 ghost use mathlib.Core.Path.{_≡_};
 ghost use Rattle.elementary.specs.Exp.{reduced, excess, scaled, large, fitted, small, edge, expMain, aboveZero, expFar, expOf};
 

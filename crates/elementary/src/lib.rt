@@ -1,10 +1,8 @@
 // The elementary functions on doubles, each equal to a published algorithm's ordered operations.
 mod expm1;
 mod expo;
-mod exptable;
 mod log;
 mod log1p;
-mod logtable;
 mod parts;
 
 pub use expm1::exp_m1;

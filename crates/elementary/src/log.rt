@@ -1,5 +1,5 @@
 // ln by the table-driven algorithm of ARM's optimized routines: x = 2^k z, ln x = k ln 2 + ln c + ln(z/c).
-use crate::logtable::log_row;
+use tabulated::log_row;
 ghost use mathlib.Core.Path.{_≡_};
 ghost use Prim.Native.Nat.{_<_};
 ghost use Rattle.elementary.specs.LogPoly.{nearPoly, nearSum, nearOf, lnSum};

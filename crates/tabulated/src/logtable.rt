@@ -2,7 +2,7 @@
 // It is a `match`, which the compiler lays out as constant memory; an array would be built anew at each call.
 ghost use mathlib.Core.Path.{_≡_};
 ghost use Prim.Native.Nat.{_<_};
-ghost use Rattle.elementary.specs.LogTable.{logRow};
+ghost use Rattle.tabulated.specs.LogTable.{logRow};
 
 // 1/c, ln c, and c as centre + rest.
 pub struct LogRow {

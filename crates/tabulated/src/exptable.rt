@@ -2,7 +2,7 @@
 // It is a `match`, which the compiler lays out as constant memory; an array would be built anew at each call.
 ghost use mathlib.Core.Path.{_≡_};
 ghost use Prim.Native.Nat.{_<_};
-ghost use Rattle.elementary.specs.ExpTable.{expRow};
+ghost use Rattle.tabulated.specs.ExpTable.{expRow};
 
 // The bits of t, and those of s less i * 2^45.
 pub struct ExpRow {

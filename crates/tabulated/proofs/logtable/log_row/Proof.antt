@@ -1,9 +1,9 @@
--- `elementary::logtable::log_row` meets its contract: each arm is its row of the table, and what passes all arms but the last is the last row's.
+-- `tabulated::logtable::log_row` meets its contract: each arm is its row of the table, and what passes all arms but the last is the last row's.
 use lib.Ieee.{neg, ofBits}
-use Rattle.elementary.specs.LogTable.{logTable, logRow}
-use Rattle.elementary.proofs.Arms.{last-arm}
-use Rattle.elementary.proofs.logtable.log_row.Statement.{statement}
-use Rattle.elementary.proofs.logtable.log_row.Tie as tie
+use Rattle.tabulated.specs.LogTable.{logTable, logRow}
+use Rattle.tabulated.proofs.Arms.{last-arm}
+use Rattle.tabulated.proofs.logtable.log_row.Statement.{statement}
+use Rattle.tabulated.proofs.logtable.log_row.Tie as tie
 
 pub log-row-spec : {M : Type 1} → statement M
 unfolding logTable logRow neg ofBits

@@ -1,8 +1,8 @@
--- `elementary::exptable::exp_row` meets its contract: each arm is its row of the table, and what passes all arms but the last is the last row's.
-use Rattle.elementary.specs.ExpTable.{expTable, expRow}
-use Rattle.elementary.proofs.Arms.{last-arm}
-use Rattle.elementary.proofs.exptable.exp_row.Statement.{statement}
-use Rattle.elementary.proofs.exptable.exp_row.Tie as tie
+-- `tabulated::exptable::exp_row` meets its contract: each arm is its row of the table, and what passes all arms but the last is the last row's.
+use Rattle.tabulated.specs.ExpTable.{expTable, expRow}
+use Rattle.tabulated.proofs.Arms.{last-arm}
+use Rattle.tabulated.proofs.exptable.exp_row.Statement.{statement}
+use Rattle.tabulated.proofs.exptable.exp_row.Tie as tie
 
 pub exp-row-spec : {M : Type 1} → statement M
 unfolding expTable expRow

@@ -3,7 +3,7 @@
 use mathlib.Core.List.{List, [], _∷_}
 use Prim.Native.Nat.{ℕ, _+_, _*_}
 use Rattle.base.specs.Sum.{_!!_}
-use Rattle.elementary.specs.declared.exptable.ExpRow.{ExpRow}
+use Rattle.tabulated.specs.declared.exptable.ExpRow.{ExpRow}
 
 -- T, entry after entry
 unfoldable pub expTable : List ℕ

@@ -5,7 +5,7 @@ use Prim.Native.Nat.{ℕ, _+_, _*_}
 use lib.Ieee.{Float}
 use Rattle.base.specs.Number.{bits}
 use Rattle.base.specs.Sum.{_!_}
-use Rattle.elementary.specs.declared.logtable.LogRow.{LogRow}
+use Rattle.tabulated.specs.declared.logtable.LogRow.{LogRow}
 
 -- invc, logc, chi, clo of each row
 unfoldable pub logTable : List Float

@@ -1,0 +1,2 @@
+-- The law of the tables' `match`. Assumes nothing.
+pub mod Arms

@@ -1,0 +1,3 @@
+-- The tables of exp and ln. Assumes nothing.
+pub mod ExpTable
+pub mod LogTable
