@@ -1,12 +1,31 @@
-// Runs the list functions and the AIC on special and ordinary lists and prints every bit, one line a call.
+// Runs the list functions and the AIC on special and ordinary lists and prints every bit, one line a call or a few.
+// The steps are fed as tools/cases/family_lists.py says: each a code, a word to print, and the numbers that its lists are parts of.
 use family::CarriedFamily;
 use family::CarriedLink;
 use family_lists::AicAnswer;
 use family_lists::ListAnswer;
 
+fn next_family() -> CarriedFamily {
+    match fed::count() {
+        0 => CarriedFamily::Binomial,
+        1 => CarriedFamily::Poisson,
+        _ => CarriedFamily::Gaussian,
+    }
+}
+
+fn next_link() -> CarriedLink {
+    match fed::count() {
+        0 => CarriedLink::Logit,
+        1 => CarriedLink::Cloglog,
+        2 => CarriedLink::Log,
+        3 => CarriedLink::Inverse,
+        _ => CarriedLink::Sqrt,
+    }
+}
+
 // The number of an answer, and its value where it has one.
-fn put_aic(family: CarriedFamily, y: &[f64], mu: &[f64], wt: &[f64], dev: f64) {
-    match family_lists::aic(family, y, mu, wt, dev) {
+fn put_aic(answer: AicAnswer) {
+    match answer {
         AicAnswer::Value(x) => {
             text::put_count(0);
             text::put_double(x);
@@ -15,169 +34,75 @@ fn put_aic(family: CarriedFamily, y: &[f64], mu: &[f64], wt: &[f64], dev: f64) {
     }
 }
 
-// The Gaussian AIC of three responses with these weights.
-fn put_gaussian(wt: &[f64], dev: f64) {
-    put_aic(
-        CarriedFamily::Gaussian,
-        &[1.0, 2.0, 3.0],
-        &[1.5, 1.5, 2.5],
-        wt,
-        dev,
-    );
-}
-
-// Absent weights, ones, and weights of which some add no logarithm; last too few.
-fn gaussian_aics(dev: f64) {
-    put_gaussian(&[], dev);
-    put_gaussian(&[1.0, 1.0, 1.0], dev);
-    put_gaussian(&[0.5, 3.0, 0.0], dev);
-    put_gaussian(&[-2.0, 0.0 / 0.0, 7.0], dev);
-    put_gaussian(&[1e-300, 1e300, 1.0 / 0.0], dev);
-    put_gaussian(&[1.0, 1.0], dev);
-}
-
-// The other families, no responses, and too few means.
-fn aic_line(dev: f64) {
-    text::put_word(b"aic");
-    text::put_double(dev);
-    gaussian_aics(dev);
-    put_aic(CarriedFamily::Binomial, &[1.0], &[1.5], &[2.0], dev);
-    put_aic(CarriedFamily::Poisson, &[1.0], &[1.5], &[], dev);
-    put_aic(CarriedFamily::Gaussian, &[], &[], &[], dev);
-    put_aic(CarriedFamily::Poisson, &[1.0, 2.0], &[1.0], &[], dev);
-    text::end_line();
-}
-
-fn aics() {
-    aic_line(0.0 / 0.0);
-    aic_line(1.0 / 0.0);
-    aic_line(-1.0 / 0.0);
-    aic_line(0.0);
-    aic_line(-0.0);
-    aic_line(-1.0);
-    aic_line(5e-324);
-    aic_line(0.1);
-    aic_line(0.7);
-    aic_line(10.0);
-    aic_line(1e308);
+fn aic(xs: &[f64]) {
+    put_aic(family_lists::aic(
+        next_family(),
+        fed::part(xs, 0),
+        fed::part(xs, 3),
+        fed::part(xs, 6),
+        fed::number(),
+    ));
 }
 
 fn put_answer(answer: ListAnswer) {
     text::put_count(family_lists::list_number(answer) as u64);
 }
 
-// What an output holds.
-fn put_row(out: &[f64; 3]) {
-    text::put_double(out[0]);
-    text::put_double(out[1]);
-    text::put_double(out[2]);
-    text::end_line();
-}
-
-fn list_line(answer: ListAnswer, out: &[f64; 3]) {
-    text::put_word(b"list");
-    put_answer(answer);
-    put_row(out);
-}
-
-// What the list functions of a link write.
-fn link_lists() {
-    let x = [0.25, 0.5, 0.0 / 0.0];
-    let mut out = [9.0, 8.0, 7.0];
-    let fun = family_lists::link_fun_list(CarriedLink::Logit, &x, &mut out);
-    list_line(fun, &out);
-    let inv = family_lists::link_inv_list(CarriedLink::Cloglog, &x, &mut out);
-    list_line(inv, &out);
-    let slope = family_lists::mu_eta_list(CarriedLink::Inverse, &x, &mut out);
-    list_line(slope, &out);
-}
-
-// What those of a family write.
-fn family_lines() {
-    let x = [0.25, 0.5, 0.0 / 0.0];
-    let mut out = [9.0, 8.0, 7.0];
-    let spread = family_lists::variance_list(CarriedFamily::Binomial, &x, &mut out);
-    list_line(spread, &out);
-    let start = family_lists::initialize_mu_list(CarriedFamily::Poisson, &x, &mut out);
-    list_line(start, &out);
-}
-
-// Deviances with these weights, or without any.
-fn deviance_line(wt: &[f64]) {
-    let x = [0.25, 0.5, 0.0 / 0.0];
-    let mu = [0.4, 0.4, 0.4];
-    let mut out = [9.0, 8.0, 7.0];
-    let answer = family_lists::dev_resid_list(CarriedFamily::Binomial, &x, &mu, wt, &mut out);
-    list_line(answer, &out);
-}
-
-// The answers of the list functions of a link.
-fn put_link_answers(x: &[f64], out: &mut [f64]) {
-    put_answer(family_lists::link_fun_list(CarriedLink::Logit, x, out));
-    put_answer(family_lists::link_inv_list(CarriedLink::Log, x, out));
-    put_answer(family_lists::mu_eta_list(CarriedLink::Sqrt, x, out));
+// The list functions of a link.
+fn link_list(code: usize, xs: &[f64], out: &mut [f64]) -> ListAnswer {
+    let link = next_link();
+    let x = fed::part(xs, 0);
+    match code {
+        1 => family_lists::link_fun_list(link, x, out),
+        2 => family_lists::link_inv_list(link, x, out),
+        _ => family_lists::mu_eta_list(link, x, out),
+    }
 }
 
 // Those of a family.
-fn put_family_answers(x: &[f64], out: &mut [f64]) {
-    put_answer(family_lists::variance_list(CarriedFamily::Poisson, x, out));
-    put_answer(family_lists::initialize_mu_list(CarriedFamily::Gaussian, x, out));
+fn family_list(code: usize, xs: &[f64], out: &mut [f64]) -> ListAnswer {
+    let family = next_family();
+    let x = fed::part(xs, 0);
+    match code {
+        4 => family_lists::variance_list(family, x, out),
+        5 => family_lists::initialize_mu_list(family, x, out),
+        _ => family_lists::dev_resid_list(family, x, fed::part(xs, 3), fed::part(xs, 6), out),
+    }
 }
 
-// Lists that differ in length: number 2, and the output as it was.
-fn refused_links(x: &[f64]) {
-    let mut out = [9.0, 8.0, 7.0];
-    text::put_word(b"refused");
-    put_link_answers(x, &mut out);
-    put_row(&out);
+// What a step does with the output: calls a list function, takes what it holds before, or prints it.
+fn run(code: usize, xs: &[f64], out: &mut [f64]) {
+    match code {
+        1..=3 => put_answer(link_list(code, xs, out)),
+        4..=6 => put_answer(family_list(code, xs, out)),
+        7 => fed::numbers(out),
+        8 => text::put_list(b"", out, out.len()),
+        9 => text::put_double(fed::number()),
+        _ => aic(xs),
+    }
 }
 
-fn refused_families(x: &[f64]) {
-    let mut out = [9.0, 8.0, 7.0];
-    text::put_word(b"refused");
-    put_family_answers(x, &mut out);
-    put_row(&out);
-}
-
-fn refused_deviances(y: &[f64], mu: &[f64], wt: &[f64]) {
-    let mut out = [9.0, 8.0, 7.0];
-    text::put_word(b"refused");
-    put_answer(family_lists::dev_resid_list(CarriedFamily::Gaussian, y, mu, wt, &mut out));
-    put_row(&out);
-}
-
-fn refusals() {
-    refused_links(&[0.25, 0.5]);
-    refused_links(&[]);
-    refused_families(&[0.25, 0.5]);
-}
-
-// Too short an output; too few means; too few weights; weights without responses.
-fn deviance_refusals() {
-    refused_deviances(&[0.25, 0.5], &[0.25, 0.5], &[0.25, 0.5]);
-    refused_deviances(&[0.25, 0.5, 0.75], &[0.25, 0.5], &[0.25, 0.5, 0.75]);
-    refused_deviances(&[0.25, 0.5, 0.75], &[0.25, 0.5, 0.75], &[0.25, 0.5]);
-    refused_deviances(&[], &[], &[0.25, 0.5]);
-}
-
-// Empty lists are accepted.
-fn empty_lists() {
-    text::put_word(b"empty");
-    put_link_answers(&[], &mut []);
-    text::end_line();
-    text::put_word(b"empty");
-    put_family_answers(&[], &mut []);
-    put_answer(family_lists::dev_resid_list(CarriedFamily::Poisson, &[], &[], &[], &mut []));
-    text::end_line();
+// A step of this code. The output is empty where the next count is zero.
+fn step(code: usize, out: &mut [f64]) {
+    let mut xs = [0.0; 9];
+    fed::numbers(&mut xs);
+    if fed::count() == 0 {
+        run(code, &xs, &mut []);
+    } else {
+        run(code, &xs, out);
+    }
 }
 
 fn main() {
-    aics();
-    link_lists();
-    family_lines();
-    deviance_line(&[2.0, 3.0, 4.0]);
-    deviance_line(&[]);
-    refusals();
-    deviance_refusals();
-    empty_lists();
+    let mut out = [0.0; 3];
+    let mut i: usize = 0;
+    while i < 1000 {
+        let code = fed::count();
+        if code == 0 {
+            return;
+        }
+        fed::put_name();
+        step(code, &mut out);
+        i += 1;
+    }
 }
