@@ -1,4 +1,4 @@
--- `cases_results::run` is safe: its three tests give what `nine` asks.
+-- `cases_results::run` is safe: its three tests give what `next_nine` asks.
 use mathlib.Core.Path.{sym, _∙_}
 use native.Mathlib.Omega.{arith}
 use borrow.Author.Needs.{needs}
@@ -14,8 +14,8 @@ effects-requires c κs = sym (c .before .shape-ok .ensures) ∙ c .if1 .taken
 theta-length-requires : tie.Need-theta-length-requires
 theta-length-requires c κs = sym (c .before .before .before .shape-ok .ensures) ∙ c .before .before .if1 .taken
 
-nine-requires : tie.Need-nine-requires
-nine-requires c κs = (sym (c .before .before .before .before .before .shape-ok .ensures) ∙ c .before .before .before .before .if1 .taken, sym (c .before .before .if2 .taken) ∙ c .before .before .before .effects .ensures, omega (arith, c .before .theta-length .ensures, c .if3 .taken))
+next-nine-requires : tie.Need-next-nine-requires
+next-nine-requires c κs = (sym (c .before .before .before .before .before .shape-ok .ensures) ∙ c .before .before .before .before .if1 .taken, sym (c .before .before .if2 .taken) ∙ c .before .before .before .effects .ensures, omega (arith, c .before .theta-length .ensures, c .if3 .taken))
 
 returns : tie.Need-returns
 returns c = search needs
@@ -36,7 +36,7 @@ run-spec =
     shape-ok-requires
     effects-requires
     theta-length-requires
-    nine-requires
+    next-nine-requires
     returns
     returns-2
     returns-3

@@ -1,8 +1,9 @@
--- `cases_results::nine` is safe: each array is as long as the sizes say.
+-- `cases_results::all_nine` is safe: each array is as long as the sizes say.
+use mathlib.Core.Path.{refl}
 use native.Mathlib.Omega.{arith}
 use borrow.Author.Needs.{needs}
-use Rattle.cases_results.proofs.nine.Statement.{statement}
-use Rattle.cases_results.proofs.nine.Tie as tie
+use Rattle.cases_results.proofs.all_nine.Statement.{statement}
+use Rattle.cases_results.proofs.all_nine.Tie as tie
 
 slice-aggregate-write-results : tie.Need-slice-aggregate-write-results
 slice-aggregate-write-results c = search needs
@@ -31,26 +32,8 @@ slice-aggregate-write-results-8 c = search needs
 slice-aggregate-write-results-9 : tie.Need-slice-aggregate-write-results-9
 slice-aggregate-write-results-9 c = search needs
 
-slice-aggregate-write-results-10 : tie.Need-slice-aggregate-write-results-10
-slice-aggregate-write-results-10 c = search needs
-
-slice-aggregate-write-results-11 : tie.Need-slice-aggregate-write-results-11
-slice-aggregate-write-results-11 c = search needs
-
-slice-aggregate-write-results-12 : tie.Need-slice-aggregate-write-results-12
-slice-aggregate-write-results-12 c = search needs
-
-slice-aggregate-write-results-13 : tie.Need-slice-aggregate-write-results-13
-slice-aggregate-write-results-13 c = search needs
-
-slice-aggregate-write-results-14 : tie.Need-slice-aggregate-write-results-14
-slice-aggregate-write-results-14 c = search needs
-
-slice-aggregate-write-results-15 : tie.Need-slice-aggregate-write-results-15
-slice-aggregate-write-results-15 c = search needs
-
 write-results-requires : tie.Need-write-results-requires
-write-results-requires c κs = let s = c .before .before .before .before .before .before .before .before .before .before .before .before .before .before .before .before in (record { good = s .pre .0; effects = s .pre .1; numbers = omega (arith, s .pre .2); y-long = omega arith; columns-long = omega arith; beta-long = omega arith; u-long = omega arith; mu-long = omega arith; eta-long = omega arith }, record { beta-long = omega arith; se-long = omega arith; z-long = omega arith; u-long = omega arith; b-long = omega arith; mu-long = omega arith; eta-long = omega arith; residual-long = omega arith; v-long = omega arith })
+write-results-requires c κs = let s = c .before .before .before .before .before .before .before .before .before .before .before .before .before .before .before .before in (record { good = s .pre .0; effects = s .pre .1; numbers = omega (arith, s .pre .2); y-long = omega arith; columns-long = omega arith; beta-long = omega arith; u-long = omega arith; mu-long = omega arith; eta-long = omega arith }, record { beta-long = refl; se-long = refl; z-long = refl; u-long = refl; b-long = refl; mu-long = refl; eta-long = refl; residual-long = refl; v-long = refl })
 
 slice-aggregate-put-nine : tie.Need-slice-aggregate-put-nine
 slice-aggregate-put-nine c = search needs
@@ -85,8 +68,8 @@ put-nine-requires c κs = search needs
 returns : tie.Need-returns
 returns c = search needs
 
-pub nine-spec : {M : Type 1} → statement M
-nine-spec =
+pub all-nine-spec : {M : Type 1} → statement M
+all-nine-spec =
     tie.close
     (tie.spec
     slice-aggregate-write-results
@@ -98,12 +81,6 @@ nine-spec =
     slice-aggregate-write-results-7
     slice-aggregate-write-results-8
     slice-aggregate-write-results-9
-    slice-aggregate-write-results-10
-    slice-aggregate-write-results-11
-    slice-aggregate-write-results-12
-    slice-aggregate-write-results-13
-    slice-aggregate-write-results-14
-    slice-aggregate-write-results-15
     write-results-requires
     slice-aggregate-put-nine
     slice-aggregate-put-nine-2
