@@ -1,17 +1,33 @@
 #!/usr/bin/env python3
 """usage: model.py > crates/cases_model/stdout
+       model.py --stdin > crates/cases_model/stdin
 What `cases_model` must print, worked out apart from the Rattle code: codes, limits, ranges and numbers from document 01 ("What the port carries",
-"Numbers of an answer", "The job and the program"), the places of the work slices by laying the pieces of the design's table one after another."""
-import struct
+"Numbers of an answer", "The job and the program"), the places of the work slices by laying the pieces of the design's table one after another; and the calls that it is fed."""
+import struct, sys
 from itertools import accumulate
 
 MOST = 2 ** 64 - 1
+# the calls by their codes
+CALLS = ["family", "link", "limit", "shape", "sizes", "refused", "unfitted", "fitted", "items"]
+calls, said = [], []  # the calls as they are fed, and behind them the words of the lines whose calls stand in the program
 FAMILIES = ["binomial", "Poisson", "Gaussian", "Gamma"]
 LINKS = ["logit", "probit", "cloglog", "log", "identity", "inverse", "sqrt"]
 
 
 def line(*words):
-    print(*[int(w) if isinstance(w, bool) else w for w in words])
+    if "--stdin" not in sys.argv:
+        print(*[int(w) if isinstance(w, bool) else w for w in words])
+
+
+def named(*words):
+    """The words that a line begins with, behind their length."""
+    text = " ".join(map(str, words)).encode()
+    return struct.pack(">Q", len(text)) + text
+
+
+def call(name, words, *arguments):
+    """The words that the line begins with, the code, and what the call reads, in words of eight bytes."""
+    calls.append(named(*words) + struct.pack(">Q", CALLS.index(name)) + b"".join(struct.pack(">d" if isinstance(a, float) else ">Q", a) for a in arguments))
 
 
 def hexed(x):
@@ -20,6 +36,7 @@ def hexed(x):
 
 def coded(kind, names, codes):
     for c in codes:
+        call(kind, [kind, c], c)
         line(kind, c, *([names[c], names.index(names[c])] if c < len(names) else ["none"]))
 
 
@@ -36,7 +53,14 @@ def good_shape(blocks):
     return 1 <= len(blocks) <= 8 and all(1 <= k <= 8 and m >= 1 for m, k in blocks) and 1 <= q_of(blocks) <= 32
 
 
+def cells(count, blocks):
+    """A shape as it is fed: the count, eight of m and eight of k; behind the blocks stand numbers that nothing may look at."""
+    behind = {1: [0, 99, 0, 0, 0, 0, 7], 4: [5] * 4}.get(count, [1] * 8)
+    return [count, *([m for m, _ in blocks] + behind)[:8], *([k for _, k in blocks] + behind)[:8]]
+
+
 def shape(name, blocks):
+    call("shape", name, *cells(len(blocks), blocks))
     if not good_shape(blocks):
         return line(*name, 0)
     begins = [w for i in range(len(blocks)) for w in (q_of(blocks[:i]), sum(triangle(k) for _, k in blocks[:i]))]
@@ -44,13 +68,25 @@ def shape(name, blocks):
 
 
 def sizes(n, p, rows, entries, limit, blocks):
+    name = ["sizes", n, p, rows, entries, "none" if limit is None else limit]
+    call("sizes", name, MOST if limit is None else limit, n, p, rows, entries, *cells(len(blocks), blocks))
     good = n in range(1, 513) and p in range(1, 17) and good_shape(blocks) and rows == q_of(blocks) and entries <= 8192
-    line("sizes", n, p, rows, entries, "none" if limit is None else limit, good and (limit is None or limit <= 1000))
+    line(*name, good and (limit is None or limit <= 1000))
 
 
 # ---- answers
 def answer(number, deviance=0.0, phi=0.0, order=0, flag=False, iterations=0, account=(0, 0, 0, 0)):
     return [number, hexed(deviance), hexed(phi), order, flag, iterations, *account]
+
+
+def fitted(*values):
+    call("fitted", ["fitted"], *values)
+    line("fitted", *answer(0, *values, WORK))
+
+
+def summed(*counts):
+    said.append(named("sum"))
+    line("sum", *counts)
 
 
 # ---- work slices: each piece begins where the one before it ends
@@ -69,12 +105,14 @@ def places(n, p, q):
     room = [16 * n, 3 * q ** 2 + 4 * p ** 2 + 2 * q * p + 12 * (q + p), 7000]
     for name, pieces, length in zip(["rows", "matrices", "terms"], [rows, matrices, terms], room):
         assert sum(pieces) <= length
+        said.append(named(name))
         line(name, *(b for i, b in enumerate(begins(pieces)) if i not in UNNAMED[name]), length)
 
 
 coded("family", FAMILIES, [0, 1, 2, 3, 4, MOST])
 coded("link", LINKS, [0, 1, 2, 3, 4, 5, 6, 7, 8, MOST])
 for name in LINKS:
+    call("limit", ["limit"], LINKS.index(name))
     line("limit", name, name == "inverse", 1000 if name == "inverse" else 100, 0, 1, 1000)
 
 THREE = [(12, 1), (2, 3), (3, 2)]
@@ -83,6 +121,7 @@ for m, k in [(1, 1), (32, 1), (4, 8), (2, 3), (33, 1), (0, 1), (1, 0), (1, 9), (
     shape(["block", m, k], [(m, k)])
 for count in [0, 8, 9]:
     shape(["singles", count], [(1, 1)] * count)
+call("shape", ["singles", MOST], *cells(MOST, []))
 line("singles", MOST, 0)
 for last in [(1, 1), (1, 8), (3, 3), (0, 1), (1, 9)]:
     shape(["four", *last], THREE + [last])
@@ -103,20 +142,25 @@ sizes(512, 16, 32, 8193, 1000, LARGE)
 sizes(512, 16, 32, 8192, 1001, LARGE)
 
 # the refusals in the order of the table, then the ends
-for number in [1, 2, 7, 6, 3, 4, 5]:
+for code, number in enumerate([1, 2, 7, 6, 3, 4, 5]):
+    call("refused", ["refused"], code)
     line("refused", number, *answer(number))
 WORK = (241, 1205, 4820, 14461)
-for number in [10, 11, 12, 13]:
+for code, number in enumerate([10, 11, 12, 13]):
+    call("unfitted", ["unfitted"], code)
     line("unfitted", number, *answer(number, account=WORK))
-line("fitted", *answer(0, 97.5, 1.0, 1, True, 5, WORK))
-line("fitted", *answer(0, float("inf"), 0.1, 11, False, 1000, WORK))
-line("fitted", *answer(0, -0.0, float("nan"), 3, True, 0, WORK))
+fitted(97.5, 1.0, 1, True, 5)
+fitted(float("inf"), 0.1, 11, False, 1000)
+fitted(-0.0, float("nan"), 3, True, 0)
 
+call("items", ["items"], 6561)
 line("items", *[0, 0, 0, 0], *[0, 0, 0, 6561])
-line("sum", *[a + b for a, b in zip(WORK, (3, 50, 700, 11000))])
-line("sum", MOST, MOST, MOST, MOST)
+summed(*[a + b for a, b in zip(WORK, (3, 50, 700, 11000))])
+summed(MOST, MOST, MOST, MOST)
 
 places(1, 1, 1)
 places(512, 16, 32)
 places(7, 3, 5)
 places(100, 16, 2)
+if "--stdin" in sys.argv:
+    sys.stdout.buffer.write(struct.pack(">Q", len(calls)) + b"".join(calls + said))

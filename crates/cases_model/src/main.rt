@@ -1,4 +1,5 @@
 // Runs the functions of `model` and `layout` on sizes in and out of range and prints every answer, one line a call.
+// The calls, and the words that their lines begin with, are fed by tools/cases/model.py; sums and places, which have their ranges, stand here.
 use model::Account;
 use model::Answer;
 use model::End;
@@ -13,6 +14,7 @@ use model::Shape;
 ghost use mathlib.Core.Path.{_≡_};
 ghost use mathlib.Core.Bool.{true};
 ghost use Prim.Native.Nat.{_≤_};
+ghost use lib.ListN.{length};
 ghost use Rattle.model.specs.Account.{SumFits};
 ghost use Rattle.model.specs.Shape.{goodShape};
 
@@ -20,24 +22,41 @@ fn put_size(n: usize) {
     text::put_count(n as u64);
 }
 
+fn put_part(bytes: &[u8], start: usize, end: usize)
+    requires { ⌜ (start ≤ end) × (end ≤ length (now bytes)) ⌝ }
+{
+    text::put_word(&bytes[start..end]);
+}
+
+// One of the names, which stand in one text: each text that is lent makes the check longer.
+fn put_name(start: usize, end: usize)
+    requires { ⌜ (start ≤ end) × (end ≤ 84) ⌝ }
+{
+    put_part(
+        b" binomial Poisson Gaussian Gamma logit probit cloglog log identity inverse sqrt none",
+        start,
+        end,
+    );
+}
+
 fn put_family(family: Family) {
     match family {
-        Family::Binomial => text::put_word(b" binomial"),
-        Family::Poisson => text::put_word(b" Poisson"),
-        Family::Gaussian => text::put_word(b" Gaussian"),
-        Family::Gamma => text::put_word(b" Gamma"),
+        Family::Binomial => put_name(0, 9),
+        Family::Poisson => put_name(9, 17),
+        Family::Gaussian => put_name(17, 26),
+        Family::Gamma => put_name(26, 32),
     }
 }
 
 fn put_link(link: Link) {
     match link {
-        Link::Logit => text::put_word(b" logit"),
-        Link::Probit => text::put_word(b" probit"),
-        Link::Cloglog => text::put_word(b" cloglog"),
-        Link::Log => text::put_word(b" log"),
-        Link::Identity => text::put_word(b" identity"),
-        Link::Inverse => text::put_word(b" inverse"),
-        Link::Sqrt => text::put_word(b" sqrt"),
+        Link::Logit => put_name(32, 38),
+        Link::Probit => put_name(38, 45),
+        Link::Cloglog => put_name(45, 53),
+        Link::Log => put_name(53, 57),
+        Link::Identity => put_name(57, 66),
+        Link::Inverse => put_name(66, 74),
+        Link::Sqrt => put_name(74, 79),
     }
 }
 
@@ -49,77 +68,37 @@ fn put_account(account: Account) {
 }
 
 // From a code to the family, and back.
-fn family(code: usize) {
-    text::put_word(b"family");
-    put_size(code);
-    let found = model::family_coded(code);
+fn family() {
+    let found = model::family_coded(fed::count());
     match found {
         FamilyFound::Found(f) => {
             put_family(f);
             put_size(model::family_code(f));
         }
-        FamilyFound::NoSuch => text::put_word(b" none"),
+        FamilyFound::NoSuch => put_name(79, 84),
     }
-    text::end_line();
 }
 
 // From a code to the link, and back.
-fn link(code: usize) {
-    text::put_word(b"link");
-    put_size(code);
-    let found = model::link_coded(code);
+fn link() {
+    let found = model::link_coded(fed::count());
     match found {
         LinkFound::Found(l) => {
             put_link(l);
             put_size(model::link_code(l));
         }
-        LinkFound::NoSuch => text::put_word(b" none"),
+        LinkFound::NoSuch => put_name(79, 84),
     }
-    text::end_line();
-}
-
-fn families() {
-    family(0);
-    family(1);
-    family(2);
-    family(3);
-    family(4);
-    family(18446744073709551615);
-}
-
-fn links() {
-    link(0);
-    link(1);
-    link(2);
-    link(3);
-    link(4);
-    link(5);
-    link(6);
-    link(7);
-    link(8);
-    link(18446744073709551615);
 }
 
 // The limit that a link has by itself, and limits that are given.
 fn limit(link: Link) {
-    text::put_word(b"limit");
     put_link(link);
     text::put_test(model::is_inverse(link));
     put_size(model::limit_of(Limit::NotGiven, link));
     put_size(model::limit_of(Limit::Given(0), link));
     put_size(model::limit_of(Limit::Given(1), link));
     put_size(model::limit_of(Limit::Given(1000), link));
-    text::end_line();
-}
-
-fn limits() {
-    limit(Link::Logit);
-    limit(Link::Probit);
-    limit(Link::Cloglog);
-    limit(Link::Log);
-    limit(Link::Identity);
-    limit(Link::Inverse);
-    limit(Link::Sqrt);
 }
 
 // How many effects and numbers of theta there are, and where those of each block begin.
@@ -143,138 +122,43 @@ fn put_shape(shape: Shape) {
     if good {
         put_blocks(shape);
     }
-    text::end_line();
 }
 
-// One block, and behind it numbers that nothing may look at.
-fn block(m: usize, k: usize) -> Shape {
+fn eight() -> [usize; 8] {
+    let mut out = [0usize; 8];
+    fed::counts(&mut out);
+    out
+}
+
+fn next_shape() -> Shape {
     Shape {
-        count: 1,
-        m: [m, 0, 99, 0, 0, 0, 0, 7],
-        k: [k, 0, 99, 0, 0, 0, 0, 7],
+        count: fed::count(),
+        m: eight(),
+        k: eight(),
     }
 }
 
-// As many blocks of one group with one effect as are asked for.
-fn singles(count: usize) -> Shape {
-    Shape {
-        count,
-        m: [1; 8],
-        k: [1; 8],
+// The largest count stands for a limit that is not given.
+fn next_limit() -> Limit {
+    let limit = fed::count();
+    if limit == 18446744073709551615 {
+        return Limit::NotGiven;
     }
+    Limit::Given(limit)
 }
 
-// Blocks of 12, 6 and 6 effects, a last one that is given, and four that are not counted.
-fn four(m: usize, k: usize) -> Shape {
-    Shape {
-        count: 4,
-        m: [12, 2, 3, m, 5, 5, 5, 5],
-        k: [1, 3, 2, k, 5, 5, 5, 5],
-    }
-}
-
-fn one_block(m: usize, k: usize) {
-    text::put_word(b"block");
-    put_size(m);
-    put_size(k);
-    put_shape(block(m, k));
-}
-
-fn single_blocks(count: usize) {
-    text::put_word(b"singles");
-    put_size(count);
-    put_shape(singles(count));
-}
-
-fn four_blocks(m: usize, k: usize) {
-    text::put_word(b"four");
-    put_size(m);
-    put_size(k);
-    put_shape(four(m, k));
-}
-
-// In range, then one number out of it.
-fn small_blocks() {
-    one_block(1, 1);
-    one_block(32, 1);
-    one_block(4, 8);
-    one_block(2, 3);
-    one_block(33, 1);
-    one_block(0, 1);
-    one_block(1, 0);
-    one_block(1, 9);
-}
-
-// The product of m and k would not fit in 64 bits.
-fn large_blocks() {
-    one_block(9223372036854775808, 1);
-    one_block(9223372036854775808, 2);
-    one_block(9223372036854775808, 8);
-    one_block(18446744073709551615, 8);
-}
-
-fn several_blocks() {
-    single_blocks(0);
-    single_blocks(8);
-    single_blocks(9);
-    single_blocks(18446744073709551615);
-    four_blocks(1, 1);
-    four_blocks(1, 8);
-    four_blocks(3, 3);
-    four_blocks(0, 1);
-    four_blocks(1, 9);
-}
-
-fn put_limit(limit: Limit) {
-    match limit {
-        Limit::Given(l) => put_size(l),
-        Limit::NotGiven => text::put_word(b" none"),
-    }
-}
-
-fn sizes(n: usize, p: usize, rows: usize, entries: usize, limit: Limit, shape: Shape) {
-    text::put_word(b"sizes");
-    put_size(n);
-    put_size(p);
-    put_size(rows);
-    put_size(entries);
-    put_limit(limit);
-    let settings = Settings {
+fn next_settings() -> Settings {
+    let limit = next_limit();
+    Settings {
         family: Family::Poisson,
         link: Link::Log,
         n_agq: 1,
         limit,
-        n,
-        p,
-        rows,
-        entries,
-    };
-    text::put_test(model::sizes_ok(settings, shape));
-    text::end_line();
-}
-
-// The smallest sizes, then each too small.
-fn small_sizes() {
-    let small = block(1, 1);
-    sizes(1, 1, 1, 0, Limit::Given(0), small);
-    sizes(0, 1, 1, 0, Limit::Given(0), small);
-    sizes(1, 0, 1, 0, Limit::Given(0), small);
-    sizes(1, 1, 0, 0, Limit::Given(0), small);
-    sizes(1, 1, 0, 0, Limit::Given(0), singles(0));
-}
-
-// The largest sizes, then each too large, and Z' with a row too few and too many.
-fn large_sizes() {
-    let large = four(1, 8);
-    sizes(512, 16, 32, 8192, Limit::Given(1000), large);
-    sizes(512, 16, 32, 8192, Limit::NotGiven, large);
-    sizes(513, 16, 32, 8192, Limit::Given(1000), large);
-    sizes(512, 17, 32, 8192, Limit::Given(1000), large);
-    sizes(512, 16, 31, 8192, Limit::Given(1000), large);
-    sizes(512, 16, 33, 8192, Limit::Given(1000), large);
-    sizes(512, 16, 33, 8192, Limit::Given(1000), four(3, 3));
-    sizes(512, 16, 32, 8193, Limit::Given(1000), large);
-    sizes(512, 16, 32, 8192, Limit::Given(1001), large);
+        n: fed::count(),
+        p: fed::count(),
+        rows: fed::count(),
+        entries: fed::count(),
+    }
 }
 
 fn put_answer(answer: Answer) {
@@ -288,11 +172,22 @@ fn put_answer(answer: Answer) {
     put_account(account);
 }
 
+// The refusal of the next code, in the order of the table.
+fn next_refusal() -> Refusal {
+    match fed::count() {
+        0 => Refusal::OutOfRange,
+        1 => Refusal::Lengths,
+        2 => Refusal::Work,
+        3 => Refusal::SparseRows,
+        4 => Refusal::NotFinite,
+        5 => Refusal::LinkForFamily,
+        _ => Refusal::NotCarried,
+    }
+}
+
 fn refused(refusal: Refusal) {
-    text::put_word(b"refused");
     put_size(model::refusal_number(refusal));
     put_answer(Answer::refused(refusal));
-    text::end_line();
 }
 
 fn work() -> Account {
@@ -304,52 +199,68 @@ fn work() -> Account {
     }
 }
 
+fn next_end() -> End {
+    match fed::count() {
+        0 => End::SystemPivot,
+        1 => End::NormalPivot,
+        2 => End::NoStep,
+        _ => End::NoStop,
+    }
+}
+
 fn unfitted(end: End) {
-    text::put_word(b"unfitted");
     put_size(model::end_number(end));
     put_answer(Answer::unfitted(end, work()));
+}
+
+fn fitted() {
+    put_answer(Answer::fitted(
+        fed::number(),
+        fed::number(),
+        fed::count(),
+        fed::count() == 1,
+        fed::count(),
+        work(),
+    ));
+}
+
+// What an account is summed from.
+fn items() {
+    put_account(Account::none());
+    put_account(Account::of_points(fed::word()));
+}
+
+// The call of a code.
+fn run(code: usize) {
+    match code {
+        0 => family(),
+        1 => link(),
+        2 => limit(fed::link()),
+        3 => put_shape(next_shape()),
+        4 => text::put_test(model::sizes_ok(next_settings(), next_shape())),
+        5 => refused(next_refusal()),
+        6 => unfitted(next_end()),
+        7 => fitted(),
+        _ => items(),
+    }
     text::end_line();
 }
 
-fn fitted(deviance: f64, phi: f64, order: usize, converged: bool, iterations: usize) {
-    text::put_word(b"fitted");
-    put_answer(Answer::fitted(deviance, phi, order, converged, iterations, work()));
-    text::end_line();
-}
-
-fn refusals() {
-    refused(Refusal::OutOfRange);
-    refused(Refusal::Lengths);
-    refused(Refusal::Work);
-    refused(Refusal::SparseRows);
-    refused(Refusal::NotFinite);
-    refused(Refusal::LinkForFamily);
-    refused(Refusal::NotCarried);
-}
-
-fn ends() {
-    unfitted(End::SystemPivot);
-    unfitted(End::NormalPivot);
-    unfitted(End::NoStep);
-    unfitted(End::NoStop);
-    fitted(97.5, 1.0, 1, true, 5);
-    fitted(1.0 / 0.0, 0.1, 11, false, 1000);
-    fitted(-0.0, 0.0 / 0.0, 3, true, 0);
+// As many calls as are fed.
+fn calls(n: usize) {
+    let mut i = 0;
+    while i < n {
+        fed::put_name();
+        run(fed::count());
+        i += 1;
+    }
 }
 
 fn sum(a: Account, b: Account)
     requires { ⌜ SumFits a b ⌝ }
 {
-    text::put_word(b"sum");
+    fed::put_name();
     put_account(a.plus(b));
-    text::end_line();
-}
-
-// What an account is summed from.
-fn items() {
-    text::put_word(b"items");
-    put_account(Account::none());
-    put_account(Account::of_points(6561));
     text::end_line();
 }
 
@@ -395,7 +306,7 @@ fn put_quadrature_rows(n: usize)
 fn rows(n: usize)
     requires { ⌜ n ≤ 512 ⌝ }
 {
-    text::put_word(b"rows");
+    fed::put_name();
     put_size(layout::second_eta_row(n));
     put_size(layout::mu_row(n));
     put_size(layout::raw_row(n));
@@ -427,7 +338,7 @@ fn put_more_vectors(p: usize, q: usize)
 fn matrices(p: usize, q: usize)
     requires { ⌜ (p ≤ 16) × (q ≤ 32) ⌝ }
 {
-    text::put_word(b"matrices");
+    fed::put_name();
     put_size(layout::inverse_at(q));
     put_size(layout::solved_at(q));
     put_size(layout::root_inverse_at(p, q));
@@ -440,7 +351,7 @@ fn matrices(p: usize, q: usize)
 fn terms(n: usize, p: usize, q: usize)
     requires { ⌜ (n ≤ 512) × (p ≤ 16) × (q ≤ 32) ⌝ }
 {
-    text::put_word(b"terms");
+    fed::put_name();
     put_size(layout::factor_at());
     put_size(layout::w_at(q));
     put_size(layout::z_at(n, q));
@@ -461,17 +372,7 @@ fn places(n: usize, p: usize, q: usize)
 }
 
 fn main() {
-    families();
-    links();
-    limits();
-    small_blocks();
-    large_blocks();
-    several_blocks();
-    small_sizes();
-    large_sizes();
-    refusals();
-    ends();
-    items();
+    calls(fed::count());
     sums();
     places(1, 1, 1);
     places(512, 16, 32);

@@ -13,18 +13,12 @@ put-test-requires c κs = search needs
 put-blocks-requires : tie.Need-put-blocks-requires
 put-blocks-requires c κs = sym (c .before .before .shape-ok .ensures) ∙ c .if1 .taken
 
-end-line-requires : tie.Need-end-line-requires
-end-line-requires c κs = search needs
-
 returns : tie.Need-returns
 returns c = search needs
 
+returns-2 : tie.Need-returns-2
+returns-2 c = search needs
+
 pub put-shape-spec : {M : Type 1} → statement M
 put-shape-spec =
-    tie.close
-    (tie.spec
-    shape-ok-requires
-    put-test-requires
-    put-blocks-requires
-    end-line-requires
-    returns)
+    tie.close (tie.spec shape-ok-requires put-test-requires put-blocks-requires returns returns-2)
