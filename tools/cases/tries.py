@@ -1,8 +1,9 @@
 #!/usr/bin/env python3
 """usage: tries.py > crates/cases_tries/stdout
-What `cases_tries` must print: document 01's paragraph on tries in Python's own doubles, the means by tools/glmm/families.py.
+       tries.py --stdin > crates/cases_tries/stdin
+What `cases_tries` must print, and the cases that it is fed: document 01's paragraph on tries in Python's own doubles, the means by tools/glmm/families.py.
 Stops where PWRSS would be the same with u·u added last, since the cases would then not show its place."""
-import math, sys
+import math, struct, sys
 from pathlib import Path
 
 sys.dont_write_bytecode = True
@@ -49,11 +50,20 @@ def rows_of(a, b, c, d):
     return [a, b, 7.0, 7.0, c, d, 8.0, 8.0, 9.0]
 
 
+def fed(word, link, step, z, rows):
+    """A case in words of eight bytes, in the order in which crates/cases_tries/src/main.rt takes them; the name stands behind its length, and a step of zero for all tries."""
+    name = struct.pack(f">Q{len(word)}s", len(word), word.encode())
+    sys.stdout.buffer.write(name + struct.pack(">16dQ", *U, *W, *z, *rows, step, link))
+
+
 def show(word, number, p, rows):
-    print(word, number, *([] if p is None else [text(p)]), *[text(x) for x in rows])
+    if "--stdin" not in sys.argv:
+        print(word, number, *([] if p is None else [text(p)]), *[text(x) for x in rows])
 
 
 def search(word, link, z, rows):
+    if "--stdin" in sys.argv:
+        fed(word, link, 0.0, z, rows)
     step = 1.0
     for k in range(1, (100 if link == INVERSE else 25) + 1):
         n, p = tried(link, step, z, rows)
@@ -65,18 +75,23 @@ def search(word, link, z, rows):
 
 
 def single(word, link, step, z, rows):
+    if "--stdin" in sys.argv:
+        fed(word, link, step, z, rows)
     n, p = tried(link, step, z, rows)
     show(word, n, p, rows)
 
 
+# A step that is accepted at once, and steps that must be halved: for an eta below E with the inverse link, for a mean, for PWRSS.
 p, c = search("at_once", SQRT, Z, rows_of(1.1, 2.3, 1.5, 2.7))
 q, d = search("inverse", INVERSE, Z, rows_of(1.1, 2.3, -9.0, 2.7))
 search("log", LOG, Z, rows_of(1.1, 2.3, 1.5, 3e3))
 search("identity", IDENTITY, Z, rows_of(1.1, 2.3, 3e156, 2.7))
+# No step helps: 25 tries, with the inverse link 100.
 search("no_eta", LOGIT, Z, rows_of(1.1, 2.3, 1.5, INF))
 search("no_eta", INVERSE, Z, rows_of(1.1, 2.3, 1.5, -INF))
 search("no_mean", LOG, Z, rows_of(1.1, 800.0, 1.5, 801.0))
 search("no_pwrss", INVERSE, [1.7, 1e200], rows_of(1.1, 2.3, 1.5, 2.7))
+# Each answer of a try, and an eta of E and the next double with the inverse link.
 single("step", CLOGLOG, 0.25, Z, rows_of(1.1, 2.3, 1.5, 2.7))
 single("eta", INVERSE, 1.0, Z, rows_of(1.1, 2.3, 1.5, -2.7))
 single("mean", LOG, 1.0, Z, rows_of(1.1, 2.3, 1.5, 710.0))

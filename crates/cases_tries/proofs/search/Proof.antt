@@ -5,49 +5,34 @@ use borrow.Author.Needs.{needs}
 use Rattle.cases_tries.proofs.search.Statement.{statement}
 use Rattle.cases_tries.proofs.search.Tie as tie
 
-slice-aggregate-tries : tie.Need-slice-aggregate-tries
-slice-aggregate-tries c = search needs
-
-slice-aggregate-tries-2 : tie.Need-slice-aggregate-tries-2
-slice-aggregate-tries-2 c = search needs
+next-link-requires : tie.Need-next-link-requires
+next-link-requires c κs = search needs
 
 tries-requires : tie.Need-tries-requires
 tries-requires c κs =
     record {
-      prev-in = search needs;
-      next-in = search needs;
-      raw-in = search needs;
-      mu-in = search needs;
+      prev-in = omega arith;
+      next-in = omega arith;
+      raw-in = omega arith;
+      mu-in = omega arith;
       prev-next = inl (omega arith);
       raw-next = inr (omega arith);
       prev-mu = inl (omega arith);
       raw-mu = inl (omega arith);
       next-mu = inl (omega arith);
-      u-long = search needs;
-      w-long = search needs;
+      u-long = omega arith;
+      w-long = omega arith;
       z-long = omega arith;
     }
 
-put-word-requires : tie.Need-put-word-requires
-put-word-requires c κs = search needs
+put-tries-requires : tie.Need-put-tries-requires
+put-tries-requires c κs = search needs
 
-enum-known-t : tie.Need-enum-known-t
-enum-known-t c = search needs
+slice-aggregate-put-list : tie.Need-slice-aggregate-put-list
+slice-aggregate-put-list c = search needs
 
-put-count-requires : tie.Need-put-count-requires
-put-count-requires c κs = search needs
-
-put-double-requires : tie.Need-put-double-requires
-put-double-requires c κs = search needs
-
-enum-known-t-2 : tie.Need-enum-known-t-2
-enum-known-t-2 c = search needs
-
-put-count-requires-2 : tie.Need-put-count-requires-2
-put-count-requires-2 c κs = search needs
-
-put-rows-requires : tie.Need-put-rows-requires
-put-rows-requires c κs = search needs
+put-list-requires : tie.Need-put-list-requires
+put-list-requires c κs = search needs
 
 same-length : tie.Need-same-length
 same-length c = search needs
@@ -59,15 +44,10 @@ pub search-spec : {M : Type 1} → statement M
 search-spec =
     tie.close
     (tie.spec
-    slice-aggregate-tries
-    slice-aggregate-tries-2
+    next-link-requires
     tries-requires
-    put-word-requires
-    enum-known-t
-    put-count-requires
-    put-double-requires
-    enum-known-t-2
-    put-count-requires-2
-    put-rows-requires
+    put-tries-requires
+    slice-aggregate-put-list
+    put-list-requires
     same-length
     returns)

@@ -5,61 +5,34 @@ use borrow.Author.Needs.{needs}
 use Rattle.cases_tries.proofs.single.Statement.{statement}
 use Rattle.cases_tries.proofs.single.Tie as tie
 
-slice-aggregate-one-try : tie.Need-slice-aggregate-one-try
-slice-aggregate-one-try c = search needs
-
-slice-aggregate-one-try-2 : tie.Need-slice-aggregate-one-try-2
-slice-aggregate-one-try-2 c = search needs
+next-link-requires : tie.Need-next-link-requires
+next-link-requires c κs = search needs
 
 one-try-requires : tie.Need-one-try-requires
 one-try-requires c κs =
     record {
-      prev-in = search needs;
-      next-in = search needs;
-      raw-in = search needs;
-      mu-in = search needs;
+      prev-in = omega arith;
+      next-in = omega arith;
+      raw-in = omega arith;
+      mu-in = omega arith;
       prev-next = inl (omega arith);
       raw-next = inr (omega arith);
       prev-mu = inl (omega arith);
       raw-mu = inl (omega arith);
       next-mu = inl (omega arith);
-      u-long = search needs;
-      w-long = search needs;
+      u-long = omega arith;
+      w-long = omega arith;
       z-long = omega arith;
     }
 
-put-word-requires : tie.Need-put-word-requires
-put-word-requires c κs = search needs
+put-try-requires : tie.Need-put-try-requires
+put-try-requires c κs = search needs
 
-enum-told : tie.Need-enum-told
-enum-told c = search needs
+slice-aggregate-put-list : tie.Need-slice-aggregate-put-list
+slice-aggregate-put-list c = search needs
 
-put-count-requires : tie.Need-put-count-requires
-put-count-requires c κs = search needs
-
-enum-told-2 : tie.Need-enum-told-2
-enum-told-2 c = search needs
-
-put-count-requires-2 : tie.Need-put-count-requires-2
-put-count-requires-2 c κs = search needs
-
-enum-told-3 : tie.Need-enum-told-3
-enum-told-3 c = search needs
-
-put-count-requires-3 : tie.Need-put-count-requires-3
-put-count-requires-3 c κs = search needs
-
-enum-known-t : tie.Need-enum-known-t
-enum-known-t c = search needs
-
-put-count-requires-4 : tie.Need-put-count-requires-4
-put-count-requires-4 c κs = search needs
-
-put-double-requires : tie.Need-put-double-requires
-put-double-requires c κs = search needs
-
-put-rows-requires : tie.Need-put-rows-requires
-put-rows-requires c κs = search needs
+put-list-requires : tie.Need-put-list-requires
+put-list-requires c κs = search needs
 
 same-length : tie.Need-same-length
 same-length c = search needs
@@ -71,19 +44,10 @@ pub single-spec : {M : Type 1} → statement M
 single-spec =
     tie.close
     (tie.spec
-    slice-aggregate-one-try
-    slice-aggregate-one-try-2
+    next-link-requires
     one-try-requires
-    put-word-requires
-    enum-told
-    put-count-requires
-    enum-told-2
-    put-count-requires-2
-    enum-told-3
-    put-count-requires-3
-    enum-known-t
-    put-count-requires-4
-    put-double-requires
-    put-rows-requires
+    put-try-requires
+    slice-aggregate-put-list
+    put-list-requires
     same-length
     returns)
