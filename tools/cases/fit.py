@@ -1,13 +1,14 @@
 #!/usr/bin/env python3
 """usage: fit.py > crates/cases_fit/stdout
-What `cases_fit` must print: document 01's table of refusals (table.py) asked the same calls, then its fit in Python's doubles (tools/glmm/fit.py).
+       fit.py --stdin > crates/cases_fit/stdin
+What `cases_fit` must print, and the calls that it is fed: document 01's table of refusals (table.py) asked the same calls, then its fit in Python's doubles (tools/glmm/fit.py).
 Stops where the oracle (tools/oracle) answers other bits, where a number of the table is not given, or where a quadrature declines for another cause
 than the case is for. Every call leaves +0.0 in the named lengths of the work slices, or all of them as lent."""
 import struct, sys
 
 sys.dont_write_bytecode = True
 from rule import answer
-from table import RESULTS, TABLE
+from table import FAMILIES, LINKS, RESULTS, TABLE, laid
 import fit
 from form import job_bytes
 from reader import read
@@ -46,6 +47,17 @@ def asked(settings, places, lengths):
     return settings | dict(zip(INPUTS, lists)) | dict(zip(RESULTS, lengths[8:17])) | {"work_" + name: n for name, n in zip(WORK, lengths[17:])}
 
 
+def fed(word, c):
+    """A call in words of eight bytes, in the order in which crates/cases_fit/src/main.rt takes them; a name stands behind its length, the lists at fixed places."""
+    lists = [c[name] for name in INPUTS]
+    data = struct.pack(f">Q{len(word)}s", len(word), word.encode())
+    data += struct.pack(">22Q", *laid(22, dict(zip([0, 10], lists[5:7])))) + struct.pack(">57d", *laid(57, dict(zip([0, 21, 26, 31, 36, 45], [*lists[:5], lists[7]]))))
+    settings = [FAMILIES.index(c["family"]), LINKS.index(c["link"]), c["n_agq"], 2**64 - 1 if c["limit"] is None else c["limit"], c["n"], c["p"], c["rows"], c["entries"]]
+    blocks = [*c["blocks"], (0, 0)][:2]
+    lent = [c[name] for name in [*RESULTS, *("work_" + name for name in WORK)]]
+    return data + struct.pack(">33Q", *settings, len(c["blocks"]), *(m for m, _ in blocks), *(k for _, k in blocks), *map(len, lists), *lent)
+
+
 def job_of(c):
     rows = [[[column, value] for column, value in zip(c["columns"][a:b], c["values"][a:b])] for a, b in zip(c["starts"], c["starts"][1:])]
     x = [c["x"][i * c["p"]:(i + 1) * c["p"]] for i in range(c["n"])]
@@ -74,6 +86,8 @@ def told(word, number, counts, results, wiped):
 def run(word, family, link, n_agq, blocks, places, lengths, p=2, q=2, entries=4, n=4, limit=None, cause=None):
     settings = dict(family=family, link=link, n_agq=n_agq, limit=limit, n=n, p=p, rows=q, entries=entries, blocks=blocks)
     c = asked(settings, places, lengths)
+    if "--stdin" in sys.argv:
+        return sys.stdout.buffer.write(fed(word, c))
     refusal = next((number for number, good in TABLE if not good(c)), None)
     if refusal:
         given.add(refusal)
@@ -108,6 +122,7 @@ def good(word, places={}, lengths={}, **sizes):
 
 
 def laplace():
+    """Number 0: every family with every link that is carried; of the last two the dispersion doesn't settle."""
     groups("log", "poisson", "log", 1, 24)
     groups("identity", "poisson", "identity", 0, 32, offset=36)
     groups("sqrt", "poisson", "sqrt", 1, 24, offset=36)
@@ -121,6 +136,8 @@ def laplace():
 
 
 def quadrature():
+    """Number 0: one effect, several, all of two blocks, of which the last has 6,561 points. Then those that decline: too many effects, no order with few enough points,
+    a log sum, the block's inverse, its factor."""
     groups("order 3", "poisson", "log", 2, 24)
     groups("order 11", "binomial", "logit", 31, 28, 32, 36)
     groups("order 5", "gaussian", "identity", 4, 40, 32, 36)
@@ -137,6 +154,7 @@ def quadrature():
 
 
 def ends():
+    """Numbers 10 to 12, the last by an enormous offset; number 13 after 100 iterations, after one and after none."""
     groups("theta", "poisson", "log", 3, 24, theta=58)
     groups("columns", "poisson", "log", 3, 24, x=8)
     groups("offset", "poisson", "identity", 3, 24, offset=55)
@@ -146,6 +164,8 @@ def ends():
 
 
 def refusals():
+    """Number 1, of each size and of the limit; each slice one short and one longer: number 2, of the last three 7 where they are short and 0 where they are longer; number 6, of the
+    row starts and the columns; number 3, of each list of numbers; numbers 4 and 5."""
     for n, p, q, entries in [(0, 2, 2, 4), (513, 2, 2, 4), (4, 0, 2, 4), (4, 17, 2, 4), (4, 2, 3, 4), (4, 2, 2, 8193)]:
         good("sizes", n=n, p=p, q=q, entries=entries)
     groups("limit 1001", "poisson", "log", 3, 24, limit=1001)
@@ -172,4 +192,4 @@ laplace()
 quadrature()
 ends()
 refusals()
-assert given == {*range(8), *range(10, 14)}
+assert "--stdin" in sys.argv or given == {*range(8), *range(10, 14)}
