@@ -3,7 +3,6 @@
 // tools/cases/fit.py says.
 use model::Account;
 use model::Answer;
-use model::Limit;
 use model::Settings;
 use model::Shape;
 ghost use Prim.Native.Nat.{_≤_};
@@ -188,21 +187,12 @@ fn lend(
     put_works(&rows, &matrices, &terms);
 }
 
-// The largest count stands for a limit that is not given.
-fn next_limit() -> Limit {
-    let limit = fed::count();
-    if limit == 18446744073709551615 {
-        return Limit::NotGiven;
-    }
-    Limit::Given(limit)
-}
-
 // The plain numbers of the call.
 fn next_settings() -> Settings {
     let family = fed::family();
     let link = fed::link();
     let n_agq = fed::count();
-    let limit = next_limit();
+    let limit = fed::limit();
     Settings {
         family,
         link,

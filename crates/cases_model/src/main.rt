@@ -138,17 +138,8 @@ fn next_shape() -> Shape {
     }
 }
 
-// The largest count stands for a limit that is not given.
-fn next_limit() -> Limit {
-    let limit = fed::count();
-    if limit == 18446744073709551615 {
-        return Limit::NotGiven;
-    }
-    Limit::Given(limit)
-}
-
 fn next_settings() -> Settings {
-    let limit = next_limit();
+    let limit = fed::limit();
     Settings {
         family: Family::Poisson,
         link: Link::Log,

@@ -1,7 +1,6 @@
 // Asks the table of refusals of the calls on standard input: a call that is accepted, each fault by itself, and of two faults at once the first of the table.
 // Prints the number of each answer; of an accepted call also the codes of its family and link. A call is fed as tools/cases/table.py says.
 use family::CarriedFamily;
-use model::Limit;
 use model::Settings;
 use model::Shape;
 use table::LentLengths;
@@ -27,20 +26,11 @@ fn put_verdict(verdict: Verdict) {
     text::end_line();
 }
 
-// The largest count stands for a limit that is not given.
-fn next_limit() -> Limit {
-    let limit = fed::count();
-    if limit == 18446744073709551615 {
-        return Limit::NotGiven;
-    }
-    Limit::Given(limit)
-}
-
 // The plain numbers of the call.
 fn next_settings() -> Settings {
     let family = fed::family();
     let link = fed::link();
-    let limit = next_limit();
+    let limit = fed::limit();
     Settings {
         family,
         link,

@@ -2,6 +2,7 @@
 // Where the input ends each word is zero.
 use model::Family;
 use model::FamilyFound;
+use model::Limit;
 use model::Link;
 use model::LinkFound;
 ghost use Prim.Native.Nat.{_≤_};
@@ -102,4 +103,13 @@ pub fn link() -> Link {
         LinkFound::Found(link) => link,
         LinkFound::NoSuch => Link::Probit,
     }
+}
+
+// The next limit; the largest count stands for one that is not given.
+pub fn limit() -> Limit {
+    let limit = count();
+    if limit == 18446744073709551615 {
+        return Limit::NotGiven;
+    }
+    Limit::Given(limit)
 }
