@@ -66,15 +66,15 @@ fn residuals() {
 }
 
 fn put_nine(
-    beta: &[f64],
-    se: &[f64],
-    z: &[f64],
-    u: &[f64],
-    b: &[f64],
-    mu: &[f64],
-    eta: &[f64],
-    residual: &[f64],
-    v: &[f64],
+    beta: &[f64; 2],
+    se: &[f64; 2],
+    z: &[f64; 2],
+    u: &[f64; 4],
+    b: &[f64; 4],
+    mu: &[f64; 4],
+    eta: &[f64; 4],
+    residual: &[f64; 4],
+    v: &[f64; 4],
 ) {
     put_all(beta);
     put_all(se);

@@ -6,61 +6,34 @@ use Rattle.cases_results.proofs.all_nine.Statement.{statement}
 use Rattle.cases_results.proofs.all_nine.Tie as tie
 
 slice-aggregate-write-results : tie.Need-slice-aggregate-write-results
-slice-aggregate-write-results c = search needs
+slice-aggregate-write-results c = refl
 
 slice-aggregate-write-results-2 : tie.Need-slice-aggregate-write-results-2
-slice-aggregate-write-results-2 c = search needs
+slice-aggregate-write-results-2 c = refl
 
 slice-aggregate-write-results-3 : tie.Need-slice-aggregate-write-results-3
-slice-aggregate-write-results-3 c = search needs
+slice-aggregate-write-results-3 c = refl
 
 slice-aggregate-write-results-4 : tie.Need-slice-aggregate-write-results-4
-slice-aggregate-write-results-4 c = search needs
+slice-aggregate-write-results-4 c = refl
 
 slice-aggregate-write-results-5 : tie.Need-slice-aggregate-write-results-5
-slice-aggregate-write-results-5 c = search needs
+slice-aggregate-write-results-5 c = refl
 
 slice-aggregate-write-results-6 : tie.Need-slice-aggregate-write-results-6
-slice-aggregate-write-results-6 c = search needs
+slice-aggregate-write-results-6 c = refl
 
 slice-aggregate-write-results-7 : tie.Need-slice-aggregate-write-results-7
-slice-aggregate-write-results-7 c = search needs
+slice-aggregate-write-results-7 c = refl
 
 slice-aggregate-write-results-8 : tie.Need-slice-aggregate-write-results-8
-slice-aggregate-write-results-8 c = search needs
+slice-aggregate-write-results-8 c = refl
 
 slice-aggregate-write-results-9 : tie.Need-slice-aggregate-write-results-9
-slice-aggregate-write-results-9 c = search needs
+slice-aggregate-write-results-9 c = refl
 
 write-results-requires : tie.Need-write-results-requires
 write-results-requires c κs = let s = c .before .before .before .before .before .before .before .before .before .before .before .before .before .before .before .before in (record { good = s .pre .0; effects = s .pre .1; numbers = omega (arith, s .pre .2); y-long = omega arith; columns-long = omega arith; beta-long = omega arith; u-long = omega arith; mu-long = omega arith; eta-long = omega arith }, record { beta-long = refl; se-long = refl; z-long = refl; u-long = refl; b-long = refl; mu-long = refl; eta-long = refl; residual-long = refl; v-long = refl })
-
-slice-aggregate-put-nine : tie.Need-slice-aggregate-put-nine
-slice-aggregate-put-nine c = search needs
-
-slice-aggregate-put-nine-2 : tie.Need-slice-aggregate-put-nine-2
-slice-aggregate-put-nine-2 c = search needs
-
-slice-aggregate-put-nine-3 : tie.Need-slice-aggregate-put-nine-3
-slice-aggregate-put-nine-3 c = search needs
-
-slice-aggregate-put-nine-4 : tie.Need-slice-aggregate-put-nine-4
-slice-aggregate-put-nine-4 c = search needs
-
-slice-aggregate-put-nine-5 : tie.Need-slice-aggregate-put-nine-5
-slice-aggregate-put-nine-5 c = search needs
-
-slice-aggregate-put-nine-6 : tie.Need-slice-aggregate-put-nine-6
-slice-aggregate-put-nine-6 c = search needs
-
-slice-aggregate-put-nine-7 : tie.Need-slice-aggregate-put-nine-7
-slice-aggregate-put-nine-7 c = search needs
-
-slice-aggregate-put-nine-8 : tie.Need-slice-aggregate-put-nine-8
-slice-aggregate-put-nine-8 c = search needs
-
-slice-aggregate-put-nine-9 : tie.Need-slice-aggregate-put-nine-9
-slice-aggregate-put-nine-9 c = search needs
 
 put-nine-requires : tie.Need-put-nine-requires
 put-nine-requires c κs = search needs
@@ -82,14 +55,5 @@ all-nine-spec =
     slice-aggregate-write-results-8
     slice-aggregate-write-results-9
     write-results-requires
-    slice-aggregate-put-nine
-    slice-aggregate-put-nine-2
-    slice-aggregate-put-nine-3
-    slice-aggregate-put-nine-4
-    slice-aggregate-put-nine-5
-    slice-aggregate-put-nine-6
-    slice-aggregate-put-nine-7
-    slice-aggregate-put-nine-8
-    slice-aggregate-put-nine-9
     put-nine-requires
     returns)
