@@ -62,7 +62,7 @@ def fixed(columns, beta):
     errors(v, beta)
 
 
-# roots of sums of squares, with a zero among them; others of a zero below, a number below and an infinity
+# roots with a zero and an infinity among them; ordinary ones; roots that are of no sum of squares
 fixed([0.3, 0.1, -1.7, 0.0, 1e-200, 0.0, 0.0, 0.0, 1e200], [1.0, 2.0, -3.0])
 fixed([0.1, 0.7, 1e8, 0.2, 0.3, -1e8, 0.9, 1.1, 0.5], [0.5, -0.0, 1e300])
 V, BETA = [-0.0, 9.0, 9.0, 9.0, -4.0, 9.0, 9.0, 9.0, INF], [2.0, 3.0, 5.0]

@@ -7,6 +7,7 @@ ghost use Prim.Native.Nat.{_≤_};
 ghost use lib.ListN.{length};
 ghost use Rattle.model.specs.Shape.{effectsOf, thetaLength, goodShape};
 
+// As many of the next numbers as the name says.
 fn two() -> [f64; 2] {
     [fed::number(), fed::number()]
 }
@@ -59,6 +60,7 @@ fn fixed(columns: &[f64; 9]) {
     errors(&v, &three());
 }
 
+// What the means leave of five responses.
 fn residuals() {
     let mut out = [9.0; 6];
     results::residuals(&five(), &five(), 5, &mut out);
@@ -134,6 +136,7 @@ fn all_nine(
     put_nine(&beta, &se, &z, &u, &b, &mu, &eta, &residual, &v);
 }
 
+// `all_nine` of the next lists.
 fn next_nine(shape: Shape)
     requires { ⌜ (goodShape shape ≡ true) × (4 ≡ effectsOf shape) × (thetaLength shape ≤ 4) ⌝ }
 {
