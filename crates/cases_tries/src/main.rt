@@ -40,23 +40,21 @@ fn next_link() -> CarriedLink {
     }
 }
 
-// The tries of an iteration, and the four rows and the last place.
-fn search(u: &[f64], w: &[f64], z: &[f64], rows: &mut [f64])
+// The tries of an iteration where the step is zero, else the one try with it; then the four rows and the last place.
+fn run(u: &[f64], w: &[f64], z: &[f64], rows: &mut [f64])
     requires { ⌜ (length (now u) ≡ 2) × (length (now w) ≡ 2) × (length (now z) ≡ 2) × (length (now rows) ≡ 9) ⌝ }
 {
-    put_tries(tries::tries(next_link(), 2, 2, 0, 2, 4, 6, u, w, z, rows));
+    let step = fed::number();
+    let link = next_link();
+    if step == 0.0 {
+        put_tries(tries::tries(link, 2, 2, 0, 2, 4, 6, u, w, z, rows));
+        text::put_list(b"", rows, 9);
+        return;
+    }
+    put_try(tries::one_try(link, 2, 2, 0, 2, 4, 6, step, u, w, z, rows));
     text::put_list(b"", rows, 9);
 }
 
-// One try, and the rows.
-fn single(step: f64, u: &[f64], w: &[f64], z: &[f64], rows: &mut [f64])
-    requires { ⌜ (length (now u) ≡ 2) × (length (now w) ≡ 2) × (length (now z) ≡ 2) × (length (now rows) ≡ 9) ⌝ }
-{
-    put_try(tries::one_try(next_link(), 2, 2, 0, 2, 4, 6, step, u, w, z, rows));
-    text::put_list(b"", rows, 9);
-}
-
-// A step of zero stands for the tries of an iteration.
 fn next_case() {
     let mut u = [0.0; 2];
     let mut w = [0.0; 2];
@@ -66,12 +64,7 @@ fn next_case() {
     fed::numbers(&mut w);
     fed::numbers(&mut z);
     fed::numbers(&mut rows);
-    let step = fed::number();
-    if step == 0.0 {
-        search(&u, &w, &z, &mut rows);
-    } else {
-        single(step, &u, &w, &z, &mut rows);
-    }
+    run(&u, &w, &z, &mut rows);
 }
 
 fn main() {
