@@ -133,19 +133,8 @@ fn front<'a>(xs: &'a mut [f64]) -> &'a mut [f64] {
     xs
 }
 
-// Fills the arrays, calls and prints.
-fn lend(
-    settings: Settings,
-    shape: Shape,
-    theta: &[f64],
-    y: &[f64],
-    weights: &[f64],
-    offset: &[f64],
-    x: &[f64],
-    starts: &[usize],
-    columns: &[usize],
-    values: &[f64],
-) {
+// Fills the arrays, calls and prints. The lists are parts of what was read.
+fn lend(ns: &[usize], xs: &[f64]) {
     let mut beta = [9.25; 4];
     let mut se = [9.25; 4];
     let mut z = [9.25; 4];
@@ -158,17 +147,17 @@ fn lend(
     let mut rows = [9.25; 72];
     let mut matrices = [9.25; 400];
     let mut terms = [9.25; 7008];
-    let answer = glmm::fit(
-        settings,
-        shape,
-        theta,
-        y,
-        weights,
-        offset,
-        x,
-        starts,
-        columns,
-        values,
+    put_answer(glmm::fit(
+        next_settings(),
+        next_shape(),
+        fed::part(xs, 0),
+        fed::part(xs, 21),
+        fed::part(xs, 26),
+        fed::part(xs, 31),
+        fed::part(xs, 36),
+        fed::part_counts(ns, 0),
+        fed::part_counts(ns, 10),
+        fed::part(xs, 45),
         front(&mut beta),
         front(&mut se),
         front(&mut z),
@@ -181,8 +170,7 @@ fn lend(
         front(&mut rows),
         front(&mut matrices),
         front(&mut terms),
-    );
-    put_answer(answer);
+    ));
     put_results(&beta, &se, &z, &u, &b, &mu, &eta, &residual, &v);
     put_works(&rows, &matrices, &terms);
 }
@@ -214,28 +202,12 @@ fn next_shape() -> Shape {
     }
 }
 
-// The lists are parts of what was read.
-fn run(ns: &[usize], xs: &[f64]) {
-    lend(
-        next_settings(),
-        next_shape(),
-        fed::part(xs, 0),
-        fed::part(xs, 21),
-        fed::part(xs, 26),
-        fed::part(xs, 31),
-        fed::part(xs, 36),
-        fed::part_counts(ns, 0),
-        fed::part_counts(ns, 10),
-        fed::part(xs, 45),
-    );
-}
-
 fn next_call() {
     let mut ns = [0usize; 22];
     let mut xs = [0.0; 57];
     fed::counts(&mut ns);
     fed::numbers(&mut xs);
-    run(&ns, &xs);
+    lend(&ns, &xs);
 }
 
 fn main() {
