@@ -14,7 +14,6 @@ use model::Shape;
 ghost use mathlib.Core.Path.{_≡_};
 ghost use mathlib.Core.Bool.{true};
 ghost use Prim.Native.Nat.{_≤_};
-ghost use lib.ListN.{length};
 ghost use Rattle.model.specs.Account.{SumFits};
 ghost use Rattle.model.specs.Shape.{goodShape};
 
@@ -22,41 +21,24 @@ fn put_size(n: usize) {
     text::put_count(n as u64);
 }
 
-fn put_part(bytes: &[u8], start: usize, end: usize)
-    requires { ⌜ (start ≤ end) × (end ≤ length (now bytes)) ⌝ }
-{
-    text::put_word(&bytes[start..end]);
-}
-
-// One of the names, which stand in one text: each text that is lent makes the check longer.
-fn put_name(start: usize, end: usize)
-    requires { ⌜ (start ≤ end) × (end ≤ 84) ⌝ }
-{
-    put_part(
-        b" binomial Poisson Gaussian Gamma logit probit cloglog log identity inverse sqrt none",
-        start,
-        end,
-    );
-}
-
 fn put_family(family: Family) {
     match family {
-        Family::Binomial => put_name(0, 9),
-        Family::Poisson => put_name(9, 17),
-        Family::Gaussian => put_name(17, 26),
-        Family::Gamma => put_name(26, 32),
+        Family::Binomial => text::put_word(b" binomial"),
+        Family::Poisson => text::put_word(b" Poisson"),
+        Family::Gaussian => text::put_word(b" Gaussian"),
+        Family::Gamma => text::put_word(b" Gamma"),
     }
 }
 
 fn put_link(link: Link) {
     match link {
-        Link::Logit => put_name(32, 38),
-        Link::Probit => put_name(38, 45),
-        Link::Cloglog => put_name(45, 53),
-        Link::Log => put_name(53, 57),
-        Link::Identity => put_name(57, 66),
-        Link::Inverse => put_name(66, 74),
-        Link::Sqrt => put_name(74, 79),
+        Link::Logit => text::put_word(b" logit"),
+        Link::Probit => text::put_word(b" probit"),
+        Link::Cloglog => text::put_word(b" cloglog"),
+        Link::Log => text::put_word(b" log"),
+        Link::Identity => text::put_word(b" identity"),
+        Link::Inverse => text::put_word(b" inverse"),
+        Link::Sqrt => text::put_word(b" sqrt"),
     }
 }
 
@@ -75,7 +57,7 @@ fn family() {
             put_family(f);
             put_size(model::family_code(f));
         }
-        FamilyFound::NoSuch => put_name(79, 84),
+        FamilyFound::NoSuch => text::put_word(b" none"),
     }
 }
 
@@ -87,7 +69,7 @@ fn link() {
             put_link(l);
             put_size(model::link_code(l));
         }
-        LinkFound::NoSuch => put_name(79, 84),
+        LinkFound::NoSuch => text::put_word(b" none"),
     }
 }
 
