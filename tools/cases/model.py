@@ -163,4 +163,4 @@ places(512, 16, 32)
 places(7, 3, 5)
 places(100, 16, 2)
 if "--stdin" in sys.argv:
-    sys.stdout.buffer.write(struct.pack(">Q", len(calls)) + b"".join(calls + said))
+    sys.stdout.buffer.write(b"".join([*calls, struct.pack(">Q", 0), *said]))  # an empty word ends the calls

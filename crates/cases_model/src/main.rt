@@ -219,11 +219,13 @@ fn run(code: usize) {
     text::end_line();
 }
 
-// As many calls as are fed.
-fn calls(n: usize) {
-    let mut i = 0;
-    while i < n {
-        fed::put_name();
+// The calls, until a word is empty.
+fn calls() {
+    let mut i: usize = 0;
+    while i < 1000 {
+        if !fed::put_name() {
+            return;
+        }
         run(fed::count());
         i += 1;
     }
@@ -345,7 +347,7 @@ fn places(n: usize, p: usize, q: usize)
 }
 
 fn main() {
-    calls(fed::count());
+    calls();
     sums();
     places(1, 1, 1);
     places(512, 16, 32);

@@ -1,20 +1,23 @@
--- `cases_model::calls` ends: each turn counts one on towards n.
+-- `cases_model::calls` ends: each turn counts one on towards 1000.
 use Prim.Native.Nat.{_≤_, _-_}
 use borrow.Author.Needs.{needs}
 use Rattle.cases_model.proofs.calls.Statement.{statement}
 use Rattle.cases_model.proofs.calls.Tie as tie
 
 abbrev Inv-loop : tie.InvT-loop
-Inv-loop n i₀ i = i ≤ n
+Inv-loop i₀ i = i ≤ 1000
 
 abbrev μ-loop : tie.MeasureT-loop
-μ-loop n i₀ i = n - i
+μ-loop i₀ i = 1000 - i
 
 loop-holds : tie.Need-loop-holds Inv-loop μ-loop
 loop-holds c = search needs
 
 put-name-requires : tie.Need-put-name-requires Inv-loop μ-loop
 put-name-requires c κs = search needs
+
+returns : tie.Need-returns Inv-loop μ-loop
+returns c = search needs
 
 count-requires : tie.Need-count-requires Inv-loop μ-loop
 count-requires c κs = search needs
@@ -31,8 +34,8 @@ loop-less c = search needs
 loop-again : tie.Need-loop-again Inv-loop μ-loop
 loop-again c = search needs
 
-returns : tie.Need-returns Inv-loop μ-loop
-returns c = search needs
+returns-2 : tie.Need-returns-2 Inv-loop μ-loop
+returns-2 c = search needs
 
 pub calls-spec : {M : Type 1} → statement M
 calls-spec =
@@ -42,9 +45,10 @@ calls-spec =
     μ-loop
     loop-holds
     put-name-requires
+    returns
     count-requires
     run-requires
     add-i
     loop-less
     loop-again
-    returns)
+    returns-2)
