@@ -2,3 +2,4 @@
 pub mod Stopping
 pub mod Limits
 pub mod Caps
+pub mod Edges
