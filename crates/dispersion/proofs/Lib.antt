@@ -4,3 +4,4 @@ pub mod Capped
 pub mod Higher
 pub mod Reported
 pub mod Unique
+pub mod Edges
