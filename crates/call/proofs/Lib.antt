@@ -5,3 +5,4 @@ pub mod Capped
 pub mod CappedBy
 pub mod Told
 pub mod Unique
+pub mod Stopped

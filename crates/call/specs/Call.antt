@@ -1,6 +1,7 @@
 -- What a call answers and what it leaves in every lent slice. Document 01, "Numbers of an answer". Assumes nothing.
+use mathlib.Core.Path.{_≡_}
 use mathlib.Core.List.{List}
-use Prim.Native.Nat.{ℕ}
+use Prim.Native.Nat.{ℕ, _≤_}
 use lib.ListN.{length}
 use lib.Ieee.{Float}
 use Rattle.base.specs.List.{zeroAt, fillTo}
@@ -16,6 +17,10 @@ use Rattle.family.specs.declared.carried.CarriedFamily.{CarriedFamily}
 use Rattle.family.specs.declared.carried.CarriedLink.{CarriedLink}
 use Rattle.stored.specs.Stored.{sparse}
 use Rattle.rule.specs.Given.{Given, designOf, givenOf}
+use Rattle.rule.specs.Stop.{Mode}
+use Rattle.rule.specs.Run.{startMeans, startAt, FirstStop}
+use Rattle.agq_rule.specs.Steps.{quadratureOf}
+use Rattle.agq_rule.specs.Inner.{devianceBy, orderBy}
 use Rattle.results.specs.Nine.{Results, nine, resultsOf}
 use Rattle.model.specs.Inputs.{Inputs}
 use Rattle.table.specs.Table.{tableOf}
@@ -97,3 +102,14 @@ callBy (Accepted f l) t s I L =
 -- the call
 unfoldable pub callOf : Settings → Shape → Inputs → Lent → Left
 callOf t s I L = callBy (tableOf 1 t s I (lengthsOf L)) t s I L
+
+-- ---- what number 0 means
+
+-- an answer a with the results R is that of the mode k: k is the first stop of the run at the reported phi from the starting means, within the limit, and iterations, deviance, order and results are its own
+pub record Taken (G : Given) (wish limit : ℕ) (a : Answer) (R : Results) (k : Mode) : Type 0 where
+  pub first : FirstStop G (a .phi) (startAt G (startMeans G)) k
+  pub within : k .iterations ≤ limit
+  pub iterations : a .iterations ≡ k .iterations
+  pub deviance : a .deviance ≡ devianceBy (quadratureOf G wish k (a .phi) .answer) (k .laplace)
+  pub order : a .order ≡ orderBy (quadratureOf G wish k (a .phi) .answer)
+  pub results : R ≡ resultsOf G k

@@ -4,7 +4,6 @@ use mathlib.Core.Bool.{true, false}
 use mathlib.Core.List.{List}
 use lib.Ieee.{Float, ofBits, add, sub, div, lt}
 use Rattle.base.specs.Number.{bits, zeroF, hugeF, absF}
-use Rattle.family.specs.Family.{tenthF}
 use Rattle.rule.specs.Given.{Given}
 use Rattle.rule.specs.Stop.{stops}
 use Rattle.rule.specs.Run.{startAt}

@@ -90,7 +90,7 @@ module _ (family : Family) (link : Link) where
 
 -- ---- an accepted call passed every test
 -- a verdict accepts
-abbrev isAccepted : Verdict → Bool
+abbrev pub isAccepted : Verdict → Bool
 isAccepted (Accepted f l) = true
 isAccepted (Refused refusal) = false
 
@@ -110,7 +110,7 @@ unfolding refuseUnless
 passed true refusal rest f l e = (refl, e)
 passed false refusal rest f l e = absurd (ff (ap isAccepted e))
 
-last-line : (x : FamilyCarried) (y : LinkCarried) (f : CarriedFamily) (l : CarriedLink) → withFamily x y ≡ Accepted f l → (x ≡ familyCarried.Carried f) × (y ≡ linkCarried.Carried l)
+pub last-line : (x : FamilyCarried) (y : LinkCarried) (f : CarriedFamily) (l : CarriedLink) → withFamily x y ≡ Accepted f l → (x ≡ familyCarried.Carried f) × (y ≡ linkCarried.Carried l)
 unfolding withFamily withLink
 last-line (familyCarried.Carried g) (linkCarried.Carried k) f l e = (ap (λ (x : Verdict). familyCarried.Carried (familyIn f x)) e, ap (λ (x : Verdict). linkCarried.Carried (linkIn l x)) e)
 last-line (familyCarried.Carried g) linkCarried.NotYet f l e = absurd (ff (ap isAccepted e))

@@ -1,0 +1,83 @@
+-- A call that is answered with number 0 took the first stop of its last inner fit, within the limit. Assumes nothing.
+use mathlib.Core.Path.{_≡_, refl, sym, ap, _∙_}
+use mathlib.Core.List.{List}
+use Prim.Native.Nat.{ℕ}
+use native.Mathlib.Omega.{arith}
+use lib.Ieee.{Float}
+use Rattle.base.proofs.Doubles.{ff}
+use Rattle.model.specs.Answer.{unfittedAnswer, fittedAnswer}
+use Rattle.model.specs.Items.{Item, tally}
+use Rattle.model.specs.Names.{limitOf}
+use Rattle.model.specs.declared.counts.Account.{Account}
+use Rattle.model.specs.declared.ends.End.the-variants.{SystemPivot, NormalPivot, NoStep, NoStop}
+use Rattle.model.specs.declared.sizes.Shape.{Shape}
+use Rattle.model.specs.declared.sizes.Settings.{Settings}
+use Rattle.model.specs.Inputs.{Inputs}
+use Rattle.family.specs.declared.carried.CarriedFamily.{CarriedFamily}
+use Rattle.family.specs.declared.carried.CarriedLink.{CarriedLink}
+use Rattle.rule.specs.Given.{Given}
+use Rattle.rule.specs.Stop.{Mode}
+use Rattle.rule.specs.Run.{Ending, stopped, failed, startMeans, runOf}
+use Rattle.rule.proofs.Stopping.{run-stops}
+use Rattle.agq_rule.specs.Steps.{quadratureOf}
+use Rattle.agq_rule.specs.Inner.{withPoints, afterRun, innerWith, innerOf}
+use Rattle.table.specs.Table.{tableOf}
+use Rattle.table.specs.declared.verdicts.Verdict.the-variants.{Accepted}
+use Rattle.dispersion.specs.Rounds.{Result, result, noResult, Dispersed}
+use Rattle.dispersion.proofs.Turns.{isResult}
+use Rattle.call.specs.Fit.{Fitted, resultBy, totalOf, innerAt, fitOf, resultAnswer, answerOf}
+use Rattle.call.specs.Call.{Lent, lengthsOf, callGiven, resultsAfter, fitLeft, callOf, Taken}
+use Rattle.call.proofs.Leaves.{askedFit, accepted-left}
+use Rattle.call.proofs.Told.{fit-ran}
+
+-- the fit of a result, g where there is none
+abbrev fittedIn : Fitted → Result Fitted → Fitted
+fittedIn g (result h) = h
+fittedIn g (noResult e) = g
+
+-- ---- an inner fit with a result stopped with its mode, and its integral is the quadrature there
+module _ (G : Given) (wish : ℕ) (phi : Float) (g : Fitted) where
+  record Stood (x : Ending) : Type 0 where
+    ending : x ≡ stopped (g .mode)
+    integral : g .integral ≡ quadratureOf G wish (g .mode) phi .answer
+
+  by-ending : (x : Ending) (is : List Item) → resultBy (afterRun x G wish phi is .ending) ≡ result g → Stood x
+  unfolding afterRun withPoints resultBy
+  by-ending (failed e) is h = absurd (ff (ap isResult h))
+  by-ending (stopped M) is h =
+      let same : record { mode = M; integral = quadratureOf G wish M phi .answer } ≡ g = ap (fittedIn g) h in
+      rw (← same) (record { ending = refl; integral = refl })
+
+  stood : (L : ℕ) → innerAt G wish L phi .outcome ≡ result g → Stood (runOf G phi L (startMeans G) .ending)
+  unfolding innerAt totalOf innerOf innerWith
+  stood L h = let o = runOf G phi L (startMeans G) in by-ending (o .ending) (o .items) h
+
+-- ---- only a result is told under number 0
+zero-fitted : (x : Result (Dispersed Fitted)) (a : Account) → resultAnswer x a .number ≡ 0 → (d : Dispersed Fitted) × (x ≡ result d)
+unfolding resultAnswer unfittedAnswer
+zero-fitted (result d) a h = (d, refl)
+zero-fitted (noResult SystemPivot) a h = absurd (omega (arith, h))
+zero-fitted (noResult NormalPivot) a h = absurd (omega (arith, h))
+zero-fitted (noResult NoStep) a h = absurd (omega (arith, h))
+zero-fitted (noResult NoStop) a h = absurd (omega (arith, h))
+
+-- ---- the call
+module _ (t : Settings) (s : Shape) (I : Inputs) (L : Lent) (f : CarriedFamily) (l : CarriedLink) (e : tableOf 1 t s I (lengthsOf L) ≡ Accepted f l) where
+  abbrev given : Given
+  given = callGiven f l t s I
+
+  abbrev limit : ℕ
+  limit = limitOf (t .limit) (t .link)
+
+  taken : (d : Dispersed Fitted) → askedFit f l t s I .outcome ≡ result d → Taken given (t .«n_agq») limit (callOf t s I L .answer) (callOf t s I L .lent .results) (d .last .mode)
+  unfolding fitLeft resultsAfter answerOf resultAnswer fittedAnswer
+  taken d q =
+      let w = stood given (t .«n_agq») (d .phi) (d .last) limit (fit-ran given (t .«n_agq») limit d q) in
+      let r = run-stops given (d .phi) limit (startMeans given) (d .last .mode) .0 (w .ending) in
+      rw (accepted-left t s I L f l e, q) (record { first = r .0; within = r .1; iterations = refl; deviance = rw (w .integral) refl; order = rw (w .integral) refl; results = refl })
+
+  pub call-first-stop : callOf t s I L .answer .number ≡ 0 → (k : Mode) × Taken given (t .«n_agq») limit (callOf t s I L .answer) (callOf t s I L .lent .results) k
+  unfolding fitLeft answerOf
+  call-first-stop h =
+      let z = zero-fitted (askedFit f l t s I .outcome) (tally (askedFit f l t s I .items)) (rw (accepted-left t s I L f l e) at h) in
+      (z .0 .last .mode, taken (z .0) (z .1))

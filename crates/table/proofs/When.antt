@@ -1,0 +1,115 @@
+-- Each refusal is given exactly when the table says, and a call is accepted exactly when every test is passed. Assumes nothing.
+use mathlib.Core.Path.{_≡_, refl, sym, ap, _∙_}
+use mathlib.Core.Logic.{_↔_, _⊎_, inl, inr, ⊎-elim}
+use mathlib.Core.Bool.{Bool, true, false, _&&_}
+use Prim.Native.Nat.{ℕ}
+use Rattle.base.specs.Sparse.{goodRows}
+use Rattle.base.proofs.Doubles.{ff}
+use Rattle.model.specs.Inputs.{Inputs}
+use Rattle.model.specs.Settings.{goodSizes}
+use Rattle.model.specs.declared.sizes.Shape.{Shape}
+use Rattle.model.specs.declared.sizes.Settings.{Settings}
+use Rattle.model.specs.declared.ends.Refusal.{Refusal}
+use Rattle.model.specs.declared.ends.Refusal.the-variants.{OutOfRange, Lengths, Work, SparseRows, NotFinite, LinkForFamily, NotCarried}
+use Rattle.family.specs.Carried.{carriedFamily, carriedLink, validFor}
+use Rattle.family.specs.declared.carried.CarriedFamily.{CarriedFamily}
+use Rattle.family.specs.declared.carried.CarriedLink.{CarriedLink}
+use Rattle.family.specs.declared.carried.FamilyCarried.{FamilyCarried}
+use Rattle.family.specs.declared.carried.FamilyCarried.the-variants as familyCarried
+use Rattle.family.specs.declared.carried.LinkCarried.{LinkCarried}
+use Rattle.family.specs.declared.carried.LinkCarried.the-variants as linkCarried
+use Rattle.table.specs.Tests.{goodInputs, goodResults, goodWork, goodNumbers}
+use Rattle.table.specs.Table.{refuseUnless, withLink, withFamily, carriedPair, tableOf}
+use Rattle.table.specs.When.{PastLink, GivenWhen, AcceptedWhen, SomeAccepted}
+use Rattle.table.specs.declared.verdicts.LentLengths.{LentLengths}
+use Rattle.table.specs.declared.verdicts.Verdict.{Verdict}
+use Rattle.table.specs.declared.verdicts.Verdict.the-variants.{Accepted, Refused}
+use Rattle.table.proofs.Accepting.{isAccepted, no-family, no-link, both-carried, last-line}
+
+-- the refusal of a refusing verdict, x of any other
+abbrev refusalIn : Refusal → Verdict → Refusal
+refusalIn x (Refused y) = y
+refusalIn x (Accepted f l) = x
+
+-- by what a test says
+by-said : {C : Type 0} (b : Bool) → (b ≡ true → C) → (b ≡ false → C) → C
+by-said true f g = f refl
+by-said false f g = g refl
+
+module _ (r : ℕ) (t : Settings) (s : Shape) (I : Inputs) (L : LentLengths) where
+  -- ---- when a line says so, the table gives it
+  past-all : PastLink r t s I L → tableOf r t s I L ≡ carriedPair (t .family) (t .link)
+  unfolding tableOf refuseUnless
+  past-all p = rw (p .0 .0 .0 .0 .0, p .0 .0 .0 .0 .1, p .0 .0 .0 .1, p .0 .0 .1, p .0 .1, p .1) refl
+
+  not-carried : (x : FamilyCarried) (y : LinkCarried) → (x ≡ familyCarried.NotYet) ⊎ (y ≡ linkCarried.NotYet) → withFamily x y ≡ Refused NotCarried
+  unfolding withFamily withLink
+  not-carried familyCarried.NotYet y c = refl
+  not-carried (familyCarried.Carried f) y (inr c) = rw c refl
+  not-carried (familyCarried.Carried f) y (inl c) = absurd (ff (sym (ap isCarried c)))
+    where
+      isCarried : FamilyCarried → Bool
+      isCarried (familyCarried.Carried f) = true
+      isCarried familyCarried.NotYet = false
+
+  given : (x : Refusal) → GivenWhen r t s I L x → tableOf r t s I L ≡ Refused x
+  unfolding GivenWhen tableOf refuseUnless carriedPair
+  given OutOfRange a = rw a refl
+  given Lengths a = rw (a .0, a .1) refl
+  given Work a = rw (a .0 .0, a .0 .1, a .1) refl
+  given SparseRows a = rw (a .0 .0 .0, a .0 .0 .1, a .0 .1, a .1) refl
+  given NotFinite a = rw (a .0 .0 .0 .0, a .0 .0 .0 .1, a .0 .0 .1, a .0 .1, a .1) refl
+  given LinkForFamily a = rw (a .0 .0 .0 .0 .0, a .0 .0 .0 .0 .1, a .0 .0 .0 .1, a .0 .0 .1, a .0 .1, a .1) refl
+  given NotCarried a = past-all (a .0) ∙ not-carried (carriedFamily (t .family)) (carriedLink (t .link)) (a .1)
+
+  accepted : (f : CarriedFamily) (l : CarriedLink) → AcceptedWhen r t s I L f l → tableOf r t s I L ≡ Accepted f l
+  accepted f l a = past-all (a .0) ∙ both-carried (t .family) (t .link) f l (a .1 .0) (a .1 .1)
+
+  -- ---- some line does
+  abbrev pub Decided : Type 0
+  Decided = ((x : Refusal) × GivenWhen r t s I L x) ⊎ SomeAccepted r t s I L
+
+  carried : PastLink r t s I L → (x : FamilyCarried) → carriedFamily (t .family) ≡ x → (y : LinkCarried) → carriedLink (t .link) ≡ y → Decided
+  unfolding GivenWhen
+  carried p (familyCarried.Carried f) a (linkCarried.Carried l) b = inr (f, l, (p, (a, b)))
+  carried p (familyCarried.Carried f) a linkCarried.NotYet b = inl (NotCarried, (p, inr b))
+  carried p familyCarried.NotYet a y b = inl (NotCarried, (p, inl a))
+
+  pub decided : Decided
+  unfolding GivenWhen
+  decided =
+      by-said (goodSizes t s)
+      (λ a. by-said (goodInputs r t s I && goodResults r t L)
+      (λ b. by-said (goodWork t L)
+      (λ c. by-said (goodRows (I .starts) (I .columns) (t .rows) (t .n))
+      (λ d. by-said (goodNumbers I)
+      (λ g. by-said (validFor (t .link) (t .family))
+      (λ h. carried (((((a, b), c), d), g), h) (carriedFamily (t .family)) refl (carriedLink (t .link)) refl)
+      (λ x. inl (LinkForFamily, (((((a, b), c), d), g), x))))
+      (λ x. inl (NotFinite, ((((a, b), c), d), x))))
+      (λ x. inl (SparseRows, (((a, b), c), x))))
+      (λ x. inl (Work, ((a, b), x))))
+      (λ x. inl (Lengths, (a, x))))
+      (λ x. inl (OutOfRange, x))
+
+  -- ---- so exactly when
+  pub refused-when : (x : Refusal) → (tableOf r t s I L ≡ Refused x) ↔ GivenWhen r t s I L x
+  refused-when x = (
+    λ e.
+        ⊎-elim
+        (λ (d : (y : Refusal) × GivenWhen r t s I L y). let q : d .0 ≡ x = ap (refusalIn x) (sym (given (d .0) (d .1)) ∙ e) in rw q at (d .1))
+        (λ (d : SomeAccepted r t s I L). absurd (ff (ap isAccepted (sym e ∙ accepted (d .0) (d .1) (d .2)))))
+        decided,
+    given x,
+  )
+
+  pub accepted-when : (f : CarriedFamily) (l : CarriedLink) → (tableOf r t s I L ≡ Accepted f l) ↔ AcceptedWhen r t s I L f l
+  unfolding carriedPair
+  accepted-when f l = (
+    λ e.
+        ⊎-elim
+        (λ (d : (y : Refusal) × GivenWhen r t s I L y). absurd (ff (ap isAccepted (sym (given (d .0) (d .1)) ∙ e))))
+        (λ (d : SomeAccepted r t s I L). let p = d .2 .0 in (p, last-line (carriedFamily (t .family)) (carriedLink (t .link)) f l (sym (past-all p) ∙ e)))
+        decided,
+    accepted f l,
+  )

@@ -1,0 +1,58 @@
+-- When each number of the table is given: its own test fails and every test before it is passed. Document 01, "Numbers of an answer". Assumes nothing.
+use mathlib.Core.Path.{_≡_}
+use mathlib.Core.Logic.{_⊎_}
+use mathlib.Core.Bool.{true, false, _&&_}
+use Prim.Native.Nat.{ℕ}
+use Rattle.base.specs.Sparse.{goodRows}
+use Rattle.model.specs.Inputs.{Inputs}
+use Rattle.model.specs.Settings.{goodSizes}
+use Rattle.model.specs.declared.sizes.Shape.{Shape}
+use Rattle.model.specs.declared.sizes.Settings.{Settings}
+use Rattle.model.specs.declared.ends.Refusal.{Refusal}
+use Rattle.model.specs.declared.ends.Refusal.the-variants.{OutOfRange, Lengths, Work, SparseRows, NotFinite, LinkForFamily, NotCarried}
+use Rattle.family.specs.Carried.{carriedFamily, carriedLink, validFor}
+use Rattle.family.specs.declared.carried.CarriedFamily.{CarriedFamily}
+use Rattle.family.specs.declared.carried.CarriedLink.{CarriedLink}
+use Rattle.family.specs.declared.carried.FamilyCarried.the-variants as familyCarried
+use Rattle.family.specs.declared.carried.LinkCarried.the-variants as linkCarried
+use Rattle.table.specs.Tests.{goodInputs, goodResults, goodWork, goodNumbers}
+use Rattle.table.specs.declared.verdicts.LentLengths.{LentLengths}
+
+module _ (r : ℕ) (t : Settings) (s : Shape) (I : Inputs) (L : LentLengths) where
+  -- the tests of 1 and 2 are passed
+  abbrev pub PastLengths : Type 0
+  PastLengths = (goodSizes t s ≡ true) × (goodInputs r t s I && goodResults r t L ≡ true)
+
+  -- and that of 7
+  abbrev pub PastWork : Type 0
+  PastWork = PastLengths × (goodWork t L ≡ true)
+
+  -- and that of 6
+  abbrev pub PastRows : Type 0
+  PastRows = PastWork × (goodRows (I .starts) (I .columns) (t .rows) (t .n) ≡ true)
+
+  -- and that of 3
+  abbrev pub PastNumbers : Type 0
+  PastNumbers = PastRows × (goodNumbers I ≡ true)
+
+  -- and that of 4
+  abbrev pub PastLink : Type 0
+  PastLink = PastNumbers × (validFor (t .link) (t .family) ≡ true)
+
+  -- when a refusal is given
+  unfoldable pub GivenWhen : Refusal → Type 0
+  GivenWhen OutOfRange = goodSizes t s ≡ false
+  GivenWhen Lengths = (goodSizes t s ≡ true) × (goodInputs r t s I && goodResults r t L ≡ false)
+  GivenWhen Work = PastLengths × (goodWork t L ≡ false)
+  GivenWhen SparseRows = PastWork × (goodRows (I .starts) (I .columns) (t .rows) (t .n) ≡ false)
+  GivenWhen NotFinite = PastRows × (goodNumbers I ≡ false)
+  GivenWhen LinkForFamily = PastNumbers × (validFor (t .link) (t .family) ≡ false)
+  GivenWhen NotCarried = PastLink × ((carriedFamily (t .family) ≡ familyCarried.NotYet) ⊎ (carriedLink (t .link) ≡ linkCarried.NotYet))
+
+  -- when a call is accepted with the formulas of f and l: every test is passed
+  abbrev pub AcceptedWhen : CarriedFamily → CarriedLink → Type 0
+  AcceptedWhen f l = PastLink × ((carriedFamily (t .family) ≡ familyCarried.Carried f) × (carriedLink (t .link) ≡ linkCarried.Carried l))
+
+  -- when it is accepted
+  abbrev pub SomeAccepted : Type 0
+  SomeAccepted = (f : CarriedFamily) × (l : CarriedLink) × AcceptedWhen f l
