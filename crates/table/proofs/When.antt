@@ -24,7 +24,7 @@ use Rattle.table.specs.When.{PastLink, GivenWhen, AcceptedWhen, SomeAcce
 use Rattle.table.specs.declared.verdicts.LentLengths.{LentLengths}
 use Rattle.table.specs.declared.verdicts.Verdict.{Verdict}
 use Rattle.table.specs.declared.verdicts.Verdict.the-variants.{Accepted, Refused}
-use Rattle.table.proofs.Accepting.{isAccepted, no-family, no-link, both-carried, last-line}
+use Rattle.table.proofs.Accepting.{isAccepted, both-carried, last-line}
 
 -- the refusal of a refusing verdict, x of any other
 abbrev refusalIn : Refusal → Verdict → Refusal

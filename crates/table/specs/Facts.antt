@@ -7,8 +7,8 @@ use Prim.Native.Nat.{ℕ, _+_, _*_, _≤_, _<_}
 use lib.ListN.{length}
 use lib.Ieee.{Float}
 use Rattle.base.specs.Number.{finite}
-use Rattle.base.specs.Sum.{_!_}
-use Rattle.base.specs.Sparse.{Rows}
+use Rattle.base.specs.Sum.{_!_, _!!_}
+use Rattle.base.specs.Sparse.{Rising, Rows}
 use Rattle.model.specs.Shape.{thetaLength}
 use Rattle.model.specs.Settings.{Sized}
 use Rattle.model.specs.declared.sizes.Shape.{Shape}
@@ -56,6 +56,12 @@ pub record WorkFits (t : Settings) (L : LentLengths) : Type 0 where
   pub rows : rowsLength (t .n) ≤ L .rows
   pub matrices : matricesLength (t .p) (t .rows) ≤ L .matrices
   pub terms : termsLength ≤ L .terms
+
+-- the row starts of Z' go from 0 to the entry count without falling, and the columns of each row are below n and rise
+pub record RowsFit (t : Settings) (I : Inputs) : Type 0 where
+  pub first : I .starts !! 0 ≡ 0
+  pub last : I .starts !! t .rows ≡ length (I .columns)
+  pub each : (a : ℕ) → a < t .rows → Rising (I .columns) (t .n) (I .starts !! a) (I .starts !! (a + 1))
 
 -- every number of a list is finite
 abbrev pub AllFinite : List Float → Type 0

@@ -1,0 +1,95 @@
+-- Each test of the table is passed exactly when its facts hold. Assumes nothing.
+use mathlib.Core.Path.{_≡_, refl, sym, _∙_}
+use mathlib.Core.List.{List}
+use mathlib.Core.Logic.{_↔_}
+use mathlib.Core.Bool.{true, false}
+use Prim.Native.Nat.{ℕ, zero, suc, _+_, _-_, _*_, _<_}
+use native.Mathlib.Omega.{arith}
+use borrow.Author.Tests.{le-leb, lt-ltb, eq-eqb, ne-eqb, eqb-true}
+use lib.Dec.{eqb}
+use lib.ListN.{length}
+use lib.Ieee.{Float}
+use Rattle.base.specs.Sum.{_!!_, allTo, finiteAt}
+use Rattle.base.specs.Sparse.{notFalling, goodStarts, columnFits, goodColumns, goodRow, goodRows, Rising}
+use Rattle.base.proofs.Sums.{all-at, all-of}
+use Rattle.base.proofs.SparseRows.{starts-step, starts-within, columns-rising}
+use Rattle.model.specs.Inputs.{Inputs}
+use Rattle.model.specs.Settings.{goodSizes, Sized}
+use Rattle.model.specs.declared.sizes.Shape.{Shape}
+use Rattle.model.specs.declared.sizes.Settings.{Settings}
+use Rattle.model.proofs.Sized.{sized, sized-when}
+use Rattle.model.proofs.Tests.{both, joined}
+use Rattle.layout.specs.WorkTerms.{termsLength}
+use Rattle.table.specs.Tests.{goodInputs, goodResults, goodWork, allFinite, finiteNumbers, goodNumbers}
+use Rattle.table.specs.Facts.{InputsFit, ResultsFit, WorkFits, RowsFit, AllFinite, NumbersFinite}
+use Rattle.table.specs.declared.verdicts.LentLengths.{LentLengths}
+use Rattle.table.proofs.Meant.{or-absent, inputs-fit, inputs-when, results-fit, results-when, work-fits, work-when, numbers-finite}
+
+-- ---- number 1
+pub sizes-exactly : (t : Settings) (s : Shape) → (goodSizes t s ≡ true) ↔ Sized t s
+sizes-exactly t s =
+    (sized t s, λ z. sym (sized-when t s (z .sizes .n-some, z .sizes .n-few) (z .sizes .p-some, z .sizes .p-few) (z .shape) (z .effects) (z .entries-few)) ∙ z .limit)
+
+-- ---- number 2
+pub inputs-exactly : (r : ℕ) (t : Settings) (s : Shape) (I : Inputs) → (goodInputs r t s I ≡ true) ↔ InputsFit r t s I
+inputs-exactly r t s I = (
+  inputs-fit r t s I,
+  λ z. sym (inputs-when r t s I (z .theta) (z .y) (or-absent (t .n) (I .weights) (z .weights)) (or-absent (t .n) (I .offset) (z .offset)) (z .x) (z .starts) (z .columns)) ∙ eq-eqb (length (I .values)) (t .entries) (z .values),
+)
+
+pub results-exactly : (r : ℕ) (t : Settings) (L : LentLengths) → (goodResults r t L ≡ true) ↔ ResultsFit r t L
+results-exactly r t L =
+    (results-fit r t L, λ z. sym (results-when r t L (z .beta) (z .se) (z .z) (z .u) (z .b) (z .mu) (z .eta) (z .residual)) ∙ eq-eqb (L .v) (r * t .p * t .p) (z .v))
+
+-- ---- number 7
+pub work-exactly : (t : Settings) (L : LentLengths) → (goodWork t L ≡ true) ↔ WorkFits t L
+work-exactly t L = (work-fits t L, λ z. sym (work-when t L (z .rows) (z .matrices)) ∙ le-leb termsLength (L .terms) (z .terms))
+
+-- ---- number 6
+column-fits : (columns : List ℕ) (n b e : ℕ) → Rising columns n b e → (t : ℕ) → t < e - b → columnFits columns n b t ≡ true
+unfolding columnFits
+column-fits columns n b e z zero l = joined (lt-ltb _ _ (z .below (b + 0) (omega arith) (omega arith))) refl
+column-fits columns n b e z (suc t) l =
+    let q : b + suc t - 1 ≡ b + t = omega arith in
+    let p : b + t + 1 ≡ b + suc t = omega arith in
+    let some : eqb (suc t) 0 ≡ false = ne-eqb (suc t) 0 (λ o. omega arith) in
+    let up : columns !! (b + t) < columns !! (b + suc t) = rw p at (z .above (b + t) (omega arith) (omega arith)) in
+    joined (lt-ltb _ _ (z .below (b + suc t) (omega arith) (omega arith))) (rw (q, some) (lt-ltb _ _ up))
+
+module _ (t : Settings) (I : Inputs) where
+  rows-told : RowsFit t I → goodRows (I .starts) (I .columns) (t .rows) (t .n) ≡ true
+  unfolding goodRows goodStarts goodRow goodColumns notFalling
+  rows-told z =
+      let each = z .each in
+      joined
+      (joined (joined (eq-eqb _ _ (z .first)) (eq-eqb _ _ (z .last))) (sym (all-of (notFalling (I .starts)) (t .rows) (λ a l. le-leb _ _ (each a l .order)))))
+      (sym (all-of (goodRow (I .starts) (I .columns) (t .n)) (t .rows) (λ a l. sym (all-of _ _ (column-fits (I .columns) (t .n) _ _ (each a l))))))
+
+  rows-meant : goodRows (I .starts) (I .columns) (t .rows) (t .n) ≡ true → RowsFit t I
+  unfolding goodRows goodStarts goodRow
+  rows-meant h =
+      let a : (goodStarts (I .starts) (t .rows) (length (I .columns)) ≡ true) × (allTo (t .rows) (goodRow (I .starts) (I .columns) (t .n)) ≡ true) = both h in
+      let b : (_ ≡ true) × (allTo (t .rows) (notFalling (I .starts)) ≡ true) = both (a .0) in
+      let c : (eqb (I .starts !! 0) 0 ≡ true) × (eqb (I .starts !! t .rows) (length (I .columns)) ≡ true) = both (b .0) in
+      let step = starts-step (I .starts) (t .rows) (length (I .columns)) (sym (a .0)) in
+      let few = starts-within (I .starts) (t .rows) (length (I .columns)) (sym (a .0)) in
+      record {
+        first = eqb-true _ _ (c .0);
+        last = eqb-true _ _ (c .1);
+        each = λ k l. columns-rising (I .columns) (t .n) (I .starts !! k) (I .starts !! (k + 1)) (step k l) (few (k + 1) (omega arith)) (sym (all-at (goodRow (I .starts) (I .columns) (t .n)) (t .rows) (sym (a .1)) k l));
+      }
+
+  pub rows-exactly : (goodRows (I .starts) (I .columns) (t .rows) (t .n) ≡ true) ↔ RowsFit t I
+  rows-exactly = (rows-meant, rows-told)
+
+-- ---- number 3
+list-told : (xs : List Float) → AllFinite xs → allFinite xs ≡ true
+unfolding allFinite
+list-told xs h = sym (all-of (finiteAt xs) (length xs) h)
+
+pub numbers-exactly : (I : Inputs) → (goodNumbers I ≡ true) ↔ NumbersFinite I
+unfolding finiteNumbers
+numbers-exactly I = (
+  numbers-finite I,
+  λ z. rw (list-told (I .theta) (z .theta), list-told (I .y) (z .y), list-told (I .weights) (z .weights), list-told (I .offset) (z .offset), list-told (I .x) (z .x), list-told (I .values) (z .values)) refl,
+)
