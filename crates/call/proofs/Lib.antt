@@ -6,3 +6,4 @@ pub mod CappedBy
 pub mod Told
 pub mod Unique
 pub mod Stopped
+pub mod When

@@ -1,33 +1,36 @@
--- A call that is answered with number 0 took the first stop of its last inner fit, within the limit. Assumes nothing.
-use mathlib.Core.Path.{_≡_, refl, sym, ap, _∙_}
+-- A call that is answered with number 0 took the first stop of its last inner fit, within the limit; without a free dispersion such a stop is taken. Assumes nothing.
+use mathlib.Core.Path.{_≡_, refl, ap}
+use mathlib.Core.Bool.{true, false}
 use mathlib.Core.List.{List}
-use Prim.Native.Nat.{ℕ}
+use Prim.Native.Nat.{ℕ, _≤_}
 use native.Mathlib.Omega.{arith}
 use lib.Ieee.{Float}
+use Rattle.base.specs.Number.{oneF}
 use Rattle.base.proofs.Doubles.{ff}
 use Rattle.model.specs.Answer.{unfittedAnswer, fittedAnswer}
 use Rattle.model.specs.Items.{Item, tally}
 use Rattle.model.specs.Names.{limitOf}
 use Rattle.model.specs.declared.counts.Account.{Account}
-use Rattle.model.specs.declared.ends.End.the-variants.{SystemPivot, NormalPivot, NoStep, NoStop}
 use Rattle.model.specs.declared.sizes.Shape.{Shape}
 use Rattle.model.specs.declared.sizes.Settings.{Settings}
 use Rattle.model.specs.Inputs.{Inputs}
+use Rattle.model.proofs.Answers.{end-range}
+use Rattle.family.specs.Family.{usesDispersion}
 use Rattle.family.specs.declared.carried.CarriedFamily.{CarriedFamily}
 use Rattle.family.specs.declared.carried.CarriedLink.{CarriedLink}
 use Rattle.rule.specs.Given.{Given}
 use Rattle.rule.specs.Stop.{Mode}
-use Rattle.rule.specs.Run.{Ending, stopped, failed, startMeans, runOf}
+use Rattle.rule.specs.Run.{Ending, stopped, failed, startMeans, startAt, runOf, FirstStop}
 use Rattle.rule.proofs.Stopping.{run-stops}
 use Rattle.agq_rule.specs.Steps.{quadratureOf}
 use Rattle.agq_rule.specs.Inner.{withPoints, afterRun, innerWith, innerOf}
 use Rattle.table.specs.Table.{tableOf}
 use Rattle.table.specs.declared.verdicts.Verdict.the-variants.{Accepted}
-use Rattle.dispersion.specs.Rounds.{Result, result, noResult, Dispersed}
+use Rattle.dispersion.specs.Rounds.{Result, result, noResult, Dispersed, withFlag, lastFit, fixedOf}
 use Rattle.dispersion.proofs.Turns.{isResult}
-use Rattle.call.specs.Fit.{Fitted, resultBy, totalOf, innerAt, fitOf, resultAnswer, answerOf}
+use Rattle.call.specs.Fit.{Fitted, resultBy, totalOf, innerAt, fitBy, fitOf, resultAnswer, answerOf}
 use Rattle.call.specs.Call.{Lent, lengthsOf, callGiven, resultsAfter, fitLeft, callOf, Taken}
-use Rattle.call.proofs.Leaves.{askedFit, accepted-left}
+use Rattle.call.proofs.Leaves.{askedFit, accepted-left, fitted-number}
 use Rattle.call.proofs.Told.{fit-ran}
 
 -- the fit of a result, g where there is none
@@ -56,10 +59,7 @@ module _ (G : Given) (wish : ℕ) (phi : Float) (g : Fitted) where
 zero-fitted : (x : Result (Dispersed Fitted)) (a : Account) → resultAnswer x a .number ≡ 0 → (d : Dispersed Fitted) × (x ≡ result d)
 unfolding resultAnswer unfittedAnswer
 zero-fitted (result d) a h = (d, refl)
-zero-fitted (noResult SystemPivot) a h = absurd (omega (arith, h))
-zero-fitted (noResult NormalPivot) a h = absurd (omega (arith, h))
-zero-fitted (noResult NoStep) a h = absurd (omega (arith, h))
-zero-fitted (noResult NoStop) a h = absurd (omega (arith, h))
+zero-fitted (noResult e) a h = absurd (omega (arith, h, end-range e))
 
 -- ---- the call
 module _ (t : Settings) (s : Shape) (I : Inputs) (L : Lent) (f : CarriedFamily) (l : CarriedLink) (e : tableOf 1 t s I (lengthsOf L) ≡ Accepted f l) where
@@ -81,3 +81,12 @@ module _ (t : Settings) (s : Shape) (I : Inputs) (L : Lent) (f : CarriedFamily) 
   call-first-stop h =
       let z = zero-fitted (askedFit f l t s I .outcome) (tally (askedFit f l t s I .items)) (rw (accepted-left t s I L f l e) at h) in
       (z .0 .last .mode, taken (z .0) (z .1))
+
+  -- ---- and back, without a free dispersion: where the run at phi 1 has a first stop within the limit, the number is 0
+  pub call-stop-taken : (k : Mode) → usesDispersion f ≡ false → FirstStop given oneF (startAt given (startMeans given)) k → k .iterations ≤ limit → callOf t s I L .answer .number ≡ 0
+  unfolding callGiven fitOf fitBy fixedOf lastFit withFlag innerAt totalOf innerOf innerWith afterRun withPoints resultBy
+  call-stop-taken k u r w =
+      let h : runOf given oneF limit (startMeans given) .ending ≡ stopped k = run-stops given oneF limit (startMeans given) k .1 (r, w) in
+      fitted-number t s I L f l e
+      (record { last = record { mode = k; integral = quadratureOf given (t .«n_agq») k oneF .answer }; phi = oneF; converged = true })
+      (rw (u, h) refl)

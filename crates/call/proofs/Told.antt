@@ -1,4 +1,4 @@
--- What a fit reports: the phi is the one that its last inner fit ran with, and a flag that is false tells of 241 inner fits. Assumes nothing.
+-- What a fit reports: the phi is the one that its last inner fit ran with, a flag that is false tells of 241 inner fits, and without a free dispersion there is one. Assumes nothing.
 use mathlib.Core.Path.{_≡_, refl, sym, ap, _∙_}
 use mathlib.Core.Bool.{Bool, true, false}
 use mathlib.Core.List.{List}
@@ -9,17 +9,27 @@ use Rattle.base.specs.Number.{oneF}
 use Rattle.base.proofs.Doubles.{ff}
 use Rattle.model.specs.Caps.{innerCapOf}
 use Rattle.model.specs.Items.{Item, isFit, countOf, tally}
+use Rattle.model.specs.Inputs.{Inputs}
+use Rattle.model.specs.Names.{limitOf}
+use Rattle.model.specs.declared.sizes.Shape.{Shape}
+use Rattle.model.specs.declared.sizes.Settings.{Settings}
 use Rattle.model.proofs.Tallies.{count-append}
 use Rattle.family.specs.Family.{usesDispersion}
+use Rattle.family.specs.declared.carried.CarriedFamily.{CarriedFamily}
+use Rattle.family.specs.declared.carried.CarriedLink.{CarriedLink}
 use Rattle.rule.specs.Given.{Given, nOf}
 use Rattle.rule.specs.Run.{Ending, stopped, failed, itemsBefore, startMeans, runOf}
 use Rattle.agq_rule.specs.Steps.{quadratureOf}
 use Rattle.agq_rule.specs.Inner.{withPoints, afterRun, innerWith, innerOf}
 use Rattle.agq_rule.proofs.Caps.{inner-capped}
+use Rattle.table.specs.Table.{tableOf}
+use Rattle.table.specs.declared.verdicts.Verdict.the-variants.{Accepted}
 use Rattle.dispersion.specs.Phi.{effectiveN}
 use Rattle.dispersion.specs.Rounds.{Result, result, noResult, Dispersed, withFlag, lastFit, dispersionOf, fixedOf}
 use Rattle.dispersion.proofs.Reported.{last-ran, phi-ran, unsettled-241}
 use Rattle.call.specs.Fit.{Fitted, sumOf, totalOf, innerAt, fitBy, fitOf}
+use Rattle.call.specs.Call.{Lent, lengthsOf, callGiven, callOf}
+use Rattle.call.proofs.Leaves.{accepted-account}
 
 -- ---- an inner fit counts itself once
 run-counts : (G : Given) (phi : Float) (L : ℕ) (mu : List Float) → 1 ≤ countOf isFit (runOf G phi L mu .items)
@@ -68,3 +78,13 @@ module _ (G : Given) (wish L : ℕ) (d : Dispersed Fitted) where
   pub flag-all : fitOf G wish L .outcome ≡ result d → d .converged ≡ false → tally (fitOf G wish L .items) .fits ≡ 241
   unfolding fitOf tally
   flag-all e u = by-all (usesDispersion (G .family)) e u
+
+-- ---- without a free dispersion: one inner fit, whatever it comes to
+pub one-fit : (G : Given) (wish L : ℕ) → usesDispersion (G .family) ≡ false → tally (fitOf G wish L .items) .fits ≡ 1
+unfolding fitOf fitBy fixedOf lastFit tally
+one-fit G wish L u = rw u (inner-counts G wish L oneF)
+
+pub call-one-fit : (t : Settings) (s : Shape) (I : Inputs) (A : Lent) (f : CarriedFamily) (l : CarriedLink) → tableOf 1 t s I (lengthsOf A) ≡ Accepted f l → usesDispersion f ≡ false
+    → callOf t s I A .answer .account .fits ≡ 1
+unfolding callGiven
+call-one-fit t s I A f l e u = rw (accepted-account t s I A f l e) (one-fit (callGiven f l t s I) (t .«n_agq») (limitOf (t .limit) (t .link)) u)

@@ -1,6 +1,7 @@
 -- What a call answers and what it leaves in every lent slice. Document 01, "Numbers of an answer". Assumes nothing.
 use mathlib.Core.Path.{_≡_}
 use mathlib.Core.List.{List}
+use mathlib.Core.Logic.{_⊎_}
 use Prim.Native.Nat.{ℕ, _≤_}
 use lib.ListN.{length}
 use lib.Ieee.{Float}
@@ -103,7 +104,11 @@ callBy (Accepted f l) t s I L =
 unfoldable pub callOf : Settings → Shape → Inputs → Lent → Left
 callOf t s I L = callBy (tableOf 1 t s I (lengthsOf L)) t s I L
 
--- ---- what number 0 means
+-- ---- what the numbers mean
+
+-- the numbers of a call that is accepted: 0, or one of 10 to 13
+abbrev pub FitNumber : ℕ → Type 0
+FitNumber n = (n ≡ 0) ⊎ ((10 ≤ n) × (n ≤ 13))
 
 -- an answer a with the results R is that of the mode k: k is the first stop of the run at the reported phi from the starting means, within the limit, and iterations, deviance, order and results are its own
 pub record Taken (G : Given) (wish limit : ℕ) (a : Answer) (R : Results) (k : Mode) : Type 0 where
