@@ -2,3 +2,4 @@
 pub mod Steps
 pub mod FactoredSystem
 pub mod SolvedBeta
+pub mod Unique
