@@ -95,13 +95,13 @@ def begins(pieces):
 
 
 # pieces that no function names: what begins a slice, and what stands right behind a named piece
-UNNAMED = {"rows": [0], "matrices": [0, 9, 10, 11], "terms": []}
+UNNAMED = {"rows": [0], "matrices": [0, 8, 9], "terms": []}
 
 
 def places(n, p, q):
     rows = [n] * 11
-    matrices = [q * q, q * q, q * p, p * p] + [q] * 8 + [p, 11]
-    terms = [q * q, n, n, q * p, p * p, 2 * q]
+    matrices = [q * q, q * q, q * p, p * p] + [q] * 6 + [p, 0]
+    terms = [q * q, n, n, q * p, p * p, q]
     room = [16 * n, 3 * q ** 2 + 4 * p ** 2 + 2 * q * p + 12 * (q + p), 7000]
     for name, pieces, length in zip(["rows", "matrices", "terms"], [rows, matrices, terms], room):
         assert sum(pieces) <= length

@@ -296,7 +296,6 @@ fn rows(n: usize)
 fn put_vectors(p: usize, q: usize)
     requires { ⌜ (p ≤ 16) × (q ≤ 32) ⌝ }
 {
-    put_size(layout::right_at(p, q));
     put_size(layout::wy_at(p, q));
     put_size(layout::u_at(p, q));
     put_size(layout::b_at(p, q));
@@ -307,7 +306,7 @@ fn put_more_vectors(p: usize, q: usize)
 {
     put_size(layout::trial_u_at(p, q));
     put_size(layout::beta_at(p, q));
-    put_size(layout::log_weights_at(p, q));
+    put_size(layout::beta_end(p, q));
 }
 
 fn matrices(p: usize, q: usize)

@@ -57,9 +57,9 @@ within {n} {p} {q} {a} h l =
       below = l;
       turned = mul-comm p q;
       rows = omega (arith, laid .rows, h .rows-long);
-      matrices = omega (arith, laid .matrices .beta, laid .matrices .log-weights, h .matrices-long);
+      matrices = omega (arith, laid .matrices .beta, laid .matrices .beta-end, h .matrices-long);
       terms = omega (arith, laid .terms .normal, laid .terms .spare, h .terms-long);
-      matrices-few = omega (arith, laid .matrices .beta, laid .matrices .log-weights, laid .matrices .length-few);
+      matrices-few = omega (arith, laid .matrices .beta, laid .matrices .beta-end, laid .matrices .length-few);
       terms-few = omega (arith, laid .terms .normal, laid .terms .spare);
     }
 

@@ -10,7 +10,7 @@ use Rattle.base.specs.Rows.{row}
 use Rattle.base.proofs.Doubles.{ff}
 use Rattle.base.proofs.Rows.{part-is, row-length}
 use Rattle.layout.specs.WorkRows.{secondEtaRow, muRow, rawRow, rowsLength}
-use Rattle.layout.specs.WorkMatrices.{rootInversePlace, rightPlace, uPlace, bPlace, betaPlace, logWeightsPlace}
+use Rattle.layout.specs.WorkMatrices.{rootInversePlace, wyPlace, uPlace, bPlace, betaPlace, betaEnd}
 use Rattle.layout.proofs.Inside.{root-inverse-in, u-in, beta-in, mu-in}
 use Rattle.model.specs.declared.sizes.Shape.{Shape}
 use Rattle.results.specs.Nine.{Results, resultsFrom}
@@ -28,14 +28,14 @@ pub written-if : (b : Bool) (N N' M : Results) → not b ≡ false → N' ≡ M 
 written-if true N N' M e w = w
 written-if false N N' M e w = absurd (ff (sym e))
 
-module _ (shape : Shape) (n p q : ℕ) (theta y r m : List Float) (s : Standing shape n p q theta y r m) (root right fixed logs effects next second means raw : ℕ) (e-root : root ≡ rootInversePlace p q)
-    (e-right : right ≡ rightPlace p q) (e-fixed : fixed ≡ betaPlace p q) (e-logs : logs ≡ logWeightsPlace p q) (e-effects : effects ≡ uPlace p q) (e-next : next ≡ bPlace p q) (e-second : second ≡ secondEtaRow n)
+module _ (shape : Shape) (n p q : ℕ) (theta y r m : List Float) (s : Standing shape n p q theta y r m) (root wy fixed fixedEnd effects next second means raw : ℕ) (e-root : root ≡ rootInversePlace p q)
+    (e-wy : wy ≡ wyPlace p q) (e-fixed : fixed ≡ betaPlace p q) (e-fixed-end : fixedEnd ≡ betaEnd p q) (e-effects : effects ≡ uPlace p q) (e-next : next ≡ bPlace p q) (e-second : second ≡ secondEtaRow n)
     (e-means : means ≡ muRow n) (e-raw : raw ≡ rawRow n) where
-  root-part : take (right - root) (drop root m) ≡ row (rootInversePlace p q) (p * p) m
-  root-part = rw (e-root, e-right) (part-is (rootInversePlace p q) (p * p) (rightPlace p q) m refl)
+  root-part : take (wy - root) (drop root m) ≡ row (rootInversePlace p q) (p * p) m
+  root-part = rw (e-root, e-wy) (part-is (rootInversePlace p q) (p * p) (wyPlace p q) m refl)
 
-  fixed-part : take (logs - fixed) (drop fixed m) ≡ row (betaPlace p q) p m
-  fixed-part = rw (e-fixed, e-logs) (part-is (betaPlace p q) p (logWeightsPlace p q) m refl)
+  fixed-part : take (fixedEnd - fixed) (drop fixed m) ≡ row (betaPlace p q) p m
+  fixed-part = rw (e-fixed, e-fixed-end) (part-is (betaPlace p q) p (betaEnd p q) m refl)
 
   effects-part : take (next - effects) (drop effects m) ≡ row (uPlace p q) q m
   effects-part = rw (e-effects, e-next) (part-is (uPlace p q) q (bPlace p q) m refl)
@@ -61,7 +61,7 @@ module _ (shape : Shape) (n p q : ℕ) (theta y r m : List Float) (s : Standing 
         let l : rowsLength n ≤ length r = s .rows-long in
         h .is ∙ rw (first-part, second-part) (held-row n inSecond r (omega arith))
 
-    pub parts-read : Readable shape n p q theta y (take (right - root) (drop root m)) (take (logs - fixed) (drop fixed m)) (take (next - effects) (drop effects m)) (take (raw - means) (drop means r)) predictor
+    pub parts-read : Readable shape n p q theta y (take (wy - root) (drop root m)) (take (fixedEnd - fixed) (drop fixed m)) (take (next - effects) (drop effects m)) (take (raw - means) (drop means r)) predictor
     parts-read =
         rw (root-part, fixed-part, effects-part, means-part)
         (record {
@@ -77,6 +77,6 @@ module _ (shape : Shape) (n p q : ℕ) (theta y r m : List Float) (s : Standing 
         })
 
     pub parts-written : (N : Results)
-        → N ≡ resultsFrom n p shape theta y (take (right - root) (drop root m)) (take (logs - fixed) (drop fixed m)) (take (next - effects) (drop effects m)) (take (raw - means) (drop means r)) predictor
+        → N ≡ resultsFrom n p shape theta y (take (wy - root) (drop root m)) (take (fixedEnd - fixed) (drop fixed m)) (take (next - effects) (drop effects m)) (take (raw - means) (drop means r)) predictor
         → N ≡ resultsFrom n p shape theta y (row (rootInversePlace p q) (p * p) m) (row (betaPlace p q) p m) (row (uPlace p q) q m) (row (muRow n) n r) (row (etaRow n inSecond) n r)
     parts-written N e = rw (root-part, fixed-part, effects-part, means-part, predictor-row) at e

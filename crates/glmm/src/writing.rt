@@ -43,9 +43,9 @@ pub fn write_fit(
         return;
     }
     let root = layout::root_inverse_at(p, q);
-    let right = layout::right_at(p, q);
+    let wy = layout::wy_at(p, q);
     let fixed = layout::beta_at(p, q);
-    let logs = layout::log_weights_at(p, q);
+    let fixed_end = layout::beta_end(p, q);
     let effects = layout::u_at(p, q);
     let next = layout::b_at(p, q);
     let second = layout::second_eta_row(n);
@@ -59,8 +59,8 @@ pub fn write_fit(
         n,
         p,
         q,
-        &m[root..right],
-        &m[fixed..logs],
+        &m[root..wy],
+        &m[fixed..fixed_end],
         &m[effects..next],
         &r[means..raw],
         predictor,

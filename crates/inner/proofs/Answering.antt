@@ -136,9 +136,9 @@ module _ (G : Given) (wish : ℕ) (phi : Float) (L : ℕ) (mu r r1 m m1 t t1 : L
             place = d .place;
             eta = row-kept (etaRow n (fit .«in_second»)) (omega (arith, eta-before n (fit .«in_second»))) ∙ d .eta;
             mu = row-kept (muRow n) (omega arith) ∙ d .mu;
-            inverse = matrix-kept (rootInversePlace p q) (p * p) (inr (omega (arith, laid .inverse, laid .solved))) (inl (omega (arith, laid .root-inverse))) (omega (arith, laid .log-weights)) ∙ d .inverse;
-            beta = matrix-kept (betaPlace p q) p (inr (omega arith)) (inr (omega arith)) (omega (arith, laid .log-weights)) ∙ d .beta;
-            u = matrix-kept (uPlace p q) q (inr (omega arith)) (inl (omega arith)) (omega (arith, laid .log-weights)) ∙ d .u;
+            inverse = matrix-kept (rootInversePlace p q) (p * p) (inr (omega (arith, laid .inverse, laid .solved))) (inl (omega (arith, laid .root-inverse))) (omega (arith, laid .beta-end)) ∙ d .inverse;
+            beta = matrix-kept (betaPlace p q) p (inr (omega arith)) (inr (omega arith)) (omega (arith, laid .beta-end)) ∙ d .beta;
+            u = matrix-kept (uPlace p q) q (inr (omega arith)) (inl (omega arith)) (omega (arith, laid .beta-end)) ∙ d .u;
           }
 
       holds : HoldsAnswer G k (a .answer) r2 m2 (stoppedAnswer fit a)
@@ -163,7 +163,7 @@ module _ (G : Given) (wish : ℕ) (phi : Float) (L : ℕ) (mu r r1 m m1 t t1 : L
             told = rw inner-is holds;
             counted = rw inner-is counted;
             rows-only = only-trans (x .rows-only) (two-within (xbetaRow n) n (pointRow n) (n + n) (rowsLength n) (omega arith) (omega arith) (s .rows-only));
-            matrices-only = only-trans (x .matrices-only) (two-within (inversePlace q) (q * q) (trialUPlace p q) (q + q + q) (matricesLength p q) (omega (arith, laid .log-weights)) (omega (arith, laid .log-weights)) (s .matrices-only));
+            matrices-only = only-trans (x .matrices-only) (two-within (inversePlace q) (q * q) (trialUPlace p q) (q + q + q) (matricesLength p q) (omega (arith, laid .beta-end)) (omega (arith, laid .beta-end)) (s .matrices-only));
             terms-only = only-trans (x .terms-only) (s .terms-only);
           })
 

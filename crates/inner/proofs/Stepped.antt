@@ -18,7 +18,7 @@ use Rattle.base.proofs.Rows.{part-is, only-row, only-none, filled-part}
 use Rattle.base.proofs.TwoRows.{two-none, two-of}
 use Rattle.family.specs.declared.carried.CarriedFamily.{CarriedFamily}
 use Rattle.family.specs.declared.carried.CarriedLink.{CarriedLink}
-use Rattle.layout.specs.WorkMatrices.{betaPlace, logWeightsPlace}
+use Rattle.layout.specs.WorkMatrices.{betaPlace, betaEnd}
 use Rattle.layout.specs.WorkRows.{xbetaRow, devianceRow, pointRow, rowsLength}
 use Rattle.layout.specs.WorkTerms.{termsLength}
 use Rattle.layout.proofs.LaidOut.{lent-kept}
@@ -59,11 +59,11 @@ pub groups-all : (s : Shape) (q : ℕ) → eqb (s .count) 1 ≡ true → q ≡ e
 groups-all s q t e = sym (e ∙ one-block s (s .count) (eqb-true (s .count) 1 t))
 
 -- ---- Xβ in the part that was lent
-pub fixed-made : (n p q beta next xbeta deviance : ℕ) (x m r ys : List Float) → beta ≡ betaPlace p q → next ≡ logWeightsPlace p q → xbeta ≡ xbetaRow n → deviance ≡ devianceRow n → deviance ≤ length r
-    → length ys ≡ length (midOf xbeta (deviance - xbeta) r) → ys ≡ fillTo n (xBetaAt x p (take (next - beta) (drop beta m))) (midOf xbeta (deviance - xbeta) r)
+pub fixed-made : (n p q beta end xbeta deviance : ℕ) (x m r ys : List Float) → beta ≡ betaPlace p q → end ≡ betaEnd p q → xbeta ≡ xbetaRow n → deviance ≡ devianceRow n → deviance ≤ length r
+    → length ys ≡ length (midOf xbeta (deviance - xbeta) r) → ys ≡ fillTo n (xBetaAt x p (take (end - beta) (drop beta m))) (midOf xbeta (deviance - xbeta) r)
     → Wrote (xbetaRow n) n (build (xBetaAt x p (row (betaPlace p q) p m)) n) r (putMid xbeta (deviance - xbeta) r ys)
-fixed-made n p q beta next xbeta deviance x m r ys eb en ex ed h l y =
-    let b : take (next - beta) (drop beta m) ≡ row beta p m = part-is beta p next m (omega arith) in
+fixed-made n p q beta end xbeta deviance x m r ys eb en ex ed h l y =
+    let b : take (end - beta) (drop beta m) ≡ row beta p m = part-is beta p end m (omega arith) in
     rw (← ex, ← eb) (filled-part xbeta n deviance (xBetaAt x p (row beta p m)) r ys (omega arith) h l (rw b at y))
 
 -- ---- what it tells

@@ -41,10 +41,10 @@ fn fixed_row(x: &[f64], n: usize, p: usize, q: usize, r: &mut [f64], m: &[f64])
     ensures { λ _. ⌜ Wrote (xbetaRow n) n (build (xBetaAt (now (x .entry)) p (row (betaPlace p q) p (now (m .entry)))) n) (now (r .entry)) (now (r .exit)) ⌝ }
 {
     let beta = layout::beta_at(p, q);
-    let log_weights = layout::log_weights_at(p, q);
+    let end = layout::beta_end(p, q);
     let xbeta = layout::xbeta_row(n);
     let deviance = layout::deviance_row(n);
-    x_beta(x, &m[beta..log_weights], n, p, &mut r[xbeta..deviance]);
+    x_beta(x, &m[beta..end], n, p, &mut r[xbeta..deviance]);
 }
 
 // One block of groups of k effects.

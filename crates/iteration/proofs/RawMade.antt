@@ -60,7 +60,7 @@ module _ (n p q : ℕ) (shape : Shape) (theta offset x : List Float) (zt : Spars
   raw-made a b c d =
       let ub : u ≡ build (effectAt wy W q p beta) q = a .row' in
       let bb : row (bPlace p q) q m' ≡ build (lambdaTimesAt shape theta (build (effectAt wy W q p beta) q)) q = b .second ∙ rw ub refl in
-      let kb : row (betaPlace p q) p m' ≡ beta = only-row (betaPlace p q) p (uPlace p q) (q + q) (inr (omega (arith, laid-out (lent .sizes) .matrices))) (omega (arith, laid-out (lent .sizes) .matrices .log-weights, laid-out (lent .sizes) .matrices .beta, lent .matrices-long)) (b .frame) in
+      let kb : row (betaPlace p q) p m' ≡ beta = only-row (betaPlace p q) p (uPlace p q) (q + q) (inr (omega (arith, laid-out (lent .sizes) .matrices))) (omega (arith, laid-out (lent .sizes) .matrices .beta-end, laid-out (lent .sizes) .matrices .beta, lent .matrices-long)) (b .frame) in
       let zb : row (rawRow n) n r' ≡ build (zTimesAt zt q (build (lambdaTimesAt shape theta (build (effectAt wy W q p beta) q)) q)) n = c .row' ∙ rw bb refl in
       record {
         u = rw (← eq) (b .first ∙ ub);

@@ -45,7 +45,7 @@ module _ (n p q weighted end wy : ℕ) (shape : Shape) (theta x : List Float) (z
         side = l .side ∙ ap (normalSide (designOf n p shape theta offset x zt) (row (wPlace q) n t) (row (workingRow n) n r)) (y .row');
         normal = l .normal;
         rows-only = l .rows-only;
-        system-kept = l .system-kept ∙ only-row systemPlace (q * q) (wyPlace p q) q (inl (omega arith)) (omega (arith, laid-out (lent .sizes) .matrices .log-weights, lent .matrices-long)) (y .only);
-        matrices-only = only-trans (only-wide (wyPlace p q) q 0 (matricesLength p q) (omega arith) (omega (arith, laid-out (lent .sizes) .matrices .log-weights)) (y .only)) (l .matrices-only);
+        system-kept = l .system-kept ∙ only-row systemPlace (q * q) (wyPlace p q) q (inl (omega arith)) (omega (arith, laid-out (lent .sizes) .matrices .beta-end, lent .matrices-long)) (y .only);
+        matrices-only = only-trans (only-wide (wyPlace p q) q 0 (matricesLength p q) (omega arith) (omega (arith, laid-out (lent .sizes) .matrices .beta-end)) (y .only)) (l .matrices-only);
         terms-only = l .terms-only;
       }

@@ -129,7 +129,7 @@ module _ (D : Design) (w z r m t : List Float) (lent : WorkRoom (D .n) (D .p) (q
         record {
           told = rw (rule-reduced D w z t t1 m m1 s' ∙ rule-normal D w z q i m2 m3 t2 t3 l) refl;
           rows-only = rows1;
-          matrices-only = only-trans matrices2 (only-wide (betaPlace p q) p 0 (matricesLength p q) (omega arith) (omega (arith, laidM .beta, laidM .log-weights)) (l .matrices-only));
+          matrices-only = only-trans matrices2 (only-wide (betaPlace p q) p 0 (matricesLength p q) (omega arith) (omega (arith, laidM .beta, laidM .beta-end)) (l .matrices-only));
           terms-only = only-trans terms2 (only-wide (normalPlace n p q) (p * p) 0 termsLength (omega arith) (omega (arith, laidT)) (l .terms-only));
         }
 
@@ -160,15 +160,15 @@ module _ (D : Design) (w z r m t : List Float) (lent : WorkRoom (D .n) (D .p) (q
 
       -- a row before β is as the right sides left it
       sides3 : (c k : ℕ) → c + k ≤ betaPlace p q → row c k m3 ≡ row c k m2
-      sides3 c k h = only-row c k (betaPlace p q) p (inl h) (omega (arith, laidM .beta, laidM .log-weights, lent .matrices-long, wide2)) (l .matrices-only)
+      sides3 c k h = only-row c k (betaPlace p q) p (inl h) (omega (arith, laidM .beta, laidM .beta-end, lent .matrices-long, wide2)) (l .matrices-only)
 
       system4 : row systemPlace (q * q) m4 ≡ A D w z
       system4 =
-          only-row systemPlace (q * q) (uPlace p q) (q + q) (inl (omega arith)) (omega (arith, laidM .log-weights, lent .matrices-long, wide3)) (v .matrices-only) ∙ sides3 systemPlace (q * q) (omega arith) ∙ x' .system-kept
+          only-row systemPlace (q * q) (uPlace p q) (q + q) (inl (omega arith)) (omega (arith, laidM .beta-end, lent .matrices-long, wide3)) (v .matrices-only) ∙ sides3 systemPlace (q * q) (omega arith) ∙ x' .system-kept
           ∙ s' .system .row'
 
       beta4 : row (betaPlace p q) p m4 ≡ row (betaPlace p q) p m3
-      beta4 = only-row (betaPlace p q) p (uPlace p q) (q + q) (inr (omega arith)) (omega (arith, laidM .beta, laidM .log-weights, lent .matrices-long, wide3)) (v .matrices-only)
+      beta4 = only-row (betaPlace p q) p (uPlace p q) (q + q) (inr (omega arith)) (omega (arith, laidM .beta, laidM .beta-end, lent .matrices-long, wide3)) (v .matrices-only)
 
       wy3 : row (wyPlace p q) q m3 ≡ reduced D w z .wy
       unfolding reducedOf wyOf
@@ -199,8 +199,8 @@ module _ (D : Design) (w z r m t : List Float) (lent : WorkRoom (D .n) (D .p) (q
                   raw = v .raw ∙ rw (wy3, solved3, beta3) refl;
                 });
             rows-only = only-trans rows1 (only-wide (rawRow n) n (rawRow n) (13 * n) (omega arith) (omega arith) (v .rows-only));
-            matrices-only = only-trans (only-trans matrices2 (only-wide (betaPlace p q) p 0 (matricesLength p q) (omega arith) (omega (arith, laidM .beta, laidM .log-weights)) (l .matrices-only)))
-                (only-wide (uPlace p q) (q + q) 0 (matricesLength p q) (omega arith) (omega (arith, laidM .beta, laidM .log-weights)) (v .matrices-only));
+            matrices-only = only-trans (only-trans matrices2 (only-wide (betaPlace p q) p 0 (matricesLength p q) (omega arith) (omega (arith, laidM .beta, laidM .beta-end)) (l .matrices-only)))
+                (only-wide (uPlace p q) (q + q) 0 (matricesLength p q) (omega arith) (omega (arith, laidM .beta, laidM .beta-end)) (v .matrices-only));
             terms-only = only-trans (only-trans terms2 (only-wide (normalPlace n p q) (p * p) 0 termsLength (omega arith) (omega (arith, laidT)) (l .terms-only)))
                 (only-wide (sparePlace n p q) q 0 termsLength (omega arith) (omega (arith, laidT)) (v .terms-only));
           }

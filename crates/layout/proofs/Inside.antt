@@ -67,7 +67,7 @@ module _ {n p q : ℕ} (sizes : Sizes n p q) {k : ℕ} (w : List Float) where
   pub unsolved-in : k ≡ unsolvedPlace n q → termsLength ≤ length w → k + q * p ≤ length w
   unsolved-in e h = omega (arith, products sizes)
 
-  pub spare-in : k ≡ sparePlace n p q → termsLength ≤ length w → k + 2 * q ≤ length w
+  pub spare-in : k ≡ sparePlace n p q → termsLength ≤ length w → k + q ≤ length w
   spare-in e h = omega (arith, products sizes)
 
 -- places and what stands there are small numbers

@@ -33,16 +33,14 @@ matrices-laid z =
       inverse = omega (arith, products z);
       solved = omega (arith, products z);
       root-inverse = omega (arith, products z);
-      right = omega (arith, products z);
       wy = omega (arith, products z);
       u = omega (arith, products z);
       b = omega (arith, products z);
       trial-u = omega (arith, products z);
       trial-b = omega (arith, products z);
       point = omega (arith, products z);
-      column = omega (arith, products z);
       beta = omega (arith, products z);
-      log-weights = omega (arith, products z);
+      beta-end = omega (arith, products z);
       length-few = omega (arith, products z);
     }
 

@@ -5,7 +5,7 @@ use lib.ListN.{length}
 use lib.Ieee.{Float}
 use Rattle.model.specs.Settings.{Sizes}
 use Rattle.layout.specs.WorkRows.{firstEtaRow, secondEtaRow, muRow, rawRow, xbetaRow, devianceRow, pointRow, markRow, weightedRow, columnRow, workingRow, rowsLength}
-use Rattle.layout.specs.WorkMatrices.{systemPlace, inversePlace, solvedPlace, rootInversePlace, rightPlace, wyPlace, uPlace, bPlace, trialUPlace, trialBPlace, pointPlace, columnPlace, betaPlace, logWeightsPlace, matricesLength}
+use Rattle.layout.specs.WorkMatrices.{systemPlace, inversePlace, solvedPlace, rootInversePlace, wyPlace, uPlace, bPlace, trialUPlace, trialBPlace, pointPlace, betaPlace, betaEnd, matricesLength}
 use Rattle.layout.specs.WorkTerms.{factorPlace, wPlace, zPlace, unsolvedPlace, normalPlace, sparePlace, termsLength}
 
 -- each row ends where the next begins or before
@@ -28,17 +28,15 @@ pub record MatricesLaid (p q : ℕ) : Type 0 where
   pub system : systemPlace + q * q ≤ inversePlace q
   pub inverse : inversePlace q + q * q ≤ solvedPlace q
   pub solved : solvedPlace q + q * p ≤ rootInversePlace p q
-  pub root-inverse : rootInversePlace p q + p * p ≤ rightPlace p q
-  pub right : rightPlace p q + q ≤ wyPlace p q
+  pub root-inverse : rootInversePlace p q + p * p ≤ wyPlace p q
   pub wy : wyPlace p q + q ≤ uPlace p q
   pub u : uPlace p q + q ≤ bPlace p q
   pub b : bPlace p q + q ≤ trialUPlace p q
   pub trial-u : trialUPlace p q + q ≤ trialBPlace p q
   pub trial-b : trialBPlace p q + q ≤ pointPlace p q
-  pub point : pointPlace p q + q ≤ columnPlace p q
-  pub column : columnPlace p q + q ≤ betaPlace p q
-  pub beta : betaPlace p q + p ≤ logWeightsPlace p q
-  pub log-weights : logWeightsPlace p q + 11 ≤ matricesLength p q
+  pub point : pointPlace p q + q ≤ betaPlace p q
+  pub beta : betaPlace p q + p ≤ betaEnd p q
+  pub beta-end : betaEnd p q ≤ matricesLength p q
   pub length-few : matricesLength p q ≤ 5696
 
 -- each piece of the terms before quadrature ends where the next begins or before
@@ -48,7 +46,7 @@ pub record TermsLaid (n p q : ℕ) : Type 0 where
   pub z : zPlace n q + n ≤ unsolvedPlace n q
   pub unsolved : unsolvedPlace n q + q * p ≤ normalPlace n p q
   pub normal : normalPlace n p q + p * p ≤ sparePlace n p q
-  pub spare : sparePlace n p q + 2 * q ≤ termsLength
+  pub spare : sparePlace n p q + q ≤ termsLength
 
 -- the three work slices
 pub record LaidOut (n p q : ℕ) : Type 0 where

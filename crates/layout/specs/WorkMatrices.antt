@@ -17,13 +17,9 @@ solvedPlace q = inversePlace q + q * q
 abbrev pub rootInversePlace : ℕ → ℕ → ℕ
 rootInversePlace p q = solvedPlace q + q * p
 
--- the right side Λ'(Z'(w·(z - offset))), the first of eight vectors of q numbers
-abbrev pub rightPlace : ℕ → ℕ → ℕ
-rightPlace p q = rootInversePlace p q + p * p
-
--- wy, the right side solved with A's factor
+-- wy, the right side Λ'(Z'(w·(z - offset))) solved with A's factor, the first of six vectors of q numbers
 abbrev pub wyPlace : ℕ → ℕ → ℕ
-wyPlace p q = rightPlace p q + q
+wyPlace p q = rootInversePlace p q + p * p
 
 -- u
 abbrev pub uPlace : ℕ → ℕ → ℕ
@@ -37,26 +33,22 @@ bPlace p q = uPlace p q + q
 abbrev pub trialUPlace : ℕ → ℕ → ℕ
 trialUPlace p q = bPlace p q + q
 
--- the trial b
+-- the trial b, which `agq` writes q numbers behind the trial u
 abbrev pub trialBPlace : ℕ → ℕ → ℕ
 trialBPlace p q = trialUPlace p q + q
 
--- z of a quadrature point
+-- z of a quadrature point, which `several` writes q numbers behind the trial b
 abbrev pub pointPlace : ℕ → ℕ → ℕ
 pointPlace p q = trialBPlace p q + q
 
--- q numbers to spare
-abbrev pub columnPlace : ℕ → ℕ → ℕ
-columnPlace p q = pointPlace p q + q
-
 -- β, p numbers
 abbrev pub betaPlace : ℕ → ℕ → ℕ
-betaPlace p q = columnPlace p q + q
+betaPlace p q = pointPlace p q + q
 
--- the logarithms of a rule's weights, 11 numbers
-abbrev pub logWeightsPlace : ℕ → ℕ → ℕ
-logWeightsPlace p q = betaPlace p q + p
+-- where β ends; nothing stands behind it
+abbrev pub betaEnd : ℕ → ℕ → ℕ
+betaEnd p q = betaPlace p q + p
 
--- the room that the caller must lend; the pieces take 2q² + qp + p² + 8q + p + 11 of it
+-- the room that the caller must lend; the pieces take 2q² + qp + p² + 6q + p of it
 abbrev pub matricesLength : ℕ → ℕ → ℕ
 matricesLength p q = 3 * (q * q) + 4 * (p * p) + 2 * (q * p) + 12 * (q + p)

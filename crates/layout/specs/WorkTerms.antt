@@ -21,7 +21,7 @@ unsolvedPlace n q = zPlace n q + n
 abbrev pub normalPlace : ℕ → ℕ → ℕ → ℕ
 normalPlace n p q = unsolvedPlace n q + q * p
 
--- 2q numbers to spare
+-- u, q numbers, before it is put to b
 abbrev pub sparePlace : ℕ → ℕ → ℕ → ℕ
 sparePlace n p q = normalPlace n p q + p * p
 

@@ -12,10 +12,9 @@ mod terms;
 
 pub use matrices::b_at;
 pub use matrices::beta_at;
+pub use matrices::beta_end;
 pub use matrices::inverse_at;
-pub use matrices::log_weights_at;
 pub use matrices::matrices_length;
-pub use matrices::right_at;
 pub use matrices::root_inverse_at;
 pub use matrices::solved_at;
 pub use matrices::trial_u_at;

@@ -4,7 +4,7 @@ use crate::products::square;
 ghost use mathlib.Core.Path.{_≡_};
 ghost use Prim.Native.Nat.{_≤_};
 ghost use Rattle.layout.specs.Products.{Small};
-ghost use Rattle.layout.specs.WorkMatrices.{inversePlace, solvedPlace, rootInversePlace, rightPlace, wyPlace, uPlace, bPlace, trialUPlace, betaPlace, logWeightsPlace, matricesLength};
+ghost use Rattle.layout.specs.WorkMatrices.{inversePlace, solvedPlace, rootInversePlace, wyPlace, uPlace, bPlace, trialUPlace, betaPlace, betaEnd, matricesLength};
 
 // I, q²: the inverse of a block or of A, then its Cholesky factor.
 pub fn inverse_at(q: usize) -> usize
@@ -33,25 +33,17 @@ pub fn root_inverse_at(p: usize, q: usize) -> usize
 // Where the vectors begin, after the four matrices.
 fn vectors_at(p: usize, q: usize) -> usize
     requires { ⌜ (p ≤ 16) × (q ≤ 32) ⌝ }
-    ensures { λ r. ⌜ Small (rightPlace p q) 3584 r ⌝ }
+    ensures { λ r. ⌜ Small (wyPlace p q) 3584 r ⌝ }
 {
     2 * square(q) + product(q, p) + square(p)
 }
 
-// The right side Λ'(Z'(w·(z - offset))), the first of eight vectors of q numbers.
-pub fn right_at(p: usize, q: usize) -> usize
-    requires { ⌜ (p ≤ 16) × (q ≤ 32) ⌝ }
-    ensures { λ r. ⌜ r ≡ rightPlace p q ⌝ }
-{
-    vectors_at(p, q)
-}
-
-// wy, the right side solved with A's factor.
+// wy, the right side Λ'(Z'(w·(z - offset))) solved with A's factor, the first of six vectors of q numbers.
 pub fn wy_at(p: usize, q: usize) -> usize
     requires { ⌜ (p ≤ 16) × (q ≤ 32) ⌝ }
     ensures { λ r. ⌜ r ≡ wyPlace p q ⌝ }
 {
-    vectors_at(p, q) + q
+    vectors_at(p, q)
 }
 
 // u.
@@ -59,7 +51,7 @@ pub fn u_at(p: usize, q: usize) -> usize
     requires { ⌜ (p ≤ 16) × (q ≤ 32) ⌝ }
     ensures { λ r. ⌜ r ≡ uPlace p q ⌝ }
 {
-    vectors_at(p, q) + 2 * q
+    vectors_at(p, q) + q
 }
 
 // b.
@@ -67,15 +59,15 @@ pub fn b_at(p: usize, q: usize) -> usize
     requires { ⌜ (p ≤ 16) × (q ≤ 32) ⌝ }
     ensures { λ r. ⌜ r ≡ bPlace p q ⌝ }
 {
-    vectors_at(p, q) + 3 * q
+    vectors_at(p, q) + 2 * q
 }
 
-// The trial u.
+// The trial u; the trial b and z of a quadrature point follow it, q numbers each.
 pub fn trial_u_at(p: usize, q: usize) -> usize
     requires { ⌜ (p ≤ 16) × (q ≤ 32) ⌝ }
     ensures { λ r. ⌜ r ≡ trialUPlace p q ⌝ }
 {
-    vectors_at(p, q) + 4 * q
+    vectors_at(p, q) + 3 * q
 }
 
 // β, p numbers.
@@ -83,15 +75,15 @@ pub fn beta_at(p: usize, q: usize) -> usize
     requires { ⌜ (p ≤ 16) × (q ≤ 32) ⌝ }
     ensures { λ r. ⌜ r ≡ betaPlace p q ⌝ }
 {
-    vectors_at(p, q) + 8 * q
+    vectors_at(p, q) + 6 * q
 }
 
-// The logarithms of a rule's weights, 11 numbers.
-pub fn log_weights_at(p: usize, q: usize) -> usize
+// Where β ends; nothing stands behind it.
+pub fn beta_end(p: usize, q: usize) -> usize
     requires { ⌜ (p ≤ 16) × (q ≤ 32) ⌝ }
-    ensures { λ r. ⌜ r ≡ logWeightsPlace p q ⌝ }
+    ensures { λ r. ⌜ r ≡ betaEnd p q ⌝ }
 {
-    vectors_at(p, q) + 8 * q + p
+    vectors_at(p, q) + 6 * q + p
 }
 
 // The named length of the slice.

@@ -44,7 +44,7 @@ pub fn normal_at(n: usize, p: usize, q: usize) -> usize
     square(q) + 2 * n + product(q, p)
 }
 
-// 2q numbers to spare.
+// u, q numbers, before it is put to b.
 pub fn spare_at(n: usize, p: usize, q: usize) -> usize
     requires { ⌜ (n ≤ 512) × (p ≤ 16) × (q ≤ 32) ⌝ }
     ensures { λ r. ⌜ r ≡ sparePlace n p q ⌝ }

@@ -252,17 +252,17 @@ module _ (G : Given) (phi : Float) (L : ℕ) (mu₀ : List Float) where
                         eta = only-row (etaRow n (not second)) n (devianceRow n) n (inl (omega (arith, eta-in))) (omega (arith, eta-in)) (sl .rows-only);
                         mu = only-row (muRow n) n (devianceRow n) n (inl (omega arith)) (omega arith) (sl .rows-only);
                         inverse = sl .inverse;
-                        beta = matrix-kept (betaPlace p q) p (inr (omega arith)) (omega (arith, ml .beta, ml .log-weights)) ∙ x .held .beta;
-                        u = matrix-kept (uPlace p q) q (inr (omega arith)) (omega (arith, ml .log-weights)) ∙ x .held .u;
+                        beta = matrix-kept (betaPlace p q) p (inr (omega arith)) (omega (arith, ml .beta, ml .beta-end)) ∙ x .held .beta;
+                        u = matrix-kept (uPlace p q) q (inr (omega arith)) (omega (arith, ml .beta-end)) ∙ x .held .u;
                       };
                   deviances = sl .deviances;
                   sum = sl .sum;
                   fit-term = sl .fit-term;
                   laplace-deviance = sl .laplace-deviance;
-                  system = matrix-kept systemPlace (q * q) (inl (omega arith)) (omega (arith, ml .log-weights)) ∙ x .held .system;
+                  system = matrix-kept systemPlace (q * q) (inl (omega arith)) (omega (arith, ml .beta-end)) ∙ x .held .system;
                 });
             counted = ha ∙ rw (g .solved-each) (sym (fit-counts (k + 1) (tries + j) i));
             rows-only = only-trans (only-trans (only-trans or (g .rows-only)) or') (only-wide (devianceRow n) n 0 (rowsLength n) (omega arith) (omega arith) (sl .rows-only));
-            matrices-only = only-trans (only-trans (g .matrices-only) om) (only-wide (rootInversePlace p q) (p * p) 0 (matricesLength p q) (omega arith) (omega (arith, ml .log-weights)) (sl .matrices-only));
+            matrices-only = only-trans (only-trans (g .matrices-only) om) (only-wide (rootInversePlace p q) (p * p) 0 (matricesLength p q) (omega arith) (omega (arith, ml .beta-end)) (sl .matrices-only));
             terms-only = only-trans (g .terms-only) ot;
           }

@@ -15,7 +15,7 @@ use Rattle.base.proofs.Sums.{sum-cong}
 use Rattle.base.proofs.Fills.{build-cong, grid-matrix}
 use Rattle.base.proofs.Rows.{part-is, part-wrote, only-row}
 use Rattle.layout.specs.WorkRows.{muRow, rawRow, devianceRow, pointRow, rowsLength}
-use Rattle.layout.specs.WorkMatrices.{rootInversePlace, rightPlace, uPlace, bPlace}
+use Rattle.layout.specs.WorkMatrices.{rootInversePlace, wyPlace, uPlace, bPlace}
 use Rattle.layout.specs.WorkTerms.{factorPlace, wPlace, normalPlace, sparePlace}
 use Rattle.family.specs.declared.carried.CarriedFamily.{CarriedFamily}
 use Rattle.family_lists.specs.Lists.{devAt}
@@ -63,16 +63,16 @@ laplace-made p q factor w u b m t fit d x ef ew eu eb ed ex =
     rw (ed, ex, square, effects) refl
 
 -- the inverse in the part that was lent
-pub inverse-made : (n p q normal spare root right : ℕ) (t m ys : List Float) → normal ≡ normalPlace n p q → spare ≡ sparePlace n p q → root ≡ rootInversePlace p q → right ≡ rightPlace p q
-    → right ≤ length m → length ys ≡ length (midOf root (right - root) m) → ys ≡ gridTo p p (choleskyColumnAt p (take (spare - normal) (drop normal t))) (midOf root (right - root) m)
-    → Wrote (rootInversePlace p q) (p * p) (choleskyInverse p (row (normalPlace n p q) (p * p) t)) m (putMid root (right - root) m ys)
+pub inverse-made : (n p q normal spare root wy : ℕ) (t m ys : List Float) → normal ≡ normalPlace n p q → spare ≡ sparePlace n p q → root ≡ rootInversePlace p q → wy ≡ wyPlace p q
+    → wy ≤ length m → length ys ≡ length (midOf root (wy - root) m) → ys ≡ gridTo p p (choleskyColumnAt p (take (spare - normal) (drop normal t))) (midOf root (wy - root) m)
+    → Wrote (rootInversePlace p q) (p * p) (choleskyInverse p (row (normalPlace n p q) (p * p) t)) m (putMid root (wy - root) m ys)
 unfolding choleskyInverse
-inverse-made n p q normal spare root right t m ys en es er eg h l y =
-    let eb : right ≡ root + p * p = omega arith in
-    let k : length (midOf root (right - root) m) ≡ p * p = mid-len root right m h ∙ omega arith in
-    let w : Wrote root (p * p) ys m (putMid root (right - root) m ys) = part-wrote root (p * p) right m ys eb h (l ∙ k) in
+inverse-made n p q normal spare root wy t m ys en es er eg h l y =
+    let eb : wy ≡ root + p * p = omega arith in
+    let k : length (midOf root (wy - root) m) ≡ p * p = mid-len root wy m h ∙ omega arith in
+    let w : Wrote root (p * p) ys m (putMid root (wy - root) m ys) = part-wrote root (p * p) wy m ys eb h (l ∙ k) in
     let L : take (spare - normal) (drop normal t) ≡ row normal (p * p) t = part-is normal (p * p) spare t (omega arith) in
-    let y' : ys ≡ matrix p p (choleskyColumnAt p (row normal (p * p) t)) = y ∙ grid-matrix p p _ (midOf root (right - root) m) k ∙ rw L refl in
+    let y' : ys ≡ matrix p p (choleskyColumnAt p (row normal (p * p) t)) = y ∙ grid-matrix p p _ (midOf root (wy - root) m) k ∙ rw L refl in
     rw (← er, ← en) (record { row' = w .row' ∙ y'; only = w .only })
 
 -- ---- the stop

@@ -69,8 +69,8 @@ fn root_inverse(n: usize, p: usize, q: usize, t: &[f64], m: &mut [f64])
     let normal = layout::normal_at(n, p, q);
     let spare = layout::spare_at(n, p, q);
     let root = layout::root_inverse_at(p, q);
-    let right = layout::right_at(p, q);
-    factor::cholesky_inverse(&t[normal..spare], p, &mut m[root..right]);
+    let wy = layout::wy_at(p, q);
+    factor::cholesky_inverse(&t[normal..spare], p, &mut m[root..wy]);
 }
 
 // What the results and the quadrature need of the iteration that stops.

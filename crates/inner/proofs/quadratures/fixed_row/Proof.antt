@@ -8,8 +8,8 @@ use Rattle.inner.proofs.quadratures.fixed_row.Tie as tie
 beta-at-requires : tie.Need-beta-at-requires
 beta-at-requires c κs = search needs
 
-log-weights-at-requires : tie.Need-log-weights-at-requires
-log-weights-at-requires c κs = search needs
+beta-end-requires : tie.Need-beta-end-requires
+beta-end-requires c κs = search needs
 
 xbeta-row-requires : tie.Need-xbeta-row-requires
 xbeta-row-requires c κs = search needs
@@ -50,14 +50,14 @@ same-length c = search needs
 returns : tie.Need-returns
 returns c =
     let s = c .before .before .before .before .before .before .before .before .before .before .before .before in
-    fixed-made (s .args .n) (s .args .p) (s .args .q) _ _ _ _ (s .args .x .now) (s .args .m .now) (s .args .r .now) (c .before .before .x-beta .last .1 .1 .1 .1 .0) (c .before .before .before .before .before .before .before .before .beta-at .ensures) (c .before .before .before .before .before .before .before .log-weights-at .ensures) (c .before .before .before .before .before .before .xbeta-row .ensures) (c .before .before .before .before .before .deviance-row .ensures) (omega (arith, s .pre .2, c .before .before .before .before .before .deviance-row .ensures)) (c .before .before .x-beta .kept .1 .1 .1 .1 .0) (c .before .before .x-beta .ensures)
+    fixed-made (s .args .n) (s .args .p) (s .args .q) _ _ _ _ (s .args .x .now) (s .args .m .now) (s .args .r .now) (c .before .before .x-beta .last .1 .1 .1 .1 .0) (c .before .before .before .before .before .before .before .before .beta-at .ensures) (c .before .before .before .before .before .before .before .beta-end .ensures) (c .before .before .before .before .before .before .xbeta-row .ensures) (c .before .before .before .before .before .deviance-row .ensures) (omega (arith, s .pre .2, c .before .before .before .before .before .deviance-row .ensures)) (c .before .before .x-beta .kept .1 .1 .1 .1 .0) (c .before .before .x-beta .ensures)
 
 pub fixed-row-spec : {M : Type 1} → statement M
 fixed-row-spec =
     tie.close
     (tie.spec
     beta-at-requires
-    log-weights-at-requires
+    beta-end-requires
     xbeta-row-requires
     deviance-row-requires
     mul-x-beta

@@ -26,10 +26,14 @@ enum-told : tie.Need-enum-told
 enum-told c = search needs
 
 mul-end : tie.Need-mul-end
-mul-end c = omega (arith, c .before .before .before .before .before .before .before .before .before .pre, laid-out (c .before .before .before .before .before .before .before .before .before .pre .0), c .before .before .before .before .before .before .normal-at .ensures)
+mul-end c =
+    let s = c .before .before .before .before .before .before .before .before .before in
+    omega (arith, laid-out (s .pre .0) .terms, c .before .before .before .before .before .before .normal-at .ensures)
 
 add-end : tie.Need-add-end
-add-end c = omega (arith, c .before .before .before .before .before .before .before .before .before .pre, laid-out (c .before .before .before .before .before .before .before .before .before .pre .0), c .before .before .before .before .before .before .normal-at .ensures)
+add-end c =
+    let s = c .before .before .before .before .before .before .before .before .before in
+    omega (arith, laid-out (s .pre .0) .terms, c .before .before .before .before .before .before .normal-at .ensures)
 
 beta-at-requires : tie.Need-beta-at-requires
 beta-at-requires c κs = omega (arith, c .before .before .before .before .before .before .before .before .before .pre, laid-out (c .before .before .before .before .before .before .before .before .before .pre .0), c .before .before .before .before .before .before .normal-at .ensures)

@@ -14,8 +14,8 @@ spare-at-requires c κs = omega arith
 root-inverse-at-requires : tie.Need-root-inverse-at-requires
 root-inverse-at-requires c κs = omega arith
 
-right-at-requires : tie.Need-right-at-requires
-right-at-requires c κs = omega arith
+wy-at-requires : tie.Need-wy-at-requires
+wy-at-requires c κs = omega arith
 
 mul-cholesky-inverse : tie.Need-mul-cholesky-inverse
 mul-cholesky-inverse c = omega arith
@@ -52,7 +52,7 @@ same-length c = omega arith
 returns : tie.Need-returns
 returns c =
     let s = c .before .before .before .before .before .before .before .before .before .before .before in
-    inverse-made (s .args .n) (s .args .p) (s .args .q) _ _ _ _ (s .args .t .now) (s .args .m .now) (c .before .before .cholesky-inverse .last .1 .1 .0) (c .before .before .before .before .before .before .before .before .normal-at .ensures) (c .before .before .before .before .before .before .before .spare-at .ensures) (c .before .before .before .before .before .before .root-inverse-at .ensures) (c .before .before .before .before .before .right-at .ensures) (omega (arith, s .pre .3, c .before .before .before .before .before .right-at .ensures)) (c .before .before .cholesky-inverse .kept .1 .1 .0) (c .before .before .cholesky-inverse .ensures)
+    inverse-made (s .args .n) (s .args .p) (s .args .q) _ _ _ _ (s .args .t .now) (s .args .m .now) (c .before .before .cholesky-inverse .last .1 .1 .0) (c .before .before .before .before .before .before .before .before .normal-at .ensures) (c .before .before .before .before .before .before .before .spare-at .ensures) (c .before .before .before .before .before .before .root-inverse-at .ensures) (c .before .before .before .before .before .wy-at .ensures) (omega (arith, s .pre .3, c .before .before .before .before .before .wy-at .ensures)) (c .before .before .cholesky-inverse .kept .1 .1 .0) (c .before .before .cholesky-inverse .ensures)
 
 pub root-inverse-spec : {M : Type 1} → statement M
 root-inverse-spec =
@@ -61,7 +61,7 @@ root-inverse-spec =
     normal-at-requires
     spare-at-requires
     root-inverse-at-requires
-    right-at-requires
+    wy-at-requires
     mul-cholesky-inverse
     sub-cholesky-inverse
     part-cholesky-inverse-start
