@@ -12,13 +12,25 @@ inverse-at-requires : tie.Need-inverse-at-requires
 inverse-at-requires c κs = c .before .before .pre .few
 
 mul-square : tie.Need-mul-square
-mul-square c = omega (arith, c .before .before .before .pre .few, c .before .before .before .pre .within, square-few {k = c .before .before .before .args .k} (omega (arith, c .before .before .before .pre .few, c .before .before .before .pre .within)))
+mul-square c =
+    let start = c .before .before .before in
+    omega (arith, start .pre .few, start .pre .within, square-few {k = start .args .k} (omega (arith, start .pre .few, start .pre .within)))
 
 add-end : tie.Need-add-end
-add-end c = omega (arith, c .before .before .before .pre .few, square-few (c .before .before .before .pre .few), square-within (c .before .before .before .args .q) (c .before .before .before .args .s) (c .before .before .before .args .k) (c .before .before .before .pre .within), c .inverse-at .ensures)
+add-end c =
+    let start = c .before .before .before in
+    omega (
+      arith,
+      start .pre .few,
+      square-few (start .pre .few),
+      square-within (start .args .q) (start .args .s) (start .args .k) (start .pre .within),
+      c .inverse-at .ensures,
+    )
 
 section-into-requires : tie.Need-section-into-requires
-section-into-requires c κs = (c .before .before .before .before .pre .few, c .before .before .before .before .pre .within, c .before .before .before .before .pre .matrices)
+section-into-requires c κs =
+    let start = c .before .before .before .before in
+    (start .pre .few, start .pre .within, start .pre .matrices)
 
 mul-ldl : tie.Need-mul-ldl
 mul-ldl c = search needs
@@ -30,7 +42,17 @@ part-ldl-start : tie.Need-part-ldl-start
 part-ldl-start c = search needs
 
 part-ldl-end : tie.Need-part-ldl-end
-part-ldl-end c = omega (arith, c .before .before .before .before .before .before .before .before .pre .matrices, square-within (c .before .before .before .before .before .before .before .before .args .q) (c .before .before .before .before .before .before .before .before .args .s) (c .before .before .before .before .before .before .before .before .args .k) (c .before .before .before .before .before .before .before .before .pre .within), c .before .before .before .before .before .inverse-at .ensures, c .before .before .before .section-into .kept)
+part-ldl-end c =
+    let section-into = c .before .before .before in
+    let inverse-at = section-into .before .before in
+    let start = inverse-at .before .before .before in
+    omega (
+      arith,
+      start .pre .matrices,
+      square-within (start .args .q) (start .args .s) (start .args .k) (start .pre .within),
+      inverse-at .inverse-at .ensures,
+      section-into .section-into .kept,
+    )
 
 sub-ldl-2 : tie.Need-sub-ldl-2
 sub-ldl-2 c = search needs
@@ -39,7 +61,9 @@ part-ldl-start-2 : tie.Need-part-ldl-start-2
 part-ldl-start-2 c = search needs
 
 part-ldl-end-2 : tie.Need-part-ldl-end-2
-part-ldl-end-2 c = omega (arith, c .before .before .before .before .before .before .before .before .before .pre .terms, square-within (c .before .before .before .before .before .before .before .before .before .args .q) (c .before .before .before .before .before .before .before .before .before .args .s) (c .before .before .before .before .before .before .before .before .before .args .k) (c .before .before .before .before .before .before .before .before .before .pre .within))
+part-ldl-end-2 c =
+    let start = c .before .before .before .before .before .before .before .before .before in
+    omega (arith, start .pre .terms, square-within (start .args .q) (start .args .s) (start .args .k) (start .pre .within))
 
 ldl-requires : tie.Need-ldl-requires
 ldl-requires c κs = search needs
@@ -54,7 +78,15 @@ same-length-2 : tie.Need-same-length-2
 same-length-2 c = search needs
 
 returns : tie.Need-returns
-returns c = no-inverse (c .before .before .before .before .before .before .before .before .before .before .before .before .before .before .before .args .q) (c .before .before .before .before .before .before .before .before .before .before .before .before .before .before .before .args .s) (c .before .before .before .before .before .before .before .before .before .before .before .before .before .before .before .args .k) _ _ (c .before .before .before .before .before .before .before .before .before .before .before .before .before .before .before .args .m .now) _ (c .before .before .before .before .before .before .before .before .before .before .before .before .before .before .before .args .t .now) _ _ (c .before .before .before .before .before .before .before .before .before .before .before .before .inverse-at .ensures) refl (omega (arith, c .before .before .before .before .before .before .before .before .before .before .before .before .before .before .before .pre .matrices, square-within (c .before .before .before .before .before .before .before .before .before .before .before .before .before .before .before .args .q) (c .before .before .before .before .before .before .before .before .before .before .before .before .before .before .before .args .s) (c .before .before .before .before .before .before .before .before .before .before .before .before .before .before .before .args .k) (c .before .before .before .before .before .before .before .before .before .before .before .before .before .before .before .pre .within), c .before .before .before .before .before .before .before .before .before .before .before .before .inverse-at .ensures)) (omega (arith, c .before .before .before .before .before .before .before .before .before .before .before .before .before .before .before .pre .terms, square-within (c .before .before .before .before .before .before .before .before .before .before .before .before .before .before .before .args .q) (c .before .before .before .before .before .before .before .before .before .before .before .before .before .before .before .args .s) (c .before .before .before .before .before .before .before .before .before .before .before .before .before .before .before .args .k) (c .before .before .before .before .before .before .before .before .before .before .before .before .before .before .before .pre .within))) (c .before .before .before .before .before .before .before .before .before .before .section-into .ensures) (c .before .before .before .before .ldl .kept .1 .1 .0) (c .before .before .before .before .ldl .ensures) _ (c .enum-told .given .1)
+returns c =
+    let ldl = c .before .before .before .before in
+    let section-into = ldl .before .before .before .before .before .before in
+    let inverse-at = section-into .before .before in
+    let start = inverse-at .before .before .before in
+    no-inverse (start .args .q) (start .args .s) (start .args .k) _ _ (start .args .m .now) _ (start .args .t .now) _ _ (inverse-at .inverse-at .ensures) refl
+    (omega (arith, start .pre .matrices, square-within (start .args .q) (start .args .s) (start .args .k) (start .pre .within), inverse-at .inverse-at .ensures))
+    (omega (arith, start .pre .terms, square-within (start .args .q) (start .args .s) (start .args .k) (start .pre .within)))
+    (section-into .section-into .ensures) (ldl .ldl .kept .1 .1 .0) (ldl .ldl .ensures) _ (c .enum-told .given .1)
 
 enum-told-2 : tie.Need-enum-told-2
 enum-told-2 c = search needs
@@ -66,7 +98,9 @@ part-ldl-inverse-start : tie.Need-part-ldl-inverse-start
 part-ldl-inverse-start c = search needs
 
 part-ldl-inverse-end : tie.Need-part-ldl-inverse-end
-part-ldl-inverse-end c = omega (arith, c .before .before .before .before .before .before .before .before .before .before .before .before .before .before .before .before .pre .terms, square-within (c .before .before .before .before .before .before .before .before .before .before .before .before .before .before .before .before .args .q) (c .before .before .before .before .before .before .before .before .before .before .before .before .before .before .before .before .args .s) (c .before .before .before .before .before .before .before .before .before .before .before .before .before .before .before .before .args .k) (c .before .before .before .before .before .before .before .before .before .before .before .before .before .before .before .before .pre .within))
+part-ldl-inverse-end c =
+    let start = c .before .before .before .before .before .before .before .before .before .before .before .before .before .before .before .before in
+    omega (arith, start .pre .terms, square-within (start .args .q) (start .args .s) (start .args .k) (start .pre .within))
 
 mul-ldl-inverse : tie.Need-mul-ldl-inverse
 mul-ldl-inverse c = search needs
@@ -78,7 +112,17 @@ part-ldl-inverse-start-2 : tie.Need-part-ldl-inverse-start-2
 part-ldl-inverse-start-2 c = search needs
 
 part-ldl-inverse-end-2 : tie.Need-part-ldl-inverse-end-2
-part-ldl-inverse-end-2 c = omega (arith, c .before .before .before .before .before .before .before .before .before .before .before .before .before .before .before .before .before .pre .matrices, square-within (c .before .before .before .before .before .before .before .before .before .before .before .before .before .before .before .before .before .args .q) (c .before .before .before .before .before .before .before .before .before .before .before .before .before .before .before .before .before .args .s) (c .before .before .before .before .before .before .before .before .before .before .before .before .before .before .before .before .before .args .k) (c .before .before .before .before .before .before .before .before .before .before .before .before .before .before .before .before .before .pre .within), c .before .before .before .before .before .before .before .before .before .before .before .before .before .before .inverse-at .ensures, c .before .before .before .before .before .before .before .before .before .before .before .before .section-into .kept)
+part-ldl-inverse-end-2 c =
+    let section-into = c .before .before .before .before .before .before .before .before .before .before .before .before in
+    let inverse-at = section-into .before .before in
+    let start = inverse-at .before .before .before in
+    omega (
+      arith,
+      start .pre .matrices,
+      square-within (start .args .q) (start .args .s) (start .args .k) (start .pre .within),
+      inverse-at .inverse-at .ensures,
+      section-into .section-into .kept,
+    )
 
 ldl-inverse-requires : tie.Need-ldl-inverse-requires
 ldl-inverse-requires c κs = search needs
@@ -93,7 +137,17 @@ part-cholesky-start : tie.Need-part-cholesky-start
 part-cholesky-start c = search needs
 
 part-cholesky-end : tie.Need-part-cholesky-end
-part-cholesky-end c = omega (arith, c .before .before .before .before .before .before .before .before .before .before .before .before .before .before .before .before .before .before .before .before .before .pre .matrices, square-within (c .before .before .before .before .before .before .before .before .before .before .before .before .before .before .before .before .before .before .before .before .before .args .q) (c .before .before .before .before .before .before .before .before .before .before .before .before .before .before .before .before .before .before .before .before .before .args .s) (c .before .before .before .before .before .before .before .before .before .before .before .before .before .before .before .before .before .before .before .before .before .args .k) (c .before .before .before .before .before .before .before .before .before .before .before .before .before .before .before .before .before .before .before .before .before .pre .within), c .before .before .before .before .before .before .before .before .before .before .before .before .before .before .before .before .before .before .inverse-at .ensures, c .before .before .before .before .before .before .before .before .before .before .before .before .before .before .before .before .section-into .kept)
+part-cholesky-end c =
+    let section-into = c .before .before .before .before .before .before .before .before .before .before .before .before .before .before .before .before in
+    let inverse-at = section-into .before .before in
+    let start = inverse-at .before .before .before in
+    omega (
+      arith,
+      start .pre .matrices,
+      square-within (start .args .q) (start .args .s) (start .args .k) (start .pre .within),
+      inverse-at .inverse-at .ensures,
+      section-into .section-into .kept,
+    )
 
 cholesky-requires : tie.Need-cholesky-requires
 cholesky-requires c κs = search needs
@@ -108,7 +162,20 @@ same-length-4 : tie.Need-same-length-4
 same-length-4 c = search needs
 
 returns-2 : tie.Need-returns-2
-returns-2 c = no-factor (c .before .before .before .before .before .before .before .before .before .before .before .before .before .before .before .before .before .before .before .before .before .before .before .before .before .before .before .args .q) (c .before .before .before .before .before .before .before .before .before .before .before .before .before .before .before .before .before .before .before .before .before .before .before .before .before .before .before .args .s) (c .before .before .before .before .before .before .before .before .before .before .before .before .before .before .before .before .before .before .before .before .before .before .before .before .before .before .before .args .k) _ _ (c .before .before .before .before .before .before .before .before .before .before .before .before .before .before .before .before .before .before .before .before .before .before .before .before .before .before .before .args .m .now) _ (c .before .before .before .before .before .before .before .before .before .before .before .before .before .before .before .before .before .before .before .before .before .before .before .before .before .before .before .args .t .now) _ _ (c .before .before .before .before .before .before .before .before .before .before .before .before .before .before .before .before .before .before .before .before .before .before .before .before .inverse-at .ensures) refl (omega (arith, c .before .before .before .before .before .before .before .before .before .before .before .before .before .before .before .before .before .before .before .before .before .before .before .before .before .before .before .pre .matrices, square-within (c .before .before .before .before .before .before .before .before .before .before .before .before .before .before .before .before .before .before .before .before .before .before .before .before .before .before .before .args .q) (c .before .before .before .before .before .before .before .before .before .before .before .before .before .before .before .before .before .before .before .before .before .before .before .before .before .before .before .args .s) (c .before .before .before .before .before .before .before .before .before .before .before .before .before .before .before .before .before .before .before .before .before .before .before .before .before .before .before .args .k) (c .before .before .before .before .before .before .before .before .before .before .before .before .before .before .before .before .before .before .before .before .before .before .before .before .before .before .before .pre .within), c .before .before .before .before .before .before .before .before .before .before .before .before .before .before .before .before .before .before .before .before .before .before .before .before .inverse-at .ensures)) (omega (arith, c .before .before .before .before .before .before .before .before .before .before .before .before .before .before .before .before .before .before .before .before .before .before .before .before .before .before .before .pre .terms, square-within (c .before .before .before .before .before .before .before .before .before .before .before .before .before .before .before .before .before .before .before .before .before .before .before .before .before .before .before .args .q) (c .before .before .before .before .before .before .before .before .before .before .before .before .before .before .before .before .before .before .before .before .before .before .before .before .before .before .before .args .s) (c .before .before .before .before .before .before .before .before .before .before .before .before .before .before .before .before .before .before .before .before .before .before .before .before .before .before .before .args .k) (c .before .before .before .before .before .before .before .before .before .before .before .before .before .before .before .before .before .before .before .before .before .before .before .before .before .before .before .pre .within))) (c .before .before .before .before .before .before .before .before .before .before .before .before .before .before .before .before .before .before .before .before .before .before .section-into .ensures) (c .before .before .before .before .before .before .before .before .before .before .before .before .before .before .before .before .ldl .kept .1 .1 .0) (c .before .before .before .before .before .before .before .before .before .before .before .before .before .before .before .before .ldl .ensures) _ _ _ (c .before .before .before .before .before .before .before .before .before .before .before .before .enum-told2 .given .1) (c .before .before .before .before .before .before .before .before .ldl-inverse .kept .1 .1 .0) (c .before .before .before .before .before .before .before .before .ldl-inverse .ensures) (c .before .before .before .before .cholesky .kept .0) (c .before .before .before .before .cholesky .ensures) _ (c .enum-told3 .given .1)
+returns-2 c =
+    let cholesky = c .before .before .before .before in
+    let ldl-inverse = cholesky .before .before .before .before in
+    let enum-told2 = ldl-inverse .before .before .before .before in
+    let ldl = enum-told2 .before .before .before .before in
+    let section-into = ldl .before .before .before .before .before .before in
+    let inverse-at = section-into .before .before in
+    let start = inverse-at .before .before .before in
+    no-factor (start .args .q) (start .args .s) (start .args .k) _ _ (start .args .m .now) _ (start .args .t .now) _ _ (inverse-at .inverse-at .ensures) refl
+    (omega (arith, start .pre .matrices, square-within (start .args .q) (start .args .s) (start .args .k) (start .pre .within), inverse-at .inverse-at .ensures))
+    (omega (arith, start .pre .terms, square-within (start .args .q) (start .args .s) (start .args .k) (start .pre .within)))
+    (section-into .section-into .ensures) (ldl .ldl .kept .1 .1 .0) (ldl .ldl .ensures) _ _ _ (enum-told2 .enum-told2 .given .1)
+    (ldl-inverse .ldl-inverse .kept .1 .1 .0) (ldl-inverse .ldl-inverse .ensures) (cholesky .cholesky .kept .0) (cholesky .cholesky .ensures) _
+    (c .enum-told3 .given .1)
 
 enum-told-4 : tie.Need-enum-told-4
 enum-told-4 c = search needs
@@ -120,7 +187,20 @@ same-length-6 : tie.Need-same-length-6
 same-length-6 c = search needs
 
 returns-3 : tie.Need-returns-3
-returns-3 c = scale-found (c .before .before .before .before .before .before .before .before .before .before .before .before .before .before .before .before .before .before .before .before .before .before .before .before .before .before .before .args .q) (c .before .before .before .before .before .before .before .before .before .before .before .before .before .before .before .before .before .before .before .before .before .before .before .before .before .before .before .args .s) (c .before .before .before .before .before .before .before .before .before .before .before .before .before .before .before .before .before .before .before .before .before .before .before .before .before .before .before .args .k) _ _ (c .before .before .before .before .before .before .before .before .before .before .before .before .before .before .before .before .before .before .before .before .before .before .before .before .before .before .before .args .m .now) _ (c .before .before .before .before .before .before .before .before .before .before .before .before .before .before .before .before .before .before .before .before .before .before .before .before .before .before .before .args .t .now) _ _ (c .before .before .before .before .before .before .before .before .before .before .before .before .before .before .before .before .before .before .before .before .before .before .before .before .inverse-at .ensures) refl (omega (arith, c .before .before .before .before .before .before .before .before .before .before .before .before .before .before .before .before .before .before .before .before .before .before .before .before .before .before .before .pre .matrices, square-within (c .before .before .before .before .before .before .before .before .before .before .before .before .before .before .before .before .before .before .before .before .before .before .before .before .before .before .before .args .q) (c .before .before .before .before .before .before .before .before .before .before .before .before .before .before .before .before .before .before .before .before .before .before .before .before .before .before .before .args .s) (c .before .before .before .before .before .before .before .before .before .before .before .before .before .before .before .before .before .before .before .before .before .before .before .before .before .before .before .args .k) (c .before .before .before .before .before .before .before .before .before .before .before .before .before .before .before .before .before .before .before .before .before .before .before .before .before .before .before .pre .within), c .before .before .before .before .before .before .before .before .before .before .before .before .before .before .before .before .before .before .before .before .before .before .before .before .inverse-at .ensures)) (omega (arith, c .before .before .before .before .before .before .before .before .before .before .before .before .before .before .before .before .before .before .before .before .before .before .before .before .before .before .before .pre .terms, square-within (c .before .before .before .before .before .before .before .before .before .before .before .before .before .before .before .before .before .before .before .before .before .before .before .before .before .before .before .args .q) (c .before .before .before .before .before .before .before .before .before .before .before .before .before .before .before .before .before .before .before .before .before .before .before .before .before .before .before .args .s) (c .before .before .before .before .before .before .before .before .before .before .before .before .before .before .before .before .before .before .before .before .before .before .before .before .before .before .before .args .k) (c .before .before .before .before .before .before .before .before .before .before .before .before .before .before .before .before .before .before .before .before .before .before .before .before .before .before .before .pre .within))) (c .before .before .before .before .before .before .before .before .before .before .before .before .before .before .before .before .before .before .before .before .before .before .section-into .ensures) (c .before .before .before .before .before .before .before .before .before .before .before .before .before .before .before .before .ldl .kept .1 .1 .0) (c .before .before .before .before .before .before .before .before .before .before .before .before .before .before .before .before .ldl .ensures) _ _ _ (c .before .before .before .before .before .before .before .before .before .before .before .before .enum-told2 .given .1) (c .before .before .before .before .before .before .before .before .ldl-inverse .kept .1 .1 .0) (c .before .before .before .before .before .before .before .before .ldl-inverse .ensures) (c .before .before .before .before .cholesky .kept .0) (c .before .before .before .before .cholesky .ensures) (c .enum-told4 .given .1)
+returns-3 c =
+    let cholesky = c .before .before .before .before in
+    let ldl-inverse = cholesky .before .before .before .before in
+    let enum-told2 = ldl-inverse .before .before .before .before in
+    let ldl = enum-told2 .before .before .before .before in
+    let section-into = ldl .before .before .before .before .before .before in
+    let inverse-at = section-into .before .before in
+    let start = inverse-at .before .before .before in
+    scale-found (start .args .q) (start .args .s) (start .args .k) _ _ (start .args .m .now) _ (start .args .t .now) _ _ (inverse-at .inverse-at .ensures) refl
+    (omega (arith, start .pre .matrices, square-within (start .args .q) (start .args .s) (start .args .k) (start .pre .within), inverse-at .inverse-at .ensures))
+    (omega (arith, start .pre .terms, square-within (start .args .q) (start .args .s) (start .args .k) (start .pre .within)))
+    (section-into .section-into .ensures) (ldl .ldl .kept .1 .1 .0) (ldl .ldl .ensures) _ _ _ (enum-told2 .enum-told2 .given .1)
+    (ldl-inverse .ldl-inverse .kept .1 .1 .0) (ldl-inverse .ldl-inverse .ensures) (cholesky .cholesky .kept .0) (cholesky .cholesky .ensures)
+    (c .enum-told4 .given .1)
 
 pub block-scale-spec : {M : Type 1} → statement M
 block-scale-spec =
