@@ -10,7 +10,9 @@ use Rattle.columns.proofs.normals.normal_columns.Statement.{statement}
 use Rattle.columns.proofs.normals.normal_columns.Tie as tie
 
 abbrev Inv-loop : tie.InvT-loop
-Inv-loop shape theta starts columns values x n p q r₀ m₀ t₀ a₀ r m t a = (a ≤ p) × (length r ≡ length r₀) × (length m ≡ length m₀) × (length t ≡ length t₀) × ColumnsUpTo a n p q shape theta x (sparse starts columns values) r₀ r m₀ m t₀ t
+Inv-loop shape theta starts columns values x n p q r₀ m₀ t₀ a₀ r m t a =
+    (a ≤ p) × (length r ≡ length r₀) × (length m ≡ length m₀) × (length t ≡ length t₀)
+    × ColumnsUpTo a n p q shape theta x (sparse starts columns values) r₀ r m₀ m t₀ t
 
 abbrev μ-loop : tie.MeasureT-loop
 μ-loop shape theta starts columns values x n p q r₀ m₀ t₀ a₀ r m t a = p - a
@@ -20,19 +22,38 @@ loop-holds c = (omega arith, refl, refl, refl, λ F offset same. columns-none _ 
 
 normal-column-requires : tie.Need-normal-column-requires Inv-loop μ-loop
 normal-column-requires c κs =
-    let s = c .before .before .before .before .before .before .before .before .before .before .before .before .before in
-    (s .pre .0, (lent-kept (s .pre .1 .0) (c .before .before .before .before .loop .inv .1) (c .before .before .before .before .loop .inv .2) (c .before .before .before .before .loop .inv .3), (s .pre .1 .1, c .before .before .before .loop-test .taken)))
+    let loop-test = c .before .before .before in
+    let loop = loop-test .before in
+    let start = loop .before .before .before .before .before .before .before .before .before in (
+      start .pre .0,
+      (lent-kept (start .pre .1 .0) (loop .loop .inv .1) (loop .loop .inv .2) (loop .loop .inv .3), (start .pre .1 .1, loop-test .loop-test .taken)),
+    )
 
 add-a : tie.Need-add-a Inv-loop μ-loop
-add-a c = let s = c .before .before .before .before .before .before .before .before .before .before .before .before .before .before .before .before .before .before .before .before in omega (arith, c .before .before .before .before .before .before .before .before .before .before .loop-test .taken, s .pre .1 .0 .sizes .p-few)
+add-a c =
+    let loop-test = c .before .before .before .before .before .before .before .before .before .before in
+    let start = loop-test .before .before .before .before .before .before .before .before .before .before in
+    omega (arith, loop-test .loop-test .taken, start .pre .1 .0 .sizes .p-few)
 
 loop-less : tie.Need-loop-less Inv-loop μ-loop
 loop-less c = omega (arith, c .before .before .before .before .before .before .before .before .before .before .loop-test .taken)
 
 loop-again : tie.Need-loop-again Inv-loop μ-loop
 loop-again c =
-    let s = c .before .before .before .before .before .before .before .before .before .before .before .before .before .before .before .before .before .before .before .before in
-    (omega (arith, c .before .before .before .before .before .before .before .before .before .before .loop-test .taken), c .before .before .before .before .before .before .normal-column .kept .1 .1 .1 .1 .1 .1 .1 .1 .1 .1 .0 ∙ c .before .before .before .before .before .before .before .before .before .before .before .loop .inv .1, c .before .before .before .before .before .before .normal-column .kept .1 .1 .1 .1 .1 .1 .1 .1 .1 .1 .1 .0 ∙ c .before .before .before .before .before .before .before .before .before .before .before .loop .inv .2, c .before .before .before .before .before .before .normal-column .kept .1 .1 .1 .1 .1 .1 .1 .1 .1 .1 .1 .1 .0 ∙ c .before .before .before .before .before .before .before .before .before .before .before .loop .inv .3, columns-turn (s .args .n) (s .args .p) (s .args .q) (c .before .before .before .before .before .before .before .before .before .before .before .loop .a) (s .args .shape) (s .args .theta .now) (s .args .x .now) _ (s .args .r .now) (c .before .before .before .before .before .before .before .before .before .before .before .loop .r) (c .before .before .before .before .before .before .normal-column .last .1 .1 .1 .1 .1 .1 .1 .1 .1 .1 .0) (s .args .m .now) (c .before .before .before .before .before .before .before .before .before .before .before .loop .m) (c .before .before .before .before .before .before .normal-column .last .1 .1 .1 .1 .1 .1 .1 .1 .1 .1 .1 .0) (s .args .t .now) (c .before .before .before .before .before .before .before .before .before .before .before .loop .t) (c .before .before .before .before .before .before .normal-column .last .1 .1 .1 .1 .1 .1 .1 .1 .1 .1 .1 .1 .0) (s .pre .0 .effects) (s .pre .1 .0) (c .before .before .before .before .before .before .before .before .before .before .loop-test .taken) (c .before .before .before .before .before .before .before .before .before .before .before .loop .inv .1) (c .before .before .before .before .before .before .before .before .before .before .before .loop .inv .2) (c .before .before .before .before .before .before .before .before .before .before .before .loop .inv .3) (c .before .before .before .before .before .before .before .before .before .before .before .loop .inv .4) (c .before .before .before .before .before .before .normal-column .ensures))
+    let normal-column = c .before .before .before .before .before .before in
+    let loop-test = normal-column .before .before .before .before in
+    let loop = loop-test .before in
+    let start = loop .before .before .before .before .before .before .before .before .before in (
+      omega (arith, loop-test .loop-test .taken),
+      normal-column .normal-column .kept .1 .1 .1 .1 .1 .1 .1 .1 .1 .1 .0 ∙ loop .loop .inv .1,
+      normal-column .normal-column .kept .1 .1 .1 .1 .1 .1 .1 .1 .1 .1 .1 .0 ∙ loop .loop .inv .2,
+      normal-column .normal-column .kept .1 .1 .1 .1 .1 .1 .1 .1 .1 .1 .1 .1 .0 ∙ loop .loop .inv .3,
+      columns-turn (start .args .n) (start .args .p) (start .args .q) (loop .loop .a) (start .args .shape) (start .args .theta .now) (start .args .x .now) _
+          (start .args .r .now) (loop .loop .r) (normal-column .normal-column .last .1 .1 .1 .1 .1 .1 .1 .1 .1 .1 .0) (start .args .m .now) (loop .loop .m)
+          (normal-column .normal-column .last .1 .1 .1 .1 .1 .1 .1 .1 .1 .1 .1 .0) (start .args .t .now) (loop .loop .t)
+          (normal-column .normal-column .last .1 .1 .1 .1 .1 .1 .1 .1 .1 .1 .1 .1 .0) (start .pre .0 .effects) (start .pre .1 .0) (loop-test .loop-test .taken)
+          (loop .loop .inv .1) (loop .loop .inv .2) (loop .loop .inv .3) (loop .loop .inv .4) (normal-column .normal-column .ensures),
+    )
 
 same-length : tie.Need-same-length Inv-loop μ-loop
 same-length c = c .before .loop .inv .1
@@ -45,8 +66,11 @@ same-length-3 c = c .before .loop .inv .3
 
 returns : tie.Need-returns Inv-loop μ-loop
 returns c =
-    let s = c .before .before .before .before .before .before .before .before .before .before in
-    columns-end (s .args .n) (s .args .p) (s .args .q) (c .before .loop .a) (s .args .shape) (s .args .theta .now) (s .args .x .now) _ (s .args .r .now) (c .before .loop .r) (c .before .loop .r) (s .args .m .now) (c .before .loop .m) (c .before .loop .m) (s .args .t .now) (c .before .loop .t) (c .before .loop .t) (s .pre .0 .effects) (s .pre .1 .0) (c .before .loop .inv .0) (c .loop-test .left) (c .before .loop .inv .4)
+    let start = c .before .before .before .before .before .before .before .before .before .before in
+    columns-end (start .args .n) (start .args .p) (start .args .q) (c .before .loop .a) (start .args .shape) (start .args .theta .now) (start .args .x .now) _
+    (start .args .r .now) (c .before .loop .r) (c .before .loop .r) (start .args .m .now) (c .before .loop .m) (c .before .loop .m) (start .args .t .now)
+    (c .before .loop .t) (c .before .loop .t) (start .pre .0 .effects) (start .pre .1 .0) (c .before .loop .inv .0) (c .loop-test .left)
+    (c .before .loop .inv .4)
 
 pub normal-columns-spec : {M : Type 1} → statement M
 normal-columns-spec =

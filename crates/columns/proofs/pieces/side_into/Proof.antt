@@ -79,9 +79,14 @@ same-length c = search needs
 
 returns : tie.Need-returns
 returns c =
-    let s = c .before .before .before .before .before .before .before .before .before in
-    rw (c .dot-less .ensures, ← part-is (s .args .column) (s .args .n) _ (s .args .r .now) refl, ← part-is (s .args .working) (s .args .n) _ (s .args .r .now) refl, ← part-is (s .args .va) (s .args .q) _ (s .args .t .now) refl, ← part-is (s .args .wy) (s .args .q) _ (s .args .m .now) refl)
-    refl
+    let start = c .before .before .before .before .before .before .before .before .before in
+    rw (
+      c .dot-less .ensures,
+      ← part-is (start .args .column) (start .args .n) _ (start .args .r .now) refl,
+      ← part-is (start .args .working) (start .args .n) _ (start .args .r .now) refl,
+      ← part-is (start .args .va) (start .args .q) _ (start .args .t .now) refl,
+      ← part-is (start .args .wy) (start .args .q) _ (start .args .m .now) refl,
+    ) refl
 
 pub side-into-spec : {M : Type 1} → statement M
 side-into-spec =

@@ -56,9 +56,10 @@ same-length c = search needs
 
 returns : tie.Need-returns
 returns c =
-    let s = c .before .before .before .before .before .before .before .before in
-    rw (← front-is _ (s .args .t .now), ← part-is (s .args .va) (s .args .q) _ (s .args .t .now) refl)
-    (part-made (s .args .sa) (s .args .q) _ _ (s .args .m .now) (c .before .before .solved-copy .last .1 .1 .1 .0) refl (s .pre .2) (c .before .before .solved-copy .kept .1 .1 .1 .0) (c .before .before .solved-copy .ensures))
+    let start = c .before .before .before .before .before .before .before .before in
+    rw (← front-is _ (start .args .t .now), ← part-is (start .args .va) (start .args .q) _ (start .args .t .now) refl)
+    (part-made (start .args .sa) (start .args .q) _ _ (start .args .m .now) (c .before .before .solved-copy .last .1 .1 .1 .0) refl (start .pre .2)
+    (c .before .before .solved-copy .kept .1 .1 .1 .0) (c .before .before .solved-copy .ensures))
 
 pub solved-into-spec : {M : Type 1} → statement M
 solved-into-spec =

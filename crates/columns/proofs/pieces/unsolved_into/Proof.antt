@@ -44,9 +44,11 @@ same-length c = search needs
 
 returns : tie.Need-returns
 returns c =
-    let s = c .before .before .before .before .before .before .before .before .before .before .before in
-    rw (← part-is (s .args .column) (s .args .n) _ (s .args .r .now) refl)
-    (side-wrote (s .args .n) (s .args .q) (s .args .va) _ (s .args .shape) (s .args .theta .now) _ _ (s .args .t .now) (c .before .before .side .last .1 .1 .1 .1 .1 .1 .1 .1 .0) refl (s .pre .1 .1) (c .before .before .side .kept .1 .1 .1 .1 .1 .1 .1 .1 .0) (c .before .before .side .ensures))
+    let start = c .before .before .before .before .before .before .before .before .before .before .before in
+    rw (← part-is (start .args .column) (start .args .n) _ (start .args .r .now) refl)
+    (side-wrote (start .args .n) (start .args .q) (start .args .va) _ (start .args .shape) (start .args .theta .now) _ _ (start .args .t .now)
+    (c .before .before .side .last .1 .1 .1 .1 .1 .1 .1 .1 .0) refl (start .pre .1 .1) (c .before .before .side .kept .1 .1 .1 .1 .1 .1 .1 .1 .0)
+    (c .before .before .side .ensures))
 
 pub unsolved-into-spec : {M : Type 1} → statement M
 unsolved-into-spec =

@@ -43,9 +43,10 @@ same-length c = search needs
 
 returns : tie.Need-returns
 returns c =
-    let s = c .before .before .before .before .before .before .before .before in
-    rw (← part-is (s .args .w) (s .args .n) _ (s .args .t .now) refl)
-    (filled-part (s .args .column) (s .args .n) _ _ _ (c .before .before .xw-column .last .1 .1 .1 .1 .1 .0) refl (s .pre .3) (c .before .before .xw-column .kept .1 .1 .1 .1 .1 .0) (c .before .before .xw-column .ensures))
+    let start = c .before .before .before .before .before .before .before .before in
+    rw (← part-is (start .args .w) (start .args .n) _ (start .args .t .now) refl)
+    (filled-part (start .args .column) (start .args .n) _ _ _ (c .before .before .xw-column .last .1 .1 .1 .1 .1 .0) refl (start .pre .3)
+    (c .before .before .xw-column .kept .1 .1 .1 .1 .1 .0) (c .before .before .xw-column .ensures))
 
 pub weighted-into-spec : {M : Type 1} → statement M
 weighted-into-spec =

@@ -46,7 +46,12 @@ loop-less : tie.Need-loop-less Inv-loop μ-loop
 loop-less c = search (needs, loops)
 
 loop-again : tie.Need-loop-again Inv-loop μ-loop
-loop-again c = (omega arith, simp length-set (omega arith), copy-step _ _ (c .before .before .before .args .n) _ (c .before .before .before .args .m .now) _ (c .before .before .before .pre .0) (omega arith) (c .before .before .loop .inv .2))
+loop-again c =
+    let start = c .before .before .before in (
+      omega arith,
+      simp length-set (omega arith),
+      copy-step _ _ (start .args .n) _ (start .args .m .now) _ (start .pre .0) (omega arith) (c .before .before .loop .inv .2),
+    )
 
 same-length : tie.Need-same-length Inv-loop μ-loop
 same-length c = search (needs, loops)

@@ -20,7 +20,8 @@ inverse-at-requires : tie.Need-inverse-at-requires Inv-loop μ-loop
 inverse-at-requires c κs = omega arith
 
 loop-holds : tie.Need-loop-holds Inv-loop μ-loop
-loop-holds c = (omega arith, refl, section-none (c .before .before .args .q) (c .before .before .args .s) (c .before .before .args .k) _ (c .before .before .args .m .now))
+loop-holds c =
+    (omega arith, refl, section-none (c .before .before .args .q) (c .before .before .args .s) (c .before .before .args .k) _ (c .before .before .args .m .now))
 
 add-effect : tie.Need-add-effect Inv-loop μ-loop
 add-effect c = omega arith
@@ -35,10 +36,23 @@ add-from : tie.Need-add-from Inv-loop μ-loop
 add-from c = omega (arith, square-few (c .before .before .before .before .before .before .pre .0), c .before .offset .ensures)
 
 add-to : tie.Need-add-to Inv-loop μ-loop
-add-to c = omega (arith, square-few (c .before .before .before .before .before .before .pre .0), square-few {k = c .before .before .before .before .before .before .args .k} (omega arith), c .offset2 .ensures, c .before .before .before .before .inverse-at .ensures)
+add-to c =
+    let inverse-at = c .before .before .before .before in
+    let start = inverse-at .before .before in
+    omega (arith, square-few (start .pre .0), square-few {k = start .args .k} (omega arith), c .offset2 .ensures, inverse-at .inverse-at .ensures)
 
 copy-row-requires : tie.Need-copy-row-requires Inv-loop μ-loop
-copy-row-requires c κs = omega (arith, c .before .before .before .before .before .before .before .pre, square-within (c .before .before .before .before .before .before .before .args .q) (c .before .before .before .before .before .before .before .args .s) (c .before .before .before .before .before .before .before .args .k) (c .before .before .before .before .before .before .before .pre .1), c .before .before .offset .ensures, c .before .offset2 .ensures, c .before .before .before .before .before .inverse-at .ensures)
+copy-row-requires c κs =
+    let inverse-at = c .before .before .before .before .before in
+    let start = inverse-at .before .before in
+    omega (
+      arith,
+      start .pre,
+      square-within (start .args .q) (start .args .s) (start .args .k) (start .pre .1),
+      c .before .before .offset .ensures,
+      c .before .offset2 .ensures,
+      inverse-at .inverse-at .ensures,
+    )
 
 add-i : tie.Need-add-i Inv-loop μ-loop
 add-i c = omega arith
@@ -48,14 +62,30 @@ loop-less c = omega arith
 
 loop-again : tie.Need-loop-again Inv-loop μ-loop
 loop-again c =
-    let l : c .before .before .before .before .before .before .before .loop .i ≤ c .before .before .before .before .before .before .before .before .before .before .args .k = omega arith in
-    (omega arith, omega arith, section-step (c .before .before .before .before .before .before .before .before .before .before .args .q) (c .before .before .before .before .before .before .before .before .before .before .args .s) (c .before .before .before .before .before .before .before .before .before .before .args .k) (c .before .before .before .before .before .before .before .loop .i) _ _ _ (c .before .before .before .before .before .before .before .before .before .before .args .m .now) (c .before .before .before .before .before .before .before .loop .m) _ (c .before .before .before .before .before .before .before .before .inverse-at .ensures) (c .before .before .before .before .before .before .before .before .before .before .pre .1) (c .before .before .before .before .before .before .loop-test .taken) (omega (arith, c .before .before .before .before .before .before .before .before .before .before .pre)) (omega (arith, c .before .before .before .before .before .offset .ensures .0)) (omega (arith, c .before .before .before .before .offset2 .ensures .0)) (c .before .before .before .before .before .before .before .loop .inv .2) (c .before .before .copy-row .ensures))
+    let offset2 = c .before .before .before .before in
+    let offset = offset2 .before in
+    let loop-test = offset .before in
+    let loop = loop-test .before in
+    let inverse-at = loop .before in
+    let start = inverse-at .before .before in
+    let l : loop .loop .i ≤ start .args .k = omega arith in (
+      omega arith,
+      omega arith,
+      section-step (start .args .q) (start .args .s) (start .args .k) (loop .loop .i) _ _ _ (start .args .m .now) (loop .loop .m) _
+          (inverse-at .inverse-at .ensures) (start .pre .1) (loop-test .loop-test .taken) (omega (arith, start .pre))
+          (omega (arith, offset .offset .ensures .0)) (omega (arith, offset2 .offset2 .ensures .0)) (loop .loop .inv .2) (c .before .before .copy-row .ensures),
+    )
 
 same-length : tie.Need-same-length Inv-loop μ-loop
 same-length c = omega arith
 
 returns : tie.Need-returns Inv-loop μ-loop
-returns c = section-done (c .before .before .before .before .args .q) (c .before .before .before .before .args .s) (c .before .before .before .before .args .k) _ _ (c .before .before .before .before .args .m .now) _ (c .before .before .inverse-at .ensures) (c .before .loop .inv .0) (c .loop-test .left) (omega (arith, c .before .before .before .before .pre, square-within (c .before .before .before .before .args .q) (c .before .before .before .before .args .s) (c .before .before .before .before .args .k) (c .before .before .before .before .pre .1), c .before .before .inverse-at .ensures)) (c .before .loop .inv .2)
+returns c =
+    let start = c .before .before .before .before in
+    section-done (start .args .q) (start .args .s) (start .args .k) _ _ (start .args .m .now) _ (c .before .before .inverse-at .ensures)
+    (c .before .loop .inv .0) (c .loop-test .left)
+    (omega (arith, start .pre, square-within (start .args .q) (start .args .s) (start .args .k) (start .pre .1), c .before .before .inverse-at .ensures))
+    (c .before .loop .inv .2)
 
 pub section-into-spec : {M : Type 1} → statement M
 section-into-spec =

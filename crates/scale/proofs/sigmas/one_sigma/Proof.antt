@@ -20,7 +20,10 @@ sigma-of-requires : tie.Need-sigma-of-requires
 sigma-of-requires c κs = search needs
 
 returns : tie.Need-returns
-returns c = diagonal-read (c .before .before .before .before .args .q) (c .before .before .before .before .args .g) _ (c .before .before .before .before .args .m .now) _ (c .before .before .before .before .pre .1) (c .before .before .before .before .pre .2) (c .before .before .offset .ensures .0) (c .sigma-of .ensures)
+returns c =
+    let start = c .before .before .before .before in
+    diagonal-read (start .args .q) (start .args .g) _ (start .args .m .now) _ (start .pre .1) (start .pre .2) (c .before .before .offset .ensures .0)
+    (c .sigma-of .ensures)
 
 pub one-sigma-spec : {M : Type 1} → statement M
 one-sigma-spec =

@@ -19,7 +19,9 @@ sqrt-requires : tie.Need-sqrt-requires
 sqrt-requires c κs = search needs
 
 returns-3 : tie.Need-returns-3
-returns-3 c = sigma-found _ _ (c .before .before .before .if1 .left) (sym (c .before .before .is-finite .ensures) ∙ not-false _ (c .before .if2 .left)) (c .sqrt .ensures)
+returns-3 c =
+    let if1 = c .before .before .before in
+    sigma-found _ _ (if1 .if1 .left) (sym (c .before .before .is-finite .ensures) ∙ not-false _ (c .before .if2 .left)) (c .sqrt .ensures)
 
 pub sigma-of-spec : {M : Type 1} → statement M
 sigma-of-spec = tie.close (tie.spec returns is-finite-requires returns-2 sqrt-requires returns-3)

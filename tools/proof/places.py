@@ -1,0 +1,237 @@
+#!/usr/bin/env python3
+"""usage: places.py [--width N] FILE..
+Names the places of a proof file. In each answer `NAME c = ..` the chains `c .before .before ..` of three or more become names, each bound once by `let` at the
+head of the answer and told from the next nearer one. A place has the name of what is read there first (`c .before .. .ldl .kept` makes it ldl), the first one is
+start; where the file has that name already, at-ldl. A `let` that is a place and no more keeps its name. Lines longer than N (160) are broken as rt fmt has them.
+An answer that is one short line with one such chain is left. What an answer means stays as it was; `rt fmt` after it."""
+import re, sys
+
+WIDTH = 160
+RESERVED = set("unfoldable abbrev axiom unfold unfolding ruleset mutual infix infixl infixr elim let in do where use mod pub record as with rw at search omega cc refl".split())
+WORD = r"[^\s(){}\[\],;.]+"
+BEFORE = " .before"
+
+
+def words(text):
+    """the names that a text uses, without the fields"""
+    return set(re.findall(r"(?<![^\s(){}\[\],;])" + WORD, text))
+
+
+def place_of(var):
+    return re.compile(r"(?<![^\s(){}\[\],;])" + re.escape(var) + r"((?:\s+\.before)+)(?![^\s(){}\[\],;])(?:\s+\.([^\s(){}\[\],;.]+))?")
+
+
+def unlet(var, body):
+    """the lets that are a place and no more, taken out: (body with the chains written out, {steps: name})"""
+    kept = {}
+    while True:
+        m = re.search(r"let (" + WORD + r") = " + re.escape(var) + r"((?:\s+\.before)+) in\s+", body)
+        if not m or len(re.findall(r"let " + re.escape(m.group(1)) + r"(?: :| =)", body)) > 1:
+            return body, kept
+        steps = len(m.group(2).split())
+        rest = body[:m.start()] + body[m.end():]
+        name = re.compile(r"(?<![^\s(){}\[\],;])" + re.escape(m.group(1)) + r"(?![^\s(){}\[\],;])")
+        if re.search(r"λ[^.]*(?<!\S)" + re.escape(m.group(1)) + r"[^.]*\.", rest):
+            return body, kept
+        body = name.sub(var + BEFORE * steps, rest)
+        kept.setdefault(steps, m.group(1))
+
+
+def named(var, body, taken, shortest=3):
+    """(the lets, the body): every place of `shortest` or more steps has a name"""
+    body, kept = unlet(var, body)
+    fields = {}
+    for m in place_of(var).finditer(body):
+        fields.setdefault(len(m.group(1).split()), []).append(m.group(2))
+    steps = sorted(k for k in fields if k >= shortest or k in kept)
+    names, used = {}, set(taken) - set(kept.values())
+    for k in steps:
+        field = next((f for f in fields[k] if f and not f.isdigit()), None)
+        name = "start" if field in ("args", "pre") else field or "place"
+        if k in kept and len(kept[k]) > 1:
+            name = kept[k]
+        if name in used or name in RESERVED:
+            name = "at-" + name
+        while name in used:
+            name += "′"
+        used.add(name)
+        names[k] = name
+
+    def spelt(m):
+        k = len(m.group(1).split())
+        return m.group(0) if k not in names else names[k] + (f" .{m.group(2)}" if m.group(2) else "")
+
+    body = place_of(var).sub(spelt, body)
+    lets, near, at = [], var, 0
+    for k in steps:
+        lets.append(f"let {names[k]} = {near}{BEFORE * (k - at)} in")
+        near, at = names[k], k
+    return lets, body
+
+
+def closing(text, i):
+    depth = 0
+    for k in range(i, len(text)):
+        depth += text[k] in "([{"
+        depth -= text[k] in ")]}"
+        if depth == 0:
+            return k
+    raise ValueError("a bracket stays open: " + text[i:i + 60])
+
+
+def split(text, seps):
+    """text at the separators that stand in no bracket"""
+    out, start, k = [], 0, 0
+    while k < len(text):
+        if text[k] in "([{":
+            k = closing(text, k)
+        elif text[k] in seps:
+            out.append(text[start:k].strip())
+            start = k + 1
+        k += 1
+    return [x for x in out + [text[start:].strip()] if x]
+
+
+def units(text):
+    """the parts of an application: an atom or a bracket with the fields read of it"""
+    out = []
+    for part in split(text, " "):
+        if out and re.match(r"\.[^\s]", part):
+            out[-1] += " " + part
+        elif out and re.fullmatch(r"(λ.*|rw|omega|search|∙|≡|record|at|let|in)", out[-1].split(" ")[-1]) and len(out[-1]) < 40:
+            out[-1] += " " + part
+        else:
+            out.append(part)
+    return out
+
+
+def laid(text, room, first=None):
+    """text broken into lines of at most about `room`; the first of at most `first`. rt fmt sets the columns"""
+    first = room if first is None else first
+    if len(text) <= first:
+        return text
+    m = re.match(r"let ", text)
+    if m:
+        depth, parts, k = 1, text.split(" "), 1
+        while depth:
+            depth += parts[k].lstrip("({[") == "let"
+            depth -= parts[k] == "in"
+            k += 1
+        return laid_units(" ".join(parts[:k]), room) + "\n" + laid(" ".join(parts[k:]), room)
+    return laid_units(text, room, first)
+
+
+def segments(text):
+    """the parts of a term between its operators, each with the operator before it; the parts of an application where it has none"""
+    parts = split(text, " ")
+    ends = [k for k, part in enumerate(parts) if part in ("×", "∙", "→")]
+    if not ends or parts[0] in ("let", "λ"):
+        return units(text)
+    return [" ".join(parts[a:b]) for a, b in zip([0] + ends, ends + [len(parts)])]
+
+
+def laid_units(text, room, first=None):
+    parts = segments(text)
+    if len(parts) == 1:
+        return laid_one(parts[0], room)
+    lines, line, space = [], "", room if first is None else first
+    for part in parts:
+        if line and len(line) + 1 + len(part) > space:
+            lines.append(line)
+            line, space = "", room
+        if len(part) > space:
+            part = laid_one(part, room) if len(units(part)) == 1 else laid_units(re.sub("^([×∙→]) ", r"\1\u00a0", part), room).replace("\u00a0", " ")
+            lines += ([line] if line else [])
+            lines += part.split("\n")[:-1]
+            line = part.split("\n")[-1]
+        else:
+            line = (line + " " + part).strip()
+    return "\n".join(lines + [line])
+
+
+def laid_one(part, room):
+    """one unit that is too long: its bracket is broken"""
+    if len(part) <= room:
+        return part
+    k = next((i for i, ch in enumerate(part) if ch in "([{"), None)
+    if k is None:
+        return fill(part.split(" "), room)
+    end = closing(part, k)
+    head, inside, tail = part[:k + 1], part[k + 1:end].strip(), part[end:]
+    for sep in ",;":
+        items = split(inside, sep)
+        if len(items) > 1 or inside.endswith(sep):
+            return head + "\n" + "".join(laid(x, room - 6) + sep + "\n" for x in items) + tail
+    return head + laid(inside, room - 4, room - len(head)) + tail
+
+
+def fill(parts, room):
+    lines = [""]
+    for p in parts:
+        if lines[-1] and len(lines[-1]) + 1 + len(p) > room:
+            lines.append("")
+        lines[-1] = (lines[-1] + " " + p).strip()
+    return "\n".join(lines)
+
+
+def answer(head, body, taken):
+    """one clause, `head =` and its body, with its places named"""
+    if "--" in body or "where" in body.split():
+        return None
+    flat = " ".join(body.split())
+    flat = re.sub(r"([(\[]) ", r"\1", re.sub(r",? ([)\]])", r"\1", flat))
+    var = next((v for v in head.split()[1:] if place_of(v).search(flat)), None)
+    chains = [] if var is None else [len(m.group(1).split()) for m in place_of(var).finditer(flat)]
+    long = sum(k >= 3 for k in chains)
+    if long <= 1 and max(len(l) for l in (head + " =" + body).split("\n")) <= WIDTH:
+        return None
+    lets, flat = named(var, flat, taken) if long else ([], flat)
+    if not lets and len(head) + 3 + len(flat) <= WIDTH:
+        return f"{head} = {flat}"
+    lines = [laid_units(l, WIDTH - 8) for l in lets] + [laid(flat, WIDTH - 4)]
+    return f"{head} =\n" + "\n".join("    " + l for x in lines for l in x.split("\n"))
+
+
+def signature(line):
+    """a line `NAME : TYPE` that is too long, broken"""
+    m = re.match(r"((?:pub |abbrev |unfoldable )*[^\s=:(){}]+(?: {[^}]*})? :) ", line)
+    if not m or len(line) <= WIDTH:
+        return line
+    return m.group(1) + "\n" + "\n".join("    " + l for l in laid(line[m.end():], WIDTH - 4).split("\n"))
+
+
+def rewritten(text):
+    taken = words(re.sub(r"(?m)^\s*--.*$", "", text))
+    out, lines, k = [], text.split("\n"), 0
+    while k < len(lines):
+        m = re.match(r"([^\s=:(){}]+(?: [^\s=:(){}]+)+) =(?: |$)", lines[k])
+        if not m or re.match(r"(use|unfolding|infix)", lines[k]):
+            out.append(signature(lines[k]))
+            k += 1
+            continue
+        end = k + 1
+        while end < len(lines) and lines[end].startswith(" "):
+            end += 1
+        old = "\n".join(lines[k:end])
+        new = answer(m.group(1), old[m.end(1) + 2:], taken)
+        out.append(old if new is None else new)
+        k = end
+    return "\n".join(out)
+
+
+def main():
+    global WIDTH
+    args = sys.argv[1:]
+    if args[:1] == ["--width"]:
+        WIDTH, args = int(args[1]), args[2:]
+    if not args:
+        sys.exit(__doc__)
+    for path in args:
+        old = open(path).read()
+        new = rewritten(old)
+        if new != old:
+            open(path, "w").write(new)
+            print(f"{path}: {old.count('.before')} to {new.count('.before')} .before")
+
+
+main()
