@@ -2,11 +2,11 @@
 """usage: places.py [--width N] FILE..
 Names the places of a proof file. In each answer `NAME c = ..` the chains `c .before .before ..` of three or more become names, each bound once by `let` at the
 head of the answer and told from the next nearer one. A place has the name of what is read there first (`c .before .. .ldl .kept` makes it ldl), the first one is
-start; where the file has that name already, at-ldl. A `let` that is a place and no more keeps its name. Lines longer than N (160) are broken as rt fmt has them.
+start; where the file has that name already, at-ldl. What start knows, its `.args` and `.pre`, has a name where it is read six times. A `let` that is a place and no more keeps its name. Lines longer than N (160) are broken as rt fmt has them.
 An answer that is one short line with one such chain is left. What an answer means stays as it was; `rt fmt` after it."""
 import re, sys
 
-WIDTH = 160
+WIDTH, OFTEN = 160, 6
 RESERVED = set("unfoldable abbrev axiom unfold unfolding ruleset mutual infix infixl infixr elim let in do where use mod pub record as with rw at search omega cc refl".split())
 WORD = r"[^\s(){}\[\],;.]+"
 BEFORE = " .before"
@@ -47,7 +47,7 @@ def named(var, body, taken, shortest=3):
     names, used = {}, set(taken) - set(kept.values())
     for k in steps:
         field = next((f for f in fields[k] if f and not f.isdigit()), None)
-        name = "start" if field in ("args", "pre") else field or "place"
+        name = "start" if {"args", "pre", "good"} & set(fields[k]) else field or "place"
         if k in kept and len(kept[k]) > 1:
             name = kept[k]
         if name in used or name in RESERVED:
@@ -66,6 +66,11 @@ def named(var, body, taken, shortest=3):
     for k in steps:
         lets.append(f"let {names[k]} = {near}{BEFORE * (k - at)} in")
         near, at = names[k], k
+    for field in ("args", "pre"):
+        read = f"{names.get(steps[-1])} .{field} ." if steps else None
+        if read and body.count(read) >= OFTEN and field not in used:
+            lets.append(f"let {field} = {names[steps[-1]]} .{field} in")
+            body = re.sub(r"(?<![^\s(){}\[\],;])" + re.escape(read), f"{field} .", body)
     return lets, body
 
 
@@ -140,7 +145,7 @@ def laid_units(text, room, first=None):
             lines.append(line)
             line, space = "", room
         if len(part) > space:
-            part = laid_one(part, room) if len(units(part)) == 1 else laid_units(re.sub("^([×∙→]) ", r"\1\u00a0", part), room).replace("\u00a0", " ")
+            part = laid_one(part, room) if len(units(part)) == 1 else laid_units(re.sub("^([×∙→]) ", lambda m: m.group(1) + "\u00a0", part), room).replace("\u00a0", " ")
             lines += ([line] if line else [])
             lines += part.split("\n")[:-1]
             line = part.split("\n")[-1]
@@ -174,6 +179,13 @@ def fill(parts, room):
     return "\n".join(lines)
 
 
+def halved(let):
+    """a long way to a place on two lines"""
+    parts = let.split(" ")
+    half = len(parts) // 2 + 1
+    return let if len(let) <= WIDTH - 4 else " ".join(parts[:half]) + "\n" + " ".join(parts[half:])
+
+
 def answer(head, body, taken):
     """one clause, `head =` and its body, with its places named"""
     if "--" in body or "where" in body.split():
@@ -181,14 +193,14 @@ def answer(head, body, taken):
     flat = " ".join(body.split())
     flat = re.sub(r"([(\[]) ", r"\1", re.sub(r",? ([)\]])", r"\1", flat))
     var = next((v for v in head.split()[1:] if place_of(v).search(flat)), None)
-    chains = [] if var is None else [len(m.group(1).split()) for m in place_of(var).finditer(flat)]
+    chains = [] if var is None else [len(m.group(1).split()) for m in place_of(var).finditer(unlet(var, flat)[0])]
     long = sum(k >= 3 for k in chains)
     if long <= 1 and max(len(l) for l in (head + " =" + body).split("\n")) <= WIDTH:
         return None
     lets, flat = named(var, flat, taken) if long else ([], flat)
     if not lets and len(head) + 3 + len(flat) <= WIDTH:
         return f"{head} = {flat}"
-    lines = [laid_units(l, WIDTH - 8) for l in lets] + [laid(flat, WIDTH - 4)]
+    lines = [halved(l) for l in lets] + [laid(flat, WIDTH - 4)]
     return f"{head} =\n" + "\n".join("    " + l for x in lines for l in x.split("\n"))
 
 

@@ -258,14 +258,15 @@ returns c =
     let working-row = w-at .before in
     let column-row = working-row .before in
     let start = column-row .before .before .before .before .before .before .before .before .before in
-    column-placed (start .args .n) (start .args .p) (start .args .q) (start .args .a) (start .args .shape) (start .args .theta .now) (start .args .x .now) _
-    (start .args .r .now) (weighted-into .weighted-into .last .1 .1 .1 .1 .1 .1 .1 .0) (start .args .m .now) (solved-into .solved-into .last .1 .1 .1 .1 .0)
-    (c .before .before .side-into .last .1 .1 .1 .1 .1 .1 .1 .1 .1 .0) (start .args .t .now)
-    (unsolved-into .unsolved-into .last .1 .1 .1 .1 .1 .1 .1 .1 .1 .1 .0) (normal-into .normal-into .last .1 .1 .1 .1 .1 .1 .1 .1 .1 .1 .1 .0)
-    (start .pre .0 .effects) (within (start .pre .1 .0) (start .pre .1 .1 .1)) (column-row .column-row .ensures) (working-row .working-row .ensures)
-    (w-at .w-at .ensures) (unsolved-at .unsolved-at .ensures) (normal-at .normal-at .ensures) (solved-at .solved-at .ensures) (wy-at .wy-at .ensures)
-    (beta-at .beta-at .ensures) (offset .offset .ensures .0) (offset2 .offset2 .ensures .0) (weighted-into .weighted-into .ensures)
-    (unsolved-into .unsolved-into .ensures) (solved-into .solved-into .ensures) (normal-into .normal-into .ensures) (c .before .before .side-into .ensures)
+    let args = start .args in
+    column-placed (args .n) (args .p) (args .q) (args .a) (args .shape) (args .theta .now) (args .x .now) _ (args .r .now)
+    (weighted-into .weighted-into .last .1 .1 .1 .1 .1 .1 .1 .0) (args .m .now) (solved-into .solved-into .last .1 .1 .1 .1 .0)
+    (c .before .before .side-into .last .1 .1 .1 .1 .1 .1 .1 .1 .1 .0) (args .t .now) (unsolved-into .unsolved-into .last .1 .1 .1 .1 .1 .1 .1 .1 .1 .1 .0)
+    (normal-into .normal-into .last .1 .1 .1 .1 .1 .1 .1 .1 .1 .1 .1 .0) (start .pre .0 .effects) (within (start .pre .1 .0) (start .pre .1 .1 .1))
+    (column-row .column-row .ensures) (working-row .working-row .ensures) (w-at .w-at .ensures) (unsolved-at .unsolved-at .ensures)
+    (normal-at .normal-at .ensures) (solved-at .solved-at .ensures) (wy-at .wy-at .ensures) (beta-at .beta-at .ensures) (offset .offset .ensures .0)
+    (offset2 .offset2 .ensures .0) (weighted-into .weighted-into .ensures) (unsolved-into .unsolved-into .ensures) (solved-into .solved-into .ensures)
+    (normal-into .normal-into .ensures) (c .before .before .side-into .ensures)
 
 pub normal-column-spec : {M : Type 1} → statement M
 normal-column-spec =

@@ -43,14 +43,15 @@ loop-again c =
     let normal-column = c .before .before .before .before .before .before in
     let loop-test = normal-column .before .before .before .before in
     let loop = loop-test .before in
-    let start = loop .before .before .before .before .before .before .before .before .before in (
+    let start = loop .before .before .before .before .before .before .before .before .before in
+    let args = start .args in (
       omega (arith, loop-test .loop-test .taken),
       normal-column .normal-column .kept .1 .1 .1 .1 .1 .1 .1 .1 .1 .1 .0 ∙ loop .loop .inv .1,
       normal-column .normal-column .kept .1 .1 .1 .1 .1 .1 .1 .1 .1 .1 .1 .0 ∙ loop .loop .inv .2,
       normal-column .normal-column .kept .1 .1 .1 .1 .1 .1 .1 .1 .1 .1 .1 .1 .0 ∙ loop .loop .inv .3,
-      columns-turn (start .args .n) (start .args .p) (start .args .q) (loop .loop .a) (start .args .shape) (start .args .theta .now) (start .args .x .now) _
-          (start .args .r .now) (loop .loop .r) (normal-column .normal-column .last .1 .1 .1 .1 .1 .1 .1 .1 .1 .1 .0) (start .args .m .now) (loop .loop .m)
-          (normal-column .normal-column .last .1 .1 .1 .1 .1 .1 .1 .1 .1 .1 .1 .0) (start .args .t .now) (loop .loop .t)
+      columns-turn (args .n) (args .p) (args .q) (loop .loop .a) (args .shape) (args .theta .now) (args .x .now) _ (args .r .now) (loop .loop .r)
+          (normal-column .normal-column .last .1 .1 .1 .1 .1 .1 .1 .1 .1 .1 .0) (args .m .now) (loop .loop .m)
+          (normal-column .normal-column .last .1 .1 .1 .1 .1 .1 .1 .1 .1 .1 .1 .0) (args .t .now) (loop .loop .t)
           (normal-column .normal-column .last .1 .1 .1 .1 .1 .1 .1 .1 .1 .1 .1 .1 .0) (start .pre .0 .effects) (start .pre .1 .0) (loop-test .loop-test .taken)
           (loop .loop .inv .1) (loop .loop .inv .2) (loop .loop .inv .3) (loop .loop .inv .4) (normal-column .normal-column .ensures),
     )
@@ -67,10 +68,10 @@ same-length-3 c = c .before .loop .inv .3
 returns : tie.Need-returns Inv-loop μ-loop
 returns c =
     let start = c .before .before .before .before .before .before .before .before .before .before in
-    columns-end (start .args .n) (start .args .p) (start .args .q) (c .before .loop .a) (start .args .shape) (start .args .theta .now) (start .args .x .now) _
-    (start .args .r .now) (c .before .loop .r) (c .before .loop .r) (start .args .m .now) (c .before .loop .m) (c .before .loop .m) (start .args .t .now)
-    (c .before .loop .t) (c .before .loop .t) (start .pre .0 .effects) (start .pre .1 .0) (c .before .loop .inv .0) (c .loop-test .left)
-    (c .before .loop .inv .4)
+    let args = start .args in
+    columns-end (args .n) (args .p) (args .q) (c .before .loop .a) (args .shape) (args .theta .now) (args .x .now) _ (args .r .now) (c .before .loop .r)
+    (c .before .loop .r) (args .m .now) (c .before .loop .m) (c .before .loop .m) (args .t .now) (c .before .loop .t) (c .before .loop .t)
+    (start .pre .0 .effects) (start .pre .1 .0) (c .before .loop .inv .0) (c .loop-test .left) (c .before .loop .inv .4)
 
 pub normal-columns-spec : {M : Type 1} → statement M
 normal-columns-spec =

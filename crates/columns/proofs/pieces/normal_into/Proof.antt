@@ -46,8 +46,8 @@ same-length c = search needs
 
 returns : tie.Need-returns
 returns c =
-    let s = c .before .before .before .before .before .before .before .before .before .before in
-    rw (← part-is (s .args .column) (s .args .n) _ (s .args .r .now) refl, ← part-is (s .args .solved) _ _ (s .args .m .now) refl)
+    let start = c .before .before .before .before .before .before .before .before .before .before in
+    rw (← part-is (start .args .column) (start .args .n) _ (start .args .r .now) refl, ← part-is (start .args .solved) _ _ (start .args .m .now) refl)
     (c .before .before .normal-row .ensures)
 
 pub normal-into-spec : {M : Type 1} → statement M

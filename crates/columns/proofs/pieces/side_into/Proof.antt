@@ -80,12 +80,13 @@ same-length c = search needs
 returns : tie.Need-returns
 returns c =
     let start = c .before .before .before .before .before .before .before .before .before in
+    let args = start .args in
     rw (
       c .dot-less .ensures,
-      ← part-is (start .args .column) (start .args .n) _ (start .args .r .now) refl,
-      ← part-is (start .args .working) (start .args .n) _ (start .args .r .now) refl,
-      ← part-is (start .args .va) (start .args .q) _ (start .args .t .now) refl,
-      ← part-is (start .args .wy) (start .args .q) _ (start .args .m .now) refl,
+      ← part-is (args .column) (args .n) _ (args .r .now) refl,
+      ← part-is (args .working) (args .n) _ (args .r .now) refl,
+      ← part-is (args .va) (args .q) _ (args .t .now) refl,
+      ← part-is (args .wy) (args .q) _ (args .m .now) refl,
     ) refl
 
 pub side-into-spec : {M : Type 1} → statement M

@@ -57,8 +57,9 @@ same-length c = search needs
 returns : tie.Need-returns
 returns c =
     let start = c .before .before .before .before .before .before .before .before in
-    rw (← front-is _ (start .args .t .now), ← part-is (start .args .va) (start .args .q) _ (start .args .t .now) refl)
-    (part-made (start .args .sa) (start .args .q) _ _ (start .args .m .now) (c .before .before .solved-copy .last .1 .1 .1 .0) refl (start .pre .2)
+    let args = start .args in
+    rw (← front-is _ (args .t .now), ← part-is (args .va) (args .q) _ (args .t .now) refl)
+    (part-made (args .sa) (args .q) _ _ (args .m .now) (c .before .before .solved-copy .last .1 .1 .1 .0) refl (start .pre .2)
     (c .before .before .solved-copy .kept .1 .1 .1 .0) (c .before .before .solved-copy .ensures))
 
 pub solved-into-spec : {M : Type 1} → statement M

@@ -45,10 +45,10 @@ same-length c = search needs
 returns : tie.Need-returns
 returns c =
     let start = c .before .before .before .before .before .before .before .before .before .before .before in
-    rw (← part-is (start .args .column) (start .args .n) _ (start .args .r .now) refl)
-    (side-wrote (start .args .n) (start .args .q) (start .args .va) _ (start .args .shape) (start .args .theta .now) _ _ (start .args .t .now)
-    (c .before .before .side .last .1 .1 .1 .1 .1 .1 .1 .1 .0) refl (start .pre .1 .1) (c .before .before .side .kept .1 .1 .1 .1 .1 .1 .1 .1 .0)
-    (c .before .before .side .ensures))
+    let args = start .args in
+    rw (← part-is (args .column) (args .n) _ (args .r .now) refl)
+    (side-wrote (args .n) (args .q) (args .va) _ (args .shape) (args .theta .now) _ _ (args .t .now) (c .before .before .side .last .1 .1 .1 .1 .1 .1 .1 .1 .0)
+    refl (start .pre .1 .1) (c .before .before .side .kept .1 .1 .1 .1 .1 .1 .1 .1 .0) (c .before .before .side .ensures))
 
 pub unsolved-into-spec : {M : Type 1} → statement M
 unsolved-into-spec =

@@ -83,10 +83,11 @@ returns c =
     let section-into = ldl .before .before .before .before .before .before in
     let inverse-at = section-into .before .before in
     let start = inverse-at .before .before .before in
-    no-inverse (start .args .q) (start .args .s) (start .args .k) _ _ (start .args .m .now) _ (start .args .t .now) _ _ (inverse-at .inverse-at .ensures) refl
-    (omega (arith, start .pre .matrices, square-within (start .args .q) (start .args .s) (start .args .k) (start .pre .within), inverse-at .inverse-at .ensures))
-    (omega (arith, start .pre .terms, square-within (start .args .q) (start .args .s) (start .args .k) (start .pre .within)))
-    (section-into .section-into .ensures) (ldl .ldl .kept .1 .1 .0) (ldl .ldl .ensures) _ (c .enum-told .given .1)
+    let args = start .args in
+    no-inverse (args .q) (args .s) (args .k) _ _ (args .m .now) _ (args .t .now) _ _ (inverse-at .inverse-at .ensures) refl
+    (omega (arith, start .pre .matrices, square-within (args .q) (args .s) (args .k) (start .pre .within), inverse-at .inverse-at .ensures))
+    (omega (arith, start .pre .terms, square-within (args .q) (args .s) (args .k) (start .pre .within))) (section-into .section-into .ensures)
+    (ldl .ldl .kept .1 .1 .0) (ldl .ldl .ensures) _ (c .enum-told .given .1)
 
 enum-told-2 : tie.Need-enum-told-2
 enum-told-2 c = search needs
@@ -170,12 +171,12 @@ returns-2 c =
     let section-into = ldl .before .before .before .before .before .before in
     let inverse-at = section-into .before .before in
     let start = inverse-at .before .before .before in
-    no-factor (start .args .q) (start .args .s) (start .args .k) _ _ (start .args .m .now) _ (start .args .t .now) _ _ (inverse-at .inverse-at .ensures) refl
-    (omega (arith, start .pre .matrices, square-within (start .args .q) (start .args .s) (start .args .k) (start .pre .within), inverse-at .inverse-at .ensures))
-    (omega (arith, start .pre .terms, square-within (start .args .q) (start .args .s) (start .args .k) (start .pre .within)))
-    (section-into .section-into .ensures) (ldl .ldl .kept .1 .1 .0) (ldl .ldl .ensures) _ _ _ (enum-told2 .enum-told2 .given .1)
-    (ldl-inverse .ldl-inverse .kept .1 .1 .0) (ldl-inverse .ldl-inverse .ensures) (cholesky .cholesky .kept .0) (cholesky .cholesky .ensures) _
-    (c .enum-told3 .given .1)
+    let args = start .args in
+    no-factor (args .q) (args .s) (args .k) _ _ (args .m .now) _ (args .t .now) _ _ (inverse-at .inverse-at .ensures) refl
+    (omega (arith, start .pre .matrices, square-within (args .q) (args .s) (args .k) (start .pre .within), inverse-at .inverse-at .ensures))
+    (omega (arith, start .pre .terms, square-within (args .q) (args .s) (args .k) (start .pre .within))) (section-into .section-into .ensures)
+    (ldl .ldl .kept .1 .1 .0) (ldl .ldl .ensures) _ _ _ (enum-told2 .enum-told2 .given .1) (ldl-inverse .ldl-inverse .kept .1 .1 .0)
+    (ldl-inverse .ldl-inverse .ensures) (cholesky .cholesky .kept .0) (cholesky .cholesky .ensures) _ (c .enum-told3 .given .1)
 
 enum-told-4 : tie.Need-enum-told-4
 enum-told-4 c = search needs
@@ -195,12 +196,12 @@ returns-3 c =
     let section-into = ldl .before .before .before .before .before .before in
     let inverse-at = section-into .before .before in
     let start = inverse-at .before .before .before in
-    scale-found (start .args .q) (start .args .s) (start .args .k) _ _ (start .args .m .now) _ (start .args .t .now) _ _ (inverse-at .inverse-at .ensures) refl
-    (omega (arith, start .pre .matrices, square-within (start .args .q) (start .args .s) (start .args .k) (start .pre .within), inverse-at .inverse-at .ensures))
-    (omega (arith, start .pre .terms, square-within (start .args .q) (start .args .s) (start .args .k) (start .pre .within)))
-    (section-into .section-into .ensures) (ldl .ldl .kept .1 .1 .0) (ldl .ldl .ensures) _ _ _ (enum-told2 .enum-told2 .given .1)
-    (ldl-inverse .ldl-inverse .kept .1 .1 .0) (ldl-inverse .ldl-inverse .ensures) (cholesky .cholesky .kept .0) (cholesky .cholesky .ensures)
-    (c .enum-told4 .given .1)
+    let args = start .args in
+    scale-found (args .q) (args .s) (args .k) _ _ (args .m .now) _ (args .t .now) _ _ (inverse-at .inverse-at .ensures) refl
+    (omega (arith, start .pre .matrices, square-within (args .q) (args .s) (args .k) (start .pre .within), inverse-at .inverse-at .ensures))
+    (omega (arith, start .pre .terms, square-within (args .q) (args .s) (args .k) (start .pre .within))) (section-into .section-into .ensures)
+    (ldl .ldl .kept .1 .1 .0) (ldl .ldl .ensures) _ _ _ (enum-told2 .enum-told2 .given .1) (ldl-inverse .ldl-inverse .kept .1 .1 .0)
+    (ldl-inverse .ldl-inverse .ensures) (cholesky .cholesky .kept .0) (cholesky .cholesky .ensures) (c .enum-told4 .given .1)
 
 pub block-scale-spec : {M : Type 1} → statement M
 block-scale-spec =

@@ -82,10 +82,9 @@ same-length c = omega arith
 returns : tie.Need-returns Inv-loop μ-loop
 returns c =
     let start = c .before .before .before .before in
-    section-done (start .args .q) (start .args .s) (start .args .k) _ _ (start .args .m .now) _ (c .before .before .inverse-at .ensures)
-    (c .before .loop .inv .0) (c .loop-test .left)
-    (omega (arith, start .pre, square-within (start .args .q) (start .args .s) (start .args .k) (start .pre .1), c .before .before .inverse-at .ensures))
-    (c .before .loop .inv .2)
+    let args = start .args in
+    section-done (args .q) (args .s) (args .k) _ _ (args .m .now) _ (c .before .before .inverse-at .ensures) (c .before .loop .inv .0) (c .loop-test .left)
+    (omega (arith, start .pre, square-within (args .q) (args .s) (args .k) (start .pre .1), c .before .before .inverse-at .ensures)) (c .before .loop .inv .2)
 
 pub section-into-spec : {M : Type 1} → statement M
 section-into-spec =
