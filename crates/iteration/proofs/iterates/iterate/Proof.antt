@@ -7,10 +7,28 @@ use Rattle.iteration.proofs.iterates.iterate.Statement.{statement}
 use Rattle.iteration.proofs.iterates.iterate.Tie as tie
 
 weigh-requires : tie.Need-weigh-requires
-weigh-requires c κs = record { n-few = c .before .before .before .before .before .before .before .before .before .before .before .before .before .pre .lent .sizes .n-few; q-few = c .before .before .before .before .before .before .before .before .before .before .before .before .before .pre .lent .sizes .q-few; y-long = c .before .before .before .before .before .before .before .before .before .before .before .before .before .pre .y-long; offset-fits = c .before .before .before .before .before .before .before .before .before .before .before .before .before .pre .offset-fits; rows-long = c .before .before .before .before .before .before .before .before .before .before .before .before .before .pre .lent .rows-long; terms-long = c .before .before .before .before .before .before .before .before .before .before .before .before .before .pre .lent .terms-long }
+weigh-requires c κs =
+    let start = c .before .before .before .before .before .before .before .before .before .before .before .before .before in
+    let pre = start .pre in
+    record {
+      n-few = pre .lent .sizes .n-few;
+      q-few = pre .lent .sizes .q-few;
+      y-long = pre .y-long;
+      offset-fits = pre .offset-fits;
+      rows-long = pre .lent .rows-long;
+      terms-long = pre .lent .terms-long;
+    }
 
 solve-into-requires : tie.Need-solve-into-requires
-solve-into-requires c κs = (c .before .before .before .before .before .before .before .before .before .before .before .before .before .before .before .before .before .before .before .before .before .pre .ready, (lent-kept (c .before .before .before .before .before .before .before .before .before .before .before .before .before .before .before .before .before .before .before .before .before .pre .lent) (c .before .before .before .before .before .before .before .weigh .kept .1 .1 .1 .1 .1 .1 .1 .1 .1 .0) refl (c .before .before .before .before .before .before .before .weigh .kept .1 .1 .1 .1 .1 .1 .1 .1 .1 .1 .0), (c .before .before .before .before .before .before .before .before .before .before .before .before .before .before .before .before .before .before .before .before .before .pre .offset-fits, c .before .before .before .before .before .before .before .before .before .before .before .before .before .before .before .before .before .before .before .before .before .pre .x-long)))
+solve-into-requires c κs =
+    let weigh = c .before .before .before .before .before .before .before in
+    let start = weigh .before .before .before .before .before .before .before .before .before .before .before .before .before .before in (
+      start .pre .ready,
+      (
+        lent-kept (start .pre .lent) (weigh .weigh .kept .1 .1 .1 .1 .1 .1 .1 .1 .1 .0) refl (weigh .weigh .kept .1 .1 .1 .1 .1 .1 .1 .1 .1 .1 .0),
+        (start .pre .offset-fits, start .pre .x-long),
+      ),
+    )
 
 enum-known-solving : tie.Need-enum-known-solving
 enum-known-solving c = search needs
@@ -25,13 +43,26 @@ same-length-3 : tie.Need-same-length-3
 same-length-3 c = search needs
 
 returns : tie.Need-returns
-returns c = iterate-unsolvable (c .before .before .before .before .before .before .before .before .before .before .before .before .before .before .before .before .before .before .before .before .before .before .before .before .before .before .before .before .before .before .before .args .family) (c .before .before .before .before .before .before .before .before .before .before .before .before .before .before .before .before .before .before .before .before .before .before .before .before .before .before .before .before .before .before .before .args .link) (c .before .before .before .before .before .before .before .before .before .before .before .before .before .before .before .before .before .before .before .before .before .before .before .before .before .before .before .before .before .before .before .args .phi) (c .before .before .before .before .before .before .before .before .before .before .before .before .before .before .before .before .before .before .before .before .before .before .before .before .before .before .before .before .before .before .before .args .n) (c .before .before .before .before .before .before .before .before .before .before .before .before .before .before .before .before .before .before .before .before .before .before .before .before .before .before .before .before .before .before .before .args .p) (c .before .before .before .before .before .before .before .before .before .before .before .before .before .before .before .before .before .before .before .before .before .before .before .before .before .before .before .before .before .before .before .args .q) (c .before .before .before .before .before .before .before .before .before .before .before .before .before .before .before .before .before .before .before .before .before .before .before .before .before .before .before .before .before .before .before .args .shape) (c .before .before .before .before .before .before .before .before .before .before .before .before .before .before .before .before .before .before .before .before .before .before .before .before .before .before .before .before .before .before .before .args .theta .now) (c .before .before .before .before .before .before .before .before .before .before .before .before .before .before .before .before .before .before .before .before .before .before .before .before .before .before .before .before .before .before .before .args .offset .now) (c .before .before .before .before .before .before .before .before .before .before .before .before .before .before .before .before .before .before .before .before .before .before .before .before .before .before .before .before .before .before .before .args .x .now) (c .before .before .before .before .before .before .before .before .before .before .before .before .before .before .before .before .before .before .before .before .before .before .before .before .before .before .before .before .before .before .before .args .y .now) (c .before .before .before .before .before .before .before .before .before .before .before .before .before .before .before .before .before .before .before .before .before .before .before .before .before .before .before .before .before .before .before .args .weights .now) _ (c .before .before .before .before .before .before .before .before .before .before .before .before .before .before .before .before .before .before .before .before .before .before .before .before .before .before .before .before .before .before .before .args .in-second) _ _ _ _ _ _ _ _ _ (c .before .before .before .before .before .before .before .before .before .before .before .before .before .before .before .before .before .before .before .before .before .before .before .before .before .before .before .before .before .before .before .pre .ready .effects) (c .before .before .before .before .before .before .before .before .before .before .before .before .before .before .before .before .before .before .before .before .before .before .before .before .before .before .before .before .before .before .before .pre .lent) (c .before .before .before .before .before .before .before .before .before .before .before .before .before .before .before .before .before .weigh .ensures) (c .before .before .before .before .before .before .before .before .before .solve-into .ensures) _ (c .before .solving .given .1)
+returns c =
+    let solve-into = c .before .before .before .before .before .before .before .before .before in
+    let weigh = solve-into .before .before .before .before .before .before .before .before in
+    let start = weigh .before .before .before .before .before .before .before .before .before .before .before .before .before .before in
+    let args = start .args in
+    iterate-unsolvable (args .family) (args .link) (args .phi) (args .n) (args .p) (args .q) (args .shape) (args .theta .now) (args .offset .now) (args .x .now)
+    (args .y .now) (args .weights .now) _ (args .in-second) _ _ _ _ _ _ _ _ _ (start .pre .ready .effects) (start .pre .lent) (weigh .weigh .ensures)
+    (solve-into .solve-into .ensures) _ (c .before .solving .given .1)
 
 enum-told : tie.Need-enum-told
 enum-told c = search needs
 
 step-requires : tie.Need-step-requires
-step-requires c κs = lent-kept (c .before .before .before .before .before .before .before .before .before .before .before .before .before .before .before .before .before .before .before .before .before .before .before .before .before .before .before .before .before .before .before .before .before .pre .lent) (c .before .before .before .before .before .before .before .before .before .before .before .solve-into .kept .1 .1 .1 .1 .1 .1 .1 .1 .1 .1 .0 ∙ c .before .before .before .before .before .before .before .before .before .before .before .before .before .before .before .before .before .before .before .weigh .kept .1 .1 .1 .1 .1 .1 .1 .1 .1 .0) (c .before .before .before .before .before .before .before .before .before .before .before .solve-into .kept .1 .1 .1 .1 .1 .1 .1 .1 .1 .1 .1 .0) (c .before .before .before .before .before .before .before .before .before .before .before .solve-into .kept .1 .1 .1 .1 .1 .1 .1 .1 .1 .1 .1 .1 .0 ∙ c .before .before .before .before .before .before .before .before .before .before .before .before .before .before .before .before .before .before .before .weigh .kept .1 .1 .1 .1 .1 .1 .1 .1 .1 .1 .0)
+step-requires c κs =
+    let solve-into = c .before .before .before .before .before .before .before .before .before .before .before in
+    let weigh = solve-into .before .before .before .before .before .before .before .before in
+    let start = weigh .before .before .before .before .before .before .before .before .before .before .before .before .before .before in
+    lent-kept (start .pre .lent) (solve-into .solve-into .kept .1 .1 .1 .1 .1 .1 .1 .1 .1 .1 .0 ∙ weigh .weigh .kept .1 .1 .1 .1 .1 .1 .1 .1 .1 .0)
+    (solve-into .solve-into .kept .1 .1 .1 .1 .1 .1 .1 .1 .1 .1 .1 .0)
+    (solve-into .solve-into .kept .1 .1 .1 .1 .1 .1 .1 .1 .1 .1 .1 .1 .0 ∙ weigh .weigh .kept .1 .1 .1 .1 .1 .1 .1 .1 .1 .1 .0)
 
 enum-known-end : tie.Need-enum-known-end
 enum-known-end c = search needs
@@ -46,7 +77,16 @@ same-length-6 : tie.Need-same-length-6
 same-length-6 c = search needs
 
 returns-2 : tie.Need-returns-2
-returns-2 c = iterate-moved (c .before .before .before .before .before .before .before .before .before .before .before .before .before .before .before .before .before .before .before .before .before .before .before .before .before .before .before .before .before .before .before .before .before .before .before .before .before .before .before .args .family) (c .before .before .before .before .before .before .before .before .before .before .before .before .before .before .before .before .before .before .before .before .before .before .before .before .before .before .before .before .before .before .before .before .before .before .before .before .before .before .before .args .link) (c .before .before .before .before .before .before .before .before .before .before .before .before .before .before .before .before .before .before .before .before .before .before .before .before .before .before .before .before .before .before .before .before .before .before .before .before .before .before .before .args .phi) (c .before .before .before .before .before .before .before .before .before .before .before .before .before .before .before .before .before .before .before .before .before .before .before .before .before .before .before .before .before .before .before .before .before .before .before .before .before .before .before .args .n) (c .before .before .before .before .before .before .before .before .before .before .before .before .before .before .before .before .before .before .before .before .before .before .before .before .before .before .before .before .before .before .before .before .before .before .before .before .before .before .before .args .p) (c .before .before .before .before .before .before .before .before .before .before .before .before .before .before .before .before .before .before .before .before .before .before .before .before .before .before .before .before .before .before .before .before .before .before .before .before .before .before .before .args .q) (c .before .before .before .before .before .before .before .before .before .before .before .before .before .before .before .before .before .before .before .before .before .before .before .before .before .before .before .before .before .before .before .before .before .before .before .before .before .before .before .args .shape) (c .before .before .before .before .before .before .before .before .before .before .before .before .before .before .before .before .before .before .before .before .before .before .before .before .before .before .before .before .before .before .before .before .before .before .before .before .before .before .before .args .theta .now) (c .before .before .before .before .before .before .before .before .before .before .before .before .before .before .before .before .before .before .before .before .before .before .before .before .before .before .before .before .before .before .before .before .before .before .before .before .before .before .before .args .offset .now) (c .before .before .before .before .before .before .before .before .before .before .before .before .before .before .before .before .before .before .before .before .before .before .before .before .before .before .before .before .before .before .before .before .before .before .before .before .before .before .before .args .x .now) (c .before .before .before .before .before .before .before .before .before .before .before .before .before .before .before .before .before .before .before .before .before .before .before .before .before .before .before .before .before .before .before .before .before .before .before .before .before .before .before .args .y .now) (c .before .before .before .before .before .before .before .before .before .before .before .before .before .before .before .before .before .before .before .before .before .before .before .before .before .before .before .before .before .before .before .before .before .before .before .before .before .before .before .args .weights .now) _ (c .before .before .before .before .before .before .before .before .before .before .before .before .before .before .before .before .before .before .before .before .before .before .before .before .before .before .before .before .before .before .before .before .before .before .before .before .before .before .before .args .in-second) _ _ _ _ _ _ _ _ _ (c .before .before .before .before .before .before .before .before .before .before .before .before .before .before .before .before .before .before .before .before .before .before .before .before .before .before .before .before .before .before .before .before .before .before .before .before .before .before .before .pre .ready .effects) (c .before .before .before .before .before .before .before .before .before .before .before .before .before .before .before .before .before .before .before .before .before .before .before .before .before .before .before .before .before .before .before .before .before .before .before .before .before .before .before .pre .lent) (c .before .before .before .before .before .before .before .before .before .before .before .before .before .before .before .before .before .before .before .before .before .before .before .before .before .weigh .ensures) (c .before .before .before .before .before .before .before .before .before .before .before .before .before .before .before .before .before .solve-into .ensures) _ _ _ _ (c .before .before .before .before .before .before .before .before .before .enum-told .given .1) (c .before .end .given .1) (c .before .before .before .before .before .step .ensures)
+returns-2 c =
+    let step = c .before .before .before .before .before in
+    let at-enum-told = step .before .before .before .before in
+    let solve-into = at-enum-told .before .before .before .before .before .before .before .before in
+    let weigh = solve-into .before .before .before .before .before .before .before .before in
+    let start = weigh .before .before .before .before .before .before .before .before .before .before .before .before .before .before in
+    let args = start .args in
+    iterate-moved (args .family) (args .link) (args .phi) (args .n) (args .p) (args .q) (args .shape) (args .theta .now) (args .offset .now) (args .x .now)
+    (args .y .now) (args .weights .now) _ (args .in-second) _ _ _ _ _ _ _ _ _ (start .pre .ready .effects) (start .pre .lent) (weigh .weigh .ensures)
+    (solve-into .solve-into .ensures) _ _ _ _ (at-enum-told .enum-told .given .1) (c .before .end .given .1) (step .step .ensures)
 
 enum-known-end-2 : tie.Need-enum-known-end-2
 enum-known-end-2 c = search needs
@@ -61,7 +101,16 @@ same-length-9 : tie.Need-same-length-9
 same-length-9 c = search needs
 
 returns-3 : tie.Need-returns-3
-returns-3 c = iterate-stuck (c .before .before .before .before .before .before .before .before .before .before .before .before .before .before .before .before .before .before .before .before .before .before .before .before .before .before .before .before .before .before .before .before .before .before .before .before .before .before .before .args .family) (c .before .before .before .before .before .before .before .before .before .before .before .before .before .before .before .before .before .before .before .before .before .before .before .before .before .before .before .before .before .before .before .before .before .before .before .before .before .before .before .args .link) (c .before .before .before .before .before .before .before .before .before .before .before .before .before .before .before .before .before .before .before .before .before .before .before .before .before .before .before .before .before .before .before .before .before .before .before .before .before .before .before .args .phi) (c .before .before .before .before .before .before .before .before .before .before .before .before .before .before .before .before .before .before .before .before .before .before .before .before .before .before .before .before .before .before .before .before .before .before .before .before .before .before .before .args .n) (c .before .before .before .before .before .before .before .before .before .before .before .before .before .before .before .before .before .before .before .before .before .before .before .before .before .before .before .before .before .before .before .before .before .before .before .before .before .before .before .args .p) (c .before .before .before .before .before .before .before .before .before .before .before .before .before .before .before .before .before .before .before .before .before .before .before .before .before .before .before .before .before .before .before .before .before .before .before .before .before .before .before .args .q) (c .before .before .before .before .before .before .before .before .before .before .before .before .before .before .before .before .before .before .before .before .before .before .before .before .before .before .before .before .before .before .before .before .before .before .before .before .before .before .before .args .shape) (c .before .before .before .before .before .before .before .before .before .before .before .before .before .before .before .before .before .before .before .before .before .before .before .before .before .before .before .before .before .before .before .before .before .before .before .before .before .before .before .args .theta .now) (c .before .before .before .before .before .before .before .before .before .before .before .before .before .before .before .before .before .before .before .before .before .before .before .before .before .before .before .before .before .before .before .before .before .before .before .before .before .before .before .args .offset .now) (c .before .before .before .before .before .before .before .before .before .before .before .before .before .before .before .before .before .before .before .before .before .before .before .before .before .before .before .before .before .before .before .before .before .before .before .before .before .before .before .args .x .now) (c .before .before .before .before .before .before .before .before .before .before .before .before .before .before .before .before .before .before .before .before .before .before .before .before .before .before .before .before .before .before .before .before .before .before .before .before .before .before .before .args .y .now) (c .before .before .before .before .before .before .before .before .before .before .before .before .before .before .before .before .before .before .before .before .before .before .before .before .before .before .before .before .before .before .before .before .before .before .before .before .before .before .before .args .weights .now) _ (c .before .before .before .before .before .before .before .before .before .before .before .before .before .before .before .before .before .before .before .before .before .before .before .before .before .before .before .before .before .before .before .before .before .before .before .before .before .before .before .args .in-second) _ _ _ _ _ _ _ _ _ (c .before .before .before .before .before .before .before .before .before .before .before .before .before .before .before .before .before .before .before .before .before .before .before .before .before .before .before .before .before .before .before .before .before .before .before .before .before .before .before .pre .ready .effects) (c .before .before .before .before .before .before .before .before .before .before .before .before .before .before .before .before .before .before .before .before .before .before .before .before .before .before .before .before .before .before .before .before .before .before .before .before .before .before .before .pre .lent) (c .before .before .before .before .before .before .before .before .before .before .before .before .before .before .before .before .before .before .before .before .before .before .before .before .before .weigh .ensures) (c .before .before .before .before .before .before .before .before .before .before .before .before .before .before .before .before .before .solve-into .ensures) _ _ _ (c .before .before .before .before .before .before .before .before .before .enum-told .given .1) (c .before .end2 .given .1) (c .before .before .before .before .before .step .ensures)
+returns-3 c =
+    let step = c .before .before .before .before .before in
+    let at-enum-told = step .before .before .before .before in
+    let solve-into = at-enum-told .before .before .before .before .before .before .before .before in
+    let weigh = solve-into .before .before .before .before .before .before .before .before in
+    let start = weigh .before .before .before .before .before .before .before .before .before .before .before .before .before .before in
+    let args = start .args in
+    iterate-stuck (args .family) (args .link) (args .phi) (args .n) (args .p) (args .q) (args .shape) (args .theta .now) (args .offset .now) (args .x .now)
+    (args .y .now) (args .weights .now) _ (args .in-second) _ _ _ _ _ _ _ _ _ (start .pre .ready .effects) (start .pre .lent) (weigh .weigh .ensures)
+    (solve-into .solve-into .ensures) _ _ _ (at-enum-told .enum-told .given .1) (c .before .end2 .given .1) (step .step .ensures)
 
 pub iterate-spec : {M : Type 1} → statement M
 iterate-spec =

@@ -11,7 +11,9 @@ normal-at-requires : tie.Need-normal-at-requires
 normal-at-requires c κs = omega (arith, c .before .before .pre, laid-out (c .before .before .pre .0))
 
 factor-normal-requires : tie.Need-factor-normal-requires
-factor-normal-requires c κs = omega (arith, c .before .before .before .before .pre, laid-out (c .before .before .before .before .pre .0), c .before .normal-at .ensures)
+factor-normal-requires c κs =
+    let start = c .before .before .before .before in
+    omega (arith, start .pre, laid-out (start .pre .0), c .before .normal-at .ensures)
 
 enum-known-found : tie.Need-enum-known-found
 enum-known-found c = search needs
@@ -20,38 +22,70 @@ same-length : tie.Need-same-length
 same-length c = search needs
 
 returns : tie.Need-returns
-returns c = root-failed _ _ _ _ _ _ _ _ _ (c .before .before .before .before .before .before .before .normal-at .ensures) (c .before .found .given .1) (c .before .before .before .before .before .factor-normal .ensures)
+returns c =
+    let factor-normal = c .before .before .before .before .before in
+    let normal-at = factor-normal .before .before in
+    root-failed _ _ _ _ _ _ _ _ _ (normal-at .normal-at .ensures) (c .before .found .given .1) (factor-normal .factor-normal .ensures)
 
 enum-told : tie.Need-enum-told
 enum-told c = search needs
 
 mul-end : tie.Need-mul-end
 mul-end c =
-    let s = c .before .before .before .before .before .before .before .before .before in
-    omega (arith, laid-out (s .pre .0) .terms, c .before .before .before .before .before .before .normal-at .ensures)
+    let normal-at = c .before .before .before .before .before .before in
+    let start = normal-at .before .before .before in
+    omega (arith, laid-out (start .pre .0) .terms, normal-at .normal-at .ensures)
 
 add-end : tie.Need-add-end
 add-end c =
-    let s = c .before .before .before .before .before .before .before .before .before in
-    omega (arith, laid-out (s .pre .0) .terms, c .before .before .before .before .before .before .normal-at .ensures)
+    let normal-at = c .before .before .before .before .before .before in
+    let start = normal-at .before .before .before in
+    omega (arith, laid-out (start .pre .0) .terms, normal-at .normal-at .ensures)
 
 beta-at-requires : tie.Need-beta-at-requires
-beta-at-requires c κs = omega (arith, c .before .before .before .before .before .before .before .before .before .pre, laid-out (c .before .before .before .before .before .before .before .before .before .pre .0), c .before .before .before .before .before .before .normal-at .ensures)
+beta-at-requires c κs =
+    let normal-at = c .before .before .before .before .before .before in
+    let start = normal-at .before .before .before in
+    omega (arith, start .pre, laid-out (start .pre .0), normal-at .normal-at .ensures)
 
 mul-solve-beta : tie.Need-mul-solve-beta
-mul-solve-beta c = omega (arith, c .before .before .before .before .before .before .before .before .before .before .pre, laid-out (c .before .before .before .before .before .before .before .before .before .before .pre .0), c .before .before .before .before .before .before .before .normal-at .ensures, c .beta-at .ensures)
+mul-solve-beta c =
+    let normal-at = c .before .before .before .before .before .before .before in
+    let start = normal-at .before .before .before in
+    omega (arith, start .pre, laid-out (start .pre .0), normal-at .normal-at .ensures, c .beta-at .ensures)
 
 sub-solve-beta : tie.Need-sub-solve-beta
-sub-solve-beta c = omega (arith, c .before .before .before .before .before .before .before .before .before .before .pre, laid-out (c .before .before .before .before .before .before .before .before .before .before .pre .0), c .before .before .before .before .before .before .before .normal-at .ensures, c .beta-at .ensures)
+sub-solve-beta c =
+    let normal-at = c .before .before .before .before .before .before .before in
+    let start = normal-at .before .before .before in
+    omega (arith, start .pre, laid-out (start .pre .0), normal-at .normal-at .ensures, c .beta-at .ensures)
 
 part-solve-beta-start : tie.Need-part-solve-beta-start
-part-solve-beta-start c = omega (arith, c .before .before .before .before .before .before .before .before .before .before .before .pre, laid-out (c .before .before .before .before .before .before .before .before .before .before .before .pre .0), c .before .before .before .before .before .before .before .before .normal-at .ensures, c .before .beta-at .ensures)
+part-solve-beta-start c =
+    let normal-at = c .before .before .before .before .before .before .before .before in
+    let start = normal-at .before .before .before in
+    omega (arith, start .pre, laid-out (start .pre .0), normal-at .normal-at .ensures, c .before .beta-at .ensures)
 
 part-solve-beta-end : tie.Need-part-solve-beta-end
-part-solve-beta-end c = omega (arith, c .before .before .before .before .before .before .before .before .before .before .before .pre .1, laid-out (c .before .before .before .before .before .before .before .before .before .before .before .pre .0) .terms .normal, laid-out (c .before .before .before .before .before .before .before .before .before .before .before .pre .0) .terms .spare, c .before .before .before .before .before .before .before .before .normal-at .ensures, c .before .before .before .before .before .before .factor-normal .kept)
+part-solve-beta-end c =
+    let factor-normal = c .before .before .before .before .before .before in
+    let normal-at = factor-normal .before .before in
+    let start = normal-at .before .before .before in
+    omega (
+      arith,
+      start .pre .1,
+      laid-out (start .pre .0) .terms .normal,
+      laid-out (start .pre .0) .terms .spare,
+      normal-at .normal-at .ensures,
+      factor-normal .factor-normal .kept,
+    )
 
 solve-beta-requires : tie.Need-solve-beta-requires
-solve-beta-requires c κs = omega (arith, c .before .before .before .before .before .before .before .before .before .before .before .before .before .pre, laid-out (c .before .before .before .before .before .before .before .before .before .before .before .before .before .pre .0), c .before .before .before .before .before .before .before .before .before .before .normal-at .ensures, c .before .before .before .beta-at .ensures)
+solve-beta-requires c κs =
+    let beta-at = c .before .before .before in
+    let normal-at = beta-at .before .before .before .before .before .before .before in
+    let start = normal-at .before .before .before in
+    omega (arith, start .pre, laid-out (start .pre .0), normal-at .normal-at .ensures, beta-at .beta-at .ensures)
 
 same-length-2 : tie.Need-same-length-2
 same-length-2 c = search needs
@@ -60,7 +94,13 @@ same-length-3 : tie.Need-same-length-3
 same-length-3 c = search needs
 
 returns-2 : tie.Need-returns-2
-returns-2 c = root-found _ _ _ _ _ _ _ _ _ _ _ (c .before .before .before .before .before .before .before .before .before .before .before .before .before .normal-at .ensures) refl (c .before .before .before .before .before .before .beta-at .ensures) (c .before .before .before .before .before .before .before .enum-told .given .1) (c .before .before .before .before .before .before .before .before .before .before .before .factor-normal .ensures) (c .before .before .solve-beta .ensures)
+returns-2 c =
+    let beta-at = c .before .before .before .before .before .before in
+    let at-enum-told = beta-at .before in
+    let factor-normal = at-enum-told .before .before .before .before in
+    let normal-at = factor-normal .before .before in
+    root-found _ _ _ _ _ _ _ _ _ _ _ (normal-at .normal-at .ensures) refl (beta-at .beta-at .ensures) (at-enum-told .enum-told .given .1)
+    (factor-normal .factor-normal .ensures) (c .before .before .solve-beta .ensures)
 
 pub solve-root-spec : {M : Type 1} → statement M
 solve-root-spec =

@@ -12,13 +12,17 @@ weighted-row-requires : tie.Need-weighted-row-requires
 weighted-row-requires c κs = c .before .before .before .before .before .before .before .before .pre .1 .0 .sizes .n-few
 
 add-end : tie.Need-add-end
-add-end c = omega (arith, row-few (c .before .before .before .before .before .before .before .before .before .pre .1 .0 .sizes) {k = c .weighted-row .result} (omega (arith, c .weighted-row .ensures)))
+add-end c =
+    let start = c .before .before .before .before .before .before .before .before .before in
+    omega (arith, row-few (start .pre .1 .0 .sizes) {k = c .weighted-row .result} (omega (arith, c .weighted-row .ensures)))
 
 mul-square : tie.Need-mul-square
 mul-square c = search needs
 
 wy-at-requires : tie.Need-wy-at-requires
-wy-at-requires c κs = (c .before .before .before .before .before .before .before .before .before .pre .1 .0 .sizes .p-few, c .before .before .before .before .before .before .before .before .before .pre .1 .0 .sizes .q-few)
+wy-at-requires c κs =
+    let start = c .before .before .before .before .before .before .before .before .before in
+    (start .pre .1 .0 .sizes .p-few, start .pre .1 .0 .sizes .q-few)
 
 mul-solve-side : tie.Need-mul-solve-side
 mul-solve-side c = search needs
@@ -39,25 +43,42 @@ part-solve-side-start-2 : tie.Need-part-solve-side-start-2
 part-solve-side-start-2 c = search needs
 
 part-solve-side-end-2 : tie.Need-part-solve-side-end-2
-part-solve-side-end-2 c = omega (arith, factor-in (c .before .before .before .before .before .before .before .before .before .before .before .before .before .pre .1 .0 .sizes) {k = 0} (c .before .before .before .before .before .before .before .before .before .before .before .before .before .args .t .now) refl (c .before .before .before .before .before .before .before .before .before .before .before .before .before .pre .1 .0 .terms-long))
+part-solve-side-end-2 c =
+    let start = c .before .before .before .before .before .before .before .before .before .before .before .before .before in
+    omega (arith, factor-in (start .pre .1 .0 .sizes) {k = 0} (start .args .t .now) refl (start .pre .1 .0 .terms-long))
 
 solve-side-requires : tie.Need-solve-side-requires
 solve-side-requires c κs = search needs
 
 normal-columns-requires : tie.Need-normal-columns-requires
-normal-columns-requires c κs = (c .before .before .before .before .before .before .before .before .before .before .before .before .before .before .before .before .before .before .before .before .before .pre .0, (lent-kept (c .before .before .before .before .before .before .before .before .before .before .before .before .before .before .before .before .before .before .before .before .before .pre .1 .0) refl (c .before .before .before .before .before .solve-side .kept .1 .1 .1 .1 .1 .1 .1 .1 .1 .1 .0) refl, c .before .before .before .before .before .before .before .before .before .before .before .before .before .before .before .before .before .before .before .before .before .pre .1 .1))
+normal-columns-requires c κs =
+    let solve-side = c .before .before .before .before .before in
+    let start = solve-side .before .before .before .before .before .before .before .before .before .before .before .before .before .before .before .before in
+    (start .pre .0, (lent-kept (start .pre .1 .0) refl (solve-side .solve-side .kept .1 .1 .1 .1 .1 .1 .1 .1 .1 .1 .0) refl, start .pre .1 .1))
 
 same-length : tie.Need-same-length
 same-length c = c .before .before .before .before .before .before .normal-columns .kept .1 .1 .1 .1 .1 .1 .1 .1 .1 .0
 
 same-length-2 : tie.Need-same-length-2
-same-length-2 c = c .before .before .before .before .before .before .normal-columns .kept .1 .1 .1 .1 .1 .1 .1 .1 .1 .1 .0 ∙ c .before .before .before .before .before .before .before .before .before .before .before .before .solve-side .kept .1 .1 .1 .1 .1 .1 .1 .1 .1 .1 .0
+same-length-2 c =
+    let normal-columns = c .before .before .before .before .before .before in
+    let solve-side = normal-columns .before .before .before .before .before .before in
+    normal-columns .normal-columns .kept .1 .1 .1 .1 .1 .1 .1 .1 .1 .1 .0 ∙ solve-side .solve-side .kept .1 .1 .1 .1 .1 .1 .1 .1 .1 .1 .0
 
 same-length-3 : tie.Need-same-length-3
 same-length-3 c = c .before .before .before .before .before .before .normal-columns .kept .1 .1 .1 .1 .1 .1 .1 .1 .1 .1 .1 .0
 
 returns : tie.Need-returns
-returns c = sides-made (c .before .before .before .before .before .before .before .before .before .before .before .before .before .before .before .before .before .before .before .before .before .before .before .before .before .before .before .before .args .n) (c .before .before .before .before .before .before .before .before .before .before .before .before .before .before .before .before .before .before .before .before .before .before .before .before .before .before .before .before .args .p) (c .before .before .before .before .before .before .before .before .before .before .before .before .before .before .before .before .before .before .before .before .before .before .before .before .before .before .before .before .args .q) (c .before .before .before .before .before .before .before .before .before .before .before .before .before .before .before .before .before .before .before .weighted-row .result) _ (c .before .before .before .before .before .before .before .before .before .before .before .before .before .before .before .before .before .before .wy-at .result) (c .before .before .before .before .before .before .before .before .before .before .before .before .before .before .before .before .before .before .before .before .before .before .before .before .before .before .before .before .args .shape) (c .before .before .before .before .before .before .before .before .before .before .before .before .before .before .before .before .before .before .before .before .before .before .before .before .before .before .before .before .args .theta .now) (c .before .before .before .before .before .before .before .before .before .before .before .before .before .before .before .before .before .before .before .before .before .before .before .before .before .before .before .before .args .x .now) _ _ _ _ _ _ _ _ (c .before .before .before .before .before .before .before .before .before .before .before .before .before .before .before .before .before .before .before .before .before .before .before .before .before .before .before .before .pre .0 .effects) (c .before .before .before .before .before .before .before .before .before .before .before .before .before .before .before .before .before .before .before .before .before .before .before .before .before .before .before .before .pre .1 .0) (c .before .before .before .before .before .before .before .before .before .before .before .before .before .before .before .before .before .before .before .weighted-row .ensures) refl (c .before .before .before .before .before .before .before .before .before .before .before .before .before .before .before .before .before .before .wy-at .ensures) (c .before .before .before .before .before .before .before .before .before .before .before .before .solve-side .ensures) (c .before .before .before .before .before .before .normal-columns .ensures)
+returns c =
+    let normal-columns = c .before .before .before .before .before .before in
+    let solve-side = normal-columns .before .before .before .before .before .before in
+    let wy-at = solve-side .before .before .before .before .before .before in
+    let weighted-row = wy-at .before in
+    let start = weighted-row .before .before .before .before .before .before .before .before .before in
+    let args = start .args in
+    sides-made (args .n) (args .p) (args .q) (weighted-row .weighted-row .result) _ (wy-at .wy-at .result) (args .shape) (args .theta .now) (args .x .now) _ _ _
+    _ _ _ _ _ (start .pre .0 .effects) (start .pre .1 .0) (weighted-row .weighted-row .ensures) refl (wy-at .wy-at .ensures) (solve-side .solve-side .ensures)
+    (normal-columns .normal-columns .ensures)
 
 pub right-sides-spec : {M : Type 1} → statement M
 right-sides-spec =

@@ -12,7 +12,15 @@ w-at-requires : tie.Need-w-at-requires
 w-at-requires c κs = c .before .before .before .before .before .before .before .before .before .pre .1 .0 .sizes .q-few
 
 factor-system-requires : tie.Need-factor-system-requires
-factor-system-requires c κs = (c .before .before .before .before .before .before .before .before .before .before .before .before .pre .0, (omega (arith, c .before .before .w-at .ensures), w-in (c .before .before .before .before .before .before .before .before .before .before .before .before .pre .1 .0 .sizes) (c .before .before .before .before .before .before .before .before .before .before .before .before .args .t .now) (c .before .before .w-at .ensures) (c .before .before .before .before .before .before .before .before .before .before .before .before .pre .1 .0 .terms-long), omega (arith, system-in (c .before .before .before .before .before .before .before .before .before .before .before .before .pre .1 .0 .sizes) {k = 0} (c .before .before .before .before .before .before .before .before .before .before .before .before .args .m .now) refl (c .before .before .before .before .before .before .before .before .before .before .before .before .pre .1 .0 .matrices-long))))
+factor-system-requires c κs =
+    let start = c .before .before .before .before .before .before .before .before .before .before .before .before in (
+      start .pre .0,
+      (
+        omega (arith, c .before .before .w-at .ensures),
+        w-in (start .pre .1 .0 .sizes) (start .args .t .now) (c .before .before .w-at .ensures) (start .pre .1 .0 .terms-long),
+        omega (arith, system-in (start .pre .1 .0 .sizes) {k = 0} (start .args .m .now) refl (start .pre .1 .0 .matrices-long)),
+      ),
+    )
 
 enum-told : tie.Need-enum-told
 enum-told c = search needs
@@ -24,16 +32,42 @@ same-length-2 : tie.Need-same-length-2
 same-length-2 c = search needs
 
 returns : tie.Need-returns
-returns c = system-ends (c .before .before .before .before .before .before .before .before .before .before .before .before .before .before .before .before .before .before .before .args .n) (c .before .before .before .before .before .before .before .before .before .before .before .before .before .before .before .before .before .before .before .args .p) (c .before .before .before .before .before .before .before .before .before .before .before .before .before .before .before .before .before .before .before .args .q) (c .before .before .before .before .before .before .before .before .before .w-at .result) _ (c .before .before .before .before .before .before .before .before .before .before .before .before .before .before .before .before .before .before .before .args .shape) (c .before .before .before .before .before .before .before .before .before .before .before .before .before .before .before .before .before .before .before .args .theta .now) (c .before .before .before .before .before .before .before .before .before .before .before .before .before .before .before .before .before .before .before .args .offset .now) (c .before .before .before .before .before .before .before .before .before .before .before .before .before .before .before .before .before .before .before .args .x .now) _ _ _ _ _ _ _ (c .before .before .before .before .before .before .before .before .before .before .before .before .before .before .before .before .before .before .before .pre .0 .effects) (c .before .before .before .before .before .before .before .before .before .before .before .before .before .before .before .before .before .before .before .pre .1 .0) (c .before .before .before .before .before .before .before .before .before .w-at .ensures) (c .before .before .before .before .before .before .factor-system .ensures) (c .enum-told .given .1)
+returns c =
+    let factor-system = c .before .before .before .before .before .before in
+    let w-at = factor-system .before .before .before in
+    let start = w-at .before .before .before .before .before .before .before .before .before .before in
+    let args = start .args in
+    system-ends (args .n) (args .p) (args .q) (w-at .w-at .result) _ (args .shape) (args .theta .now) (args .offset .now) (args .x .now) _ _ _ _ _ _ _
+    (start .pre .0 .effects) (start .pre .1 .0) (w-at .w-at .ensures) (factor-system .factor-system .ensures) (c .enum-told .given .1)
 
 enum-told-2 : tie.Need-enum-told-2
 enum-told-2 c = search needs
 
 right-sides-requires : tie.Need-right-sides-requires
-right-sides-requires c κs = (c .before .before .before .before .before .before .before .before .before .before .before .before .before .before .before .before .before .before .before .before .before .before .pre .0, (lent-kept (c .before .before .before .before .before .before .before .before .before .before .before .before .before .before .before .before .before .before .before .before .before .before .pre .1 .0) refl (c .before .before .before .before .before .before .before .before .before .factor-system .kept .1 .1 .1 .1 .1 .1 .1 .1 .1 .0) (c .before .before .before .before .before .before .before .before .before .factor-system .kept .1 .1 .1 .1 .1 .1 .1 .1 .0), c .before .before .before .before .before .before .before .before .before .before .before .before .before .before .before .before .before .before .before .before .before .before .pre .1 .1 .1))
+right-sides-requires c κs =
+    let factor-system = c .before .before .before .before .before .before .before .before .before in
+    let start = factor-system .before .before .before .before .before .before .before .before .before .before .before .before .before in (
+      start .pre .0,
+      (
+        lent-kept (start .pre .1 .0) refl (factor-system .factor-system .kept .1 .1 .1 .1 .1 .1 .1 .1 .1 .0)
+            (factor-system .factor-system .kept .1 .1 .1 .1 .1 .1 .1 .1 .0),
+        start .pre .1 .1 .1,
+      ),
+    )
 
 solve-root-requires : tie.Need-solve-root-requires
-solve-root-requires c κs = (c .before .before .before .before .before .before .before .before .before .before .before .before .before .before .before .before .before .before .before .before .before .before .before .before .before .before .before .before .before .before .before .pre .1 .0 .sizes, (rw (c .before .before .before .before .before .before .before .before .right-sides .kept .1 .1 .1 .1 .1 .1 .1 .1 .1 .1 .0 ∙ c .before .before .before .before .before .before .before .before .before .before .before .before .before .before .before .before .before .before .factor-system .kept .1 .1 .1 .1 .1 .1 .1 .1 .1 .0) (c .before .before .before .before .before .before .before .before .before .before .before .before .before .before .before .before .before .before .before .before .before .before .before .before .before .before .before .before .before .before .before .pre .1 .0 .matrices-long), rw (c .before .before .before .before .before .before .before .before .right-sides .kept .1 .1 .1 .1 .1 .1 .1 .1 .1 .1 .1 .0 ∙ c .before .before .before .before .before .before .before .before .before .before .before .before .before .before .before .before .before .before .factor-system .kept .1 .1 .1 .1 .1 .1 .1 .1 .0) (c .before .before .before .before .before .before .before .before .before .before .before .before .before .before .before .before .before .before .before .before .before .before .before .before .before .before .before .before .before .before .before .pre .1 .0 .terms-long)))
+solve-root-requires c κs =
+    let right-sides = c .before .before .before .before .before .before .before .before in
+    let factor-system = right-sides .before .before .before .before .before .before .before .before .before .before in
+    let start = factor-system .before .before .before .before .before .before .before .before .before .before .before .before .before in (
+      start .pre .1 .0 .sizes,
+      (
+        rw (right-sides .right-sides .kept .1 .1 .1 .1 .1 .1 .1 .1 .1 .1 .0 ∙ factor-system .factor-system .kept .1 .1 .1 .1 .1 .1 .1 .1 .1 .0)
+            (start .pre .1 .0 .matrices-long),
+        rw (right-sides .right-sides .kept .1 .1 .1 .1 .1 .1 .1 .1 .1 .1 .1 .0 ∙ factor-system .factor-system .kept .1 .1 .1 .1 .1 .1 .1 .1 .0)
+            (start .pre .1 .0 .terms-long),
+      ),
+    )
 
 enum-told-3 : tie.Need-enum-told-3
 enum-told-3 c = search needs
@@ -48,25 +82,77 @@ same-length-5 : tie.Need-same-length-5
 same-length-5 c = search needs
 
 returns-2 : tie.Need-returns-2
-returns-2 c = normal-ends (c .before .before .before .before .before .before .before .before .before .before .before .before .before .before .before .before .before .before .before .before .before .before .before .before .before .before .before .before .before .before .before .before .before .before .before .before .before .before .args .n) (c .before .before .before .before .before .before .before .before .before .before .before .before .before .before .before .before .before .before .before .before .before .before .before .before .before .before .before .before .before .before .before .before .before .before .before .before .before .before .args .p) (c .before .before .before .before .before .before .before .before .before .before .before .before .before .before .before .before .before .before .before .before .before .before .before .before .before .before .before .before .before .before .before .before .before .before .before .before .before .before .args .q) (c .before .before .before .before .before .before .before .before .before .before .before .before .before .before .before .before .before .before .before .before .before .before .before .before .before .before .before .before .w-at .result) _ (c .before .before .before .before .before .before .before .before .before .before .before .before .before .before .before .before .before .before .before .before .before .before .before .before .before .before .before .before .before .before .before .before .before .before .before .before .before .before .args .shape) (c .before .before .before .before .before .before .before .before .before .before .before .before .before .before .before .before .before .before .before .before .before .before .before .before .before .before .before .before .before .before .before .before .before .before .before .before .before .before .args .theta .now) (c .before .before .before .before .before .before .before .before .before .before .before .before .before .before .before .before .before .before .before .before .before .before .before .before .before .before .before .before .before .before .before .before .before .before .before .before .before .before .args .offset .now) (c .before .before .before .before .before .before .before .before .before .before .before .before .before .before .before .before .before .before .before .before .before .before .before .before .before .before .before .before .before .before .before .before .before .before .before .before .before .before .args .x .now) _ _ _ _ _ _ _ (c .before .before .before .before .before .before .before .before .before .before .before .before .before .before .before .before .before .before .before .before .before .before .before .before .before .before .before .before .before .before .before .before .before .before .before .before .before .before .pre .0 .effects) (c .before .before .before .before .before .before .before .before .before .before .before .before .before .before .before .before .before .before .before .before .before .before .before .before .before .before .before .before .before .before .before .before .before .before .before .before .before .before .pre .1 .0) (c .before .before .before .before .before .before .before .before .before .before .before .before .before .before .before .before .before .before .before .before .before .before .before .before .before .before .before .before .w-at .ensures) (c .before .before .before .before .before .before .before .before .before .before .before .before .before .before .before .before .before .before .before .before .before .before .before .before .before .factor-system .ensures) _ _ _ _ _ _ (c .before .before .before .before .before .before .before .before .before .before .before .before .before .before .before .before .before .before .before .enum-told2 .given .1) (c .before .before .before .before .before .before .before .before .before .before .before .before .before .before .before .right-sides .ensures) (c .before .before .before .before .before .before .solve-root .ensures) (c .enum-told3 .given .1)
+returns-2 c =
+    let solve-root = c .before .before .before .before .before .before in
+    let right-sides = solve-root .before .before .before .before .before .before .before .before .before in
+    let enum-told2 = right-sides .before .before .before .before in
+    let factor-system = enum-told2 .before .before .before .before .before .before in
+    let w-at = factor-system .before .before .before in
+    let start = w-at .before .before .before .before .before .before .before .before .before .before in
+    let args = start .args in
+    normal-ends (args .n) (args .p) (args .q) (w-at .w-at .result) _ (args .shape) (args .theta .now) (args .offset .now) (args .x .now) _ _ _ _ _ _ _
+    (start .pre .0 .effects) (start .pre .1 .0) (w-at .w-at .ensures) (factor-system .factor-system .ensures) _ _ _ _ _ _ (enum-told2 .enum-told2 .given .1)
+    (right-sides .right-sides .ensures) (solve-root .solve-root .ensures) (c .enum-told3 .given .1)
 
 enum-told-4 : tie.Need-enum-told-4
 enum-told-4 c = search needs
 
 raw-into-requires : tie.Need-raw-into-requires
-raw-into-requires c κs = (c .before .before .before .before .before .before .before .before .before .before .before .before .before .before .before .before .before .before .before .before .before .before .before .before .before .before .before .before .before .before .before .before .before .before .before .before .before .before .before .before .before .pre .0, (lent-kept (c .before .before .before .before .before .before .before .before .before .before .before .before .before .before .before .before .before .before .before .before .before .before .before .before .before .before .before .before .before .before .before .before .before .before .before .before .before .before .before .before .before .pre .1 .0) (c .before .before .before .before .before .before .before .before .before .before .before .before .before .before .before .before .before .before .right-sides .kept .1 .1 .1 .1 .1 .1 .1 .1 .1 .0) (c .before .before .before .before .before .before .before .before .before .solve-root .kept .1 .1 .1 .0 ∙ c .before .before .before .before .before .before .before .before .before .before .before .before .before .before .before .before .before .before .right-sides .kept .1 .1 .1 .1 .1 .1 .1 .1 .1 .1 .0 ∙ c .before .before .before .before .before .before .before .before .before .before .before .before .before .before .before .before .before .before .before .before .before .before .before .before .before .before .before .before .factor-system .kept .1 .1 .1 .1 .1 .1 .1 .1 .1 .0) (c .before .before .before .before .before .before .before .before .before .solve-root .kept .1 .1 .1 .1 .0 ∙ c .before .before .before .before .before .before .before .before .before .before .before .before .before .before .before .before .before .before .right-sides .kept .1 .1 .1 .1 .1 .1 .1 .1 .1 .1 .1 .0 ∙ c .before .before .before .before .before .before .before .before .before .before .before .before .before .before .before .before .before .before .before .before .before .before .before .before .before .before .before .before .factor-system .kept .1 .1 .1 .1 .1 .1 .1 .1 .0), c .before .before .before .before .before .before .before .before .before .before .before .before .before .before .before .before .before .before .before .before .before .before .before .before .before .before .before .before .before .before .before .before .before .before .before .before .before .before .before .before .before .pre .1 .1))
+raw-into-requires c κs =
+    let solve-root = c .before .before .before .before .before .before .before .before .before in
+    let right-sides = solve-root .before .before .before .before .before .before .before .before .before in
+    let factor-system = right-sides .before .before .before .before .before .before .before .before .before .before in
+    let start = factor-system .before .before .before .before .before .before .before .before .before .before .before .before .before in (
+      start .pre .0,
+      (
+        lent-kept (start .pre .1 .0) (right-sides .right-sides .kept .1 .1 .1 .1 .1 .1 .1 .1 .1 .0)
+            (solve-root .solve-root .kept .1 .1 .1 .0 ∙ right-sides .right-sides .kept .1 .1 .1 .1 .1 .1 .1 .1 .1 .1 .0
+            ∙ factor-system .factor-system .kept .1 .1 .1 .1 .1 .1 .1 .1 .1 .0)
+            (solve-root .solve-root .kept .1 .1 .1 .1 .0 ∙ right-sides .right-sides .kept .1 .1 .1 .1 .1 .1 .1 .1 .1 .1 .1 .0
+            ∙ factor-system .factor-system .kept .1 .1 .1 .1 .1 .1 .1 .1 .0),
+        start .pre .1 .1,
+      ),
+    )
 
 same-length-6 : tie.Need-same-length-6
-same-length-6 c = c .before .before .before .before .before .before .raw-into .kept .1 .1 .1 .1 .1 .1 .1 .1 .1 .1 .0 ∙ c .before .before .before .before .before .before .before .before .before .before .before .before .before .before .before .before .before .before .before .before .before .before .before .before .before .right-sides .kept .1 .1 .1 .1 .1 .1 .1 .1 .1 .0
+same-length-6 c =
+    let raw-into = c .before .before .before .before .before .before in
+    let right-sides = raw-into .before .before .before .before .before .before .before .before .before
+    .before .before .before .before .before .before .before .before .before .before in
+    raw-into .raw-into .kept .1 .1 .1 .1 .1 .1 .1 .1 .1 .1 .0 ∙ right-sides .right-sides .kept .1 .1 .1 .1 .1 .1 .1 .1 .1 .0
 
 same-length-7 : tie.Need-same-length-7
-same-length-7 c = c .before .before .before .before .before .before .raw-into .kept .1 .1 .1 .1 .1 .1 .1 .1 .1 .1 .1 .0 ∙ c .before .before .before .before .before .before .before .before .before .before .before .before .before .before .before .before .solve-root .kept .1 .1 .1 .0 ∙ c .before .before .before .before .before .before .before .before .before .before .before .before .before .before .before .before .before .before .before .before .before .before .before .before .before .right-sides .kept .1 .1 .1 .1 .1 .1 .1 .1 .1 .1 .0 ∙ c .before .before .before .before .before .before .before .before .before .before .before .before .before .before .before .before .before .before .before .before .before .before .before .before .before .before .before .before .before .before .before .before .before .before .before .factor-system .kept .1 .1 .1 .1 .1 .1 .1 .1 .1 .0
+same-length-7 c =
+    let raw-into = c .before .before .before .before .before .before in
+    let solve-root = raw-into .before .before .before .before .before .before .before .before .before .before in
+    let right-sides = solve-root .before .before .before .before .before .before .before .before .before in
+    let factor-system = right-sides .before .before .before .before .before .before .before .before .before .before in
+    raw-into .raw-into .kept .1 .1 .1 .1 .1 .1 .1 .1 .1 .1 .1 .0 ∙ solve-root .solve-root .kept .1 .1 .1 .0
+    ∙ right-sides .right-sides .kept .1 .1 .1 .1 .1 .1 .1 .1 .1 .1 .0 ∙ factor-system .factor-system .kept .1 .1 .1 .1 .1 .1 .1 .1 .1 .0
 
 same-length-8 : tie.Need-same-length-8
-same-length-8 c = c .before .before .before .before .before .before .raw-into .kept .1 .1 .1 .1 .1 .1 .1 .1 .1 .1 .1 .1 .0 ∙ c .before .before .before .before .before .before .before .before .before .before .before .before .before .before .before .before .solve-root .kept .1 .1 .1 .1 .0 ∙ c .before .before .before .before .before .before .before .before .before .before .before .before .before .before .before .before .before .before .before .before .before .before .before .before .before .right-sides .kept .1 .1 .1 .1 .1 .1 .1 .1 .1 .1 .1 .0 ∙ c .before .before .before .before .before .before .before .before .before .before .before .before .before .before .before .before .before .before .before .before .before .before .before .before .before .before .before .before .before .before .before .before .before .before .before .factor-system .kept .1 .1 .1 .1 .1 .1 .1 .1 .0
+same-length-8 c =
+    let raw-into = c .before .before .before .before .before .before in
+    let solve-root = raw-into .before .before .before .before .before .before .before .before .before .before in
+    let right-sides = solve-root .before .before .before .before .before .before .before .before .before in
+    let factor-system = right-sides .before .before .before .before .before .before .before .before .before .before in
+    raw-into .raw-into .kept .1 .1 .1 .1 .1 .1 .1 .1 .1 .1 .1 .1 .0 ∙ solve-root .solve-root .kept .1 .1 .1 .1 .0
+    ∙ right-sides .right-sides .kept .1 .1 .1 .1 .1 .1 .1 .1 .1 .1 .1 .0 ∙ factor-system .factor-system .kept .1 .1 .1 .1 .1 .1 .1 .1 .0
 
 returns-3 : tie.Need-returns-3
-returns-3 c = solve-finds (c .before .before .before .before .before .before .before .before .before .before .before .before .before .before .before .before .before .before .before .before .before .before .before .before .before .before .before .before .before .before .before .before .before .before .before .before .before .before .before .before .before .before .before .before .before .before .before .before .args .n) (c .before .before .before .before .before .before .before .before .before .before .before .before .before .before .before .before .before .before .before .before .before .before .before .before .before .before .before .before .before .before .before .before .before .before .before .before .before .before .before .before .before .before .before .before .before .before .before .before .args .p) (c .before .before .before .before .before .before .before .before .before .before .before .before .before .before .before .before .before .before .before .before .before .before .before .before .before .before .before .before .before .before .before .before .before .before .before .before .before .before .before .before .before .before .before .before .before .before .before .before .args .q) (c .before .before .before .before .before .before .before .before .before .before .before .before .before .before .before .before .before .before .before .before .before .before .before .before .before .before .before .before .before .before .before .before .before .before .before .before .before .before .w-at .result) 0 (c .before .before .before .before .before .before .before .before .before .before .before .before .before .before .before .before .before .before .before .before .before .before .before .before .before .before .before .before .before .before .before .before .before .before .before .before .before .before .before .before .before .before .before .before .before .before .before .before .args .shape) (c .before .before .before .before .before .before .before .before .before .before .before .before .before .before .before .before .before .before .before .before .before .before .before .before .before .before .before .before .before .before .before .before .before .before .before .before .before .before .before .before .before .before .before .before .before .before .before .before .args .theta .now) (c .before .before .before .before .before .before .before .before .before .before .before .before .before .before .before .before .before .before .before .before .before .before .before .before .before .before .before .before .before .before .before .before .before .before .before .before .before .before .before .before .before .before .before .before .before .before .before .before .args .offset .now) (c .before .before .before .before .before .before .before .before .before .before .before .before .before .before .before .before .before .before .before .before .before .before .before .before .before .before .before .before .before .before .before .before .before .before .before .before .before .before .before .before .before .before .before .before .before .before .before .before .args .x .now) _ _ _ _ _ _ _ (c .before .before .before .before .before .before .before .before .before .before .before .before .before .before .before .before .before .before .before .before .before .before .before .before .before .before .before .before .before .before .before .before .before .before .before .before .before .before .before .before .before .before .before .before .before .before .before .before .pre .0 .effects) (c .before .before .before .before .before .before .before .before .before .before .before .before .before .before .before .before .before .before .before .before .before .before .before .before .before .before .before .before .before .before .before .before .before .before .before .before .before .before .before .before .before .before .before .before .before .before .before .before .pre .1 .0) (c .before .before .before .before .before .before .before .before .before .before .before .before .before .before .before .before .before .before .before .before .before .before .before .before .before .before .before .before .before .before .before .before .before .before .before .before .before .before .w-at .ensures) (c .before .before .before .before .before .before .before .before .before .before .before .before .before .before .before .before .before .before .before .before .before .before .before .before .before .before .before .before .before .before .before .before .before .before .before .factor-system .ensures) _ _ _ _ _ _ (c .before .before .before .before .before .before .before .before .before .before .before .before .before .before .before .before .before .before .before .before .before .before .before .before .before .before .before .before .before .enum-told2 .given .1) (c .before .before .before .before .before .before .before .before .before .before .before .before .before .before .before .before .before .before .before .before .before .before .before .before .before .right-sides .ensures) (c .before .before .before .before .before .before .before .before .before .before .before .before .before .before .before .before .solve-root .ensures) _ _ _ (c .before .before .before .before .before .before .before .before .before .before .enum-told4 .given .1) (c .before .before .before .before .before .before .raw-into .ensures)
+returns-3 c =
+    let raw-into = c .before .before .before .before .before .before in
+    let enum-told4 = raw-into .before .before .before .before in
+    let solve-root = enum-told4 .before .before .before .before .before .before in
+    let right-sides = solve-root .before .before .before .before .before .before .before .before .before in
+    let enum-told2 = right-sides .before .before .before .before in
+    let factor-system = enum-told2 .before .before .before .before .before .before in
+    let w-at = factor-system .before .before .before in
+    let start = w-at .before .before .before .before .before .before .before .before .before .before in
+    let args = start .args in
+    solve-finds (args .n) (args .p) (args .q) (w-at .w-at .result) 0 (args .shape) (args .theta .now) (args .offset .now) (args .x .now) _ _ _ _ _ _ _
+    (start .pre .0 .effects) (start .pre .1 .0) (w-at .w-at .ensures) (factor-system .factor-system .ensures) _ _ _ _ _ _ (enum-told2 .enum-told2 .given .1)
+    (right-sides .right-sides .ensures) (solve-root .solve-root .ensures) _ _ _ (enum-told4 .enum-told4 .given .1) (raw-into .raw-into .ensures)
 
 pub solve-into-spec : {M : Type 1} → statement M
 solve-into-spec =

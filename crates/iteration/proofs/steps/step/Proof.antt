@@ -55,7 +55,9 @@ part-tries-start-2 : tie.Need-part-tries-start-2
 part-tries-start-2 c = search needs
 
 part-tries-end-2 : tie.Need-part-tries-end-2
-part-tries-end-2 c = omega (arith, c .before .before .z-at .ensures, z-in (c .before .before .before .before .before .before .before .before .before .before .before .before .before .pre .sizes) (c .before .before .before .before .before .before .before .before .before .before .before .before .before .args .t .now) (c .before .before .z-at .ensures) (c .before .before .before .before .before .before .before .before .before .before .before .before .before .pre .terms-long))
+part-tries-end-2 c =
+    let start = c .before .before .before .before .before .before .before .before .before .before .before .before .before in
+    omega (arith, c .before .before .z-at .ensures, z-in (start .pre .sizes) (start .args .t .now) (c .before .before .z-at .ensures) (start .pre .terms-long))
 
 mul-tries-3 : tie.Need-mul-tries-3
 mul-tries-3 c = search needs
@@ -67,16 +69,44 @@ part-tries-start-3 : tie.Need-part-tries-start-3
 part-tries-start-3 c = search needs
 
 part-tries-end-3 : tie.Need-part-tries-end-3
-part-tries-end-3 c = omega (arith, unsolved-in (c .before .before .before .before .before .before .before .before .before .before .before .before .before .before .pre .sizes) (c .before .before .before .before .before .before .before .before .before .before .before .before .before .before .args .t .now) (c .before .before .unsolved-at .ensures) (c .before .before .before .before .before .before .before .before .before .before .before .before .before .before .pre .terms-long))
+part-tries-end-3 c =
+    let start = c .before .before .before .before .before .before .before .before .before .before .before .before .before .before in
+    omega (arith, unsolved-in (start .pre .sizes) (start .args .t .now) (c .before .before .unsolved-at .ensures) (start .pre .terms-long))
 
 tries-requires : tie.Need-tries-requires
-tries-requires c κs = step-room (c .before .before .before .before .before .before .before .before .before .before .before .before .before .before .before .before .args .n) (c .before .before .before .before .before .before .before .before .before .before .before .before .before .before .before .before .args .p) (c .before .before .before .before .before .before .before .before .before .before .before .before .before .before .before .before .args .q) (c .before .before .before .before .before .before .before .before .before .before .before .before .before .before .before .before .args .in-second) _ _ _ _ _ _ _ _ _ _ _ _ (c .before .before .before .before .before .before .before .before .before .before .before .before .before .before .before .before .pre) (c .before .before .before .before .before .before .before .before .before .before .before .before .eta-row .ensures) (c .before .before .before .before .before .before .before .before .before .before .before .eta-row2 .ensures) (c .before .before .before .before .before .before .before .before .before .before .raw-row .ensures) (c .before .before .before .before .before .before .before .before .before .mu-row .ensures) (c .before .before .before .before .before .before .before .before .u-at .ensures) (c .before .before .before .before .before .before .before .b-at .ensures) (c .before .before .before .before .before .before .w-at .ensures) (c .before .before .before .before .before .z-at .ensures) (c .before .before .before .before .unsolved-at .ensures)
+tries-requires c κs =
+    let unsolved-at = c .before .before .before .before in
+    let z-at = unsolved-at .before in
+    let w-at = z-at .before in
+    let b-at = w-at .before in
+    let u-at = b-at .before in
+    let mu-row = u-at .before in
+    let raw-row = mu-row .before in
+    let eta-row2 = raw-row .before in
+    let eta-row = eta-row2 .before in
+    let start = eta-row .before .before .before .before in
+    step-room (start .args .n) (start .args .p) (start .args .q) (start .args .in-second) _ _ _ _ _ _ _ _ _ _ _ _ (start .pre) (eta-row .eta-row .ensures)
+    (eta-row2 .eta-row2 .ensures) (raw-row .raw-row .ensures) (mu-row .mu-row .ensures) (u-at .u-at .ensures) (b-at .b-at .ensures) (w-at .w-at .ensures)
+    (z-at .z-at .ensures) (unsolved-at .unsolved-at .ensures)
 
 same-length : tie.Need-same-length
 same-length c = search needs
 
 returns : tie.Need-returns
-returns c = stepped (c .before .before .before .before .before .before .before .before .before .before .before .before .before .before .before .before .before .before .before .args .n) (c .before .before .before .before .before .before .before .before .before .before .before .before .before .before .before .before .before .before .before .args .p) (c .before .before .before .before .before .before .before .before .before .before .before .before .before .before .before .before .before .before .before .args .q) (c .before .before .before .before .before .before .before .before .before .before .before .before .before .before .before .before .before .before .before .args .in-second) _ _ _ _ _ _ _ _ _ _ _ _ (c .before .before .before .before .before .before .before .before .before .before .before .before .before .before .before .before .before .before .before .pre) (c .before .before .before .before .before .before .before .before .before .before .before .before .before .before .before .eta-row .ensures) (c .before .before .before .before .before .before .before .before .before .before .before .before .before .before .eta-row2 .ensures) (c .before .before .before .before .before .before .before .before .before .before .before .before .before .raw-row .ensures) (c .before .before .before .before .before .before .before .before .before .before .before .before .mu-row .ensures) (c .before .before .before .before .before .before .before .before .before .before .before .u-at .ensures) (c .before .before .before .before .before .before .before .before .before .before .b-at .ensures) (c .before .before .before .before .before .before .before .before .before .w-at .ensures) (c .before .before .before .before .before .before .before .before .z-at .ensures) (c .before .before .before .before .before .before .before .unsolved-at .ensures) _ _ _ (c .before .before .tries .ensures)
+returns c =
+    let unsolved-at = c .before .before .before .before .before .before .before in
+    let z-at = unsolved-at .before in
+    let w-at = z-at .before in
+    let b-at = w-at .before in
+    let u-at = b-at .before in
+    let mu-row = u-at .before in
+    let raw-row = mu-row .before in
+    let eta-row2 = raw-row .before in
+    let eta-row = eta-row2 .before in
+    let start = eta-row .before .before .before .before in
+    stepped (start .args .n) (start .args .p) (start .args .q) (start .args .in-second) _ _ _ _ _ _ _ _ _ _ _ _ (start .pre) (eta-row .eta-row .ensures)
+    (eta-row2 .eta-row2 .ensures) (raw-row .raw-row .ensures) (mu-row .mu-row .ensures) (u-at .u-at .ensures) (b-at .b-at .ensures) (w-at .w-at .ensures)
+    (z-at .z-at .ensures) (unsolved-at .unsolved-at .ensures) _ _ _ (c .before .before .tries .ensures)
 
 pub step-spec : {M : Type 1} → statement M
 step-spec =
