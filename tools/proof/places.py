@@ -1,10 +1,15 @@
 #!/usr/bin/env python3
 """usage: places.py [--width N] FILE..
+       places.py --ways CRATE FN[,FN..]
 Names the places of a proof file. In each answer `NAME c = ..` the chains `c .before .before ..` of three or more become names, each bound once by `let` at the
 head of the answer and told from the next nearer one. A place has the name of what is read there first (`c .before .. .ldl .kept` makes it ldl), the first one is
 start; where the file has that name already, at-ldl. What start knows, its `.args` and `.pre`, has a name where it is read six times. A `let` that is a place and no more keeps its name. Lines longer than N (160) are broken as rt fmt has them.
-An answer that is one short line with one such chain is left. What an answer means stays as it was; `rt fmt` after it."""
+An answer that is one short line with one such chain is left. What an answer means stays as it was; `rt fmt` after it.
+With --ways a way that answers go again and again from the same place to the same place is written once, as an abbreviation above the answers:
+`abbrev fit-of : tie.After-if1 → tie.After-fit`, and the answers have `let fit = fit-of c in`."""
 import re, sys
+sys.dont_write_bytecode = True
+from common import root, proof_of, Generated, records, needs, chain
 
 WIDTH, OFTEN = 160, 6
 RESERVED = set("unfoldable abbrev axiom unfold unfolding ruleset mutual infix infixl infixr elim let in do where use mod pub record as with rw at search omega cc refl".split())
@@ -179,11 +184,11 @@ def fill(parts, room):
     return "\n".join(lines)
 
 
-def halved(let):
-    """a long way to a place on two lines"""
-    parts = let.split(" ")
-    half = len(parts) // 2 + 1
-    return let if len(let) <= WIDTH - 4 else " ".join(parts[:half]) + "\n" + " ".join(parts[half:])
+def evenly(let):
+    """a long way to a place on as many lines as it needs"""
+    parts, count = let.split(" "), -(-len(let) // (WIDTH - 4))
+    size = -(-len(parts) // count)
+    return "\n".join(" ".join(parts[k:k + size]) for k in range(0, len(parts), size))
 
 
 def answer(head, body, taken):
@@ -200,7 +205,7 @@ def answer(head, body, taken):
     lets, flat = named(var, flat, taken) if long else ([], flat)
     if not lets and len(head) + 3 + len(flat) <= WIDTH:
         return f"{head} = {flat}"
-    lines = [halved(l) for l in lets] + [laid(flat, WIDTH - 4)]
+    lines = [evenly(l) for l in lets] + [laid(flat, WIDTH - 4)]
     return f"{head} =\n" + "\n".join("    " + l for x in lines for l in x.split("\n"))
 
 
@@ -231,11 +236,71 @@ def rewritten(text):
     return "\n".join(out)
 
 
+LET = r"let (" + WORD + r") = (" + WORD + r")((?:\s+\.before)+) in"
+
+
+def clauses(text):
+    """(need, its clause's start and end in the text, what its type is applied to)"""
+    for m in re.finditer(r"(?m)^(\S+) : tie\.Need-(\S+)(.*)\n((?:unfolding.*\n)*)((?:.+\n)+)", text):
+        yield m.group(2), m.start(5), m.end(5), m.group(3)
+
+
+def walked(text, lts):
+    """[(start, end, name, from, steps, the record from, the record to, what they are applied to)] of each let that is a place"""
+    recs, at, out = records(lts), dict(needs(lts)), []
+    for need, start, end, applied in clauses(text):
+        known = {"c": at.get(need)}
+        for m in re.compile(LET).finditer(text, start, end):
+            name, near, steps = m.group(1), m.group(2), len(m.group(3).split())
+            if known.get(near) in recs:
+                known[name] = chain(recs, known[near])[steps][1]
+                out.append((m.start(), m.end(), name, near, steps, known[near], known[name], applied))
+    return out
+
+
+def with_ways(text, lts, tie):
+    """the text with the ways whose repetition takes thirty steps or more written once"""
+    lets = walked(text, lts)
+    often = [w for w in lets if w[4] * (sum(v[5:7] == w[5:7] for v in lets) - 1) >= 30 and all(f"pub {r} :" in tie for r in w[5:7])]
+    taken, names, tops = words(text), {}, []
+    for _, _, name, near, steps, here, there, applied in often:
+        if (here, there) in names:
+            continue
+        several = len({w[5] for w in often if w[6] == there}) > 1
+        way = f"{name}-of" + ("-" + (re.sub("^[A-Z][a-z]+-", "", here) if near == "c" else near) if several else "")
+        while way in taken:
+            way += "′"
+        taken.add(way)
+        names[here, there] = way
+        body = f"{way} c = c{BEFORE * steps}"
+        tops.append(f"abbrev {way} : tie.{here}{applied} → tie.{there}{applied}\n" + (body if len(body) <= WIDTH else body.replace(" = ", " =\n    ", 1)))
+    for start, end, name, near, _, here, there, _ in reversed(often):
+        text = text[:start] + f"let {name} = {names[here, there]} {near} in" + text[end:]
+    if not tops:
+        return text
+    top = re.search(r"(?m)^\S+ : tie\.Need-", text).start()
+    return text[:top] + "\n\n".join(tops) + "\n\n" + text[top:]
+
+
+def ways(crate, fns):
+    root()
+    with Generated(crate) as g:
+        for fn in fns:
+            path, lts = proof_of(crate, fn), g.lts(fn)
+            tie = open(f"{g.dir}/Rattle.{crate}.proofs/proofs/{fn}/Tie.antt").read()
+            old = open(path).read()
+            new = with_ways(old, lts, tie)
+            open(path, "w").write(new)
+            print(f"{path}: {old.count('.before')} to {new.count('.before')} .before")
+
+
 def main():
     global WIDTH
     args = sys.argv[1:]
     if args[:1] == ["--width"]:
         WIDTH, args = int(args[1]), args[2:]
+    if len(args) == 3 and args[0] == "--ways":
+        return ways(args[1], args[2].split(","))
     if not args:
         sys.exit(__doc__)
     for path in args:

@@ -16,22 +16,42 @@ use Rattle.pirls.proofs.run.inner_fit.Statement.{statement}
 use Rattle.pirls.proofs.run.inner_fit.Tie as tie
 
 abbrev Inv-loop : tie.InvT-loop
-Inv-loop family link phi limit shape theta starts columns values offset x y weights n p q r₀ m₀ t₀ old₀ in-second₀ k₀ solves₀ tries₀ r m t old in-second k solves tries = Going (givenOf family link y weights (designOf n p shape theta offset x (sparse starts columns values))) phi limit (row (muRow n) n r₀) r₀ r m₀ m t₀ t old in-second k solves tries
+Inv-loop family link phi limit shape theta starts columns values offset x y weights n p q r₀ m₀ t₀ old₀ in-second₀ k₀ solves₀ tries₀ r m t old in-second k solves tries =
+    Going (givenOf family link y weights (designOf n p shape theta offset x (sparse starts columns values))) phi limit (row (muRow n) n r₀) r₀ r m₀ m t₀ t old
+    in-second k solves tries
 
 abbrev μ-loop : tie.MeasureT-loop
-μ-loop family link phi limit shape theta starts columns values offset x y weights n p q r₀ m₀ t₀ old₀ in-second₀ k₀ solves₀ tries₀ r m t old in-second k solves tries = limit - k
+μ-loop family link phi limit shape theta starts columns values offset x y weights n p q r₀ m₀ t₀ old₀ in-second₀ k₀ solves₀ tries₀ r m t old in-second k solves tries =
+    limit - k
 
 mu-row-requires : tie.Need-mu-row-requires Inv-loop μ-loop
 mu-row-requires c κs = c .before .before .before .before .before .before .before .before .before .before .before .pre .0 .lent .sizes .n-few
 
 start-eta-requires : tie.Need-start-eta-requires Inv-loop μ-loop
-start-eta-requires c κs = (c .before .before .before .before .before .before .before .before .before .before .before .before .before .pre .0 .offset-fits, inr (omega (arith, c .before .mu-row .ensures)), mu-in (c .before .before .before .before .before .before .before .before .before .before .before .before .before .pre .0 .lent .sizes) (c .before .before .before .before .before .before .before .before .before .before .before .before .before .args .r .now) (c .before .mu-row .ensures) (c .before .before .before .before .before .before .before .before .before .before .before .before .before .pre .0 .lent .rows-long), first-eta-in (c .before .before .before .before .before .before .before .before .before .before .before .before .before .pre .0 .lent .sizes) (c .before .before .before .before .before .before .before .before .before .before .before .before .before .args .r .now) refl (c .before .before .before .before .before .before .before .before .before .before .before .before .before .pre .0 .lent .rows-long))
+start-eta-requires c κs =
+    let start = c .before .before .before .before .before .before .before .before .before .before .before .before .before in (
+      start .pre .0 .offset-fits,
+      inr (omega (arith, c .before .mu-row .ensures)),
+      mu-in (start .pre .0 .lent .sizes) (start .args .r .now) (c .before .mu-row .ensures) (start .pre .0 .lent .rows-long),
+      first-eta-in (start .pre .0 .lent .sizes) (start .args .r .now) refl (start .pre .0 .lent .rows-long),
+    )
 
 loop-holds : tie.Need-loop-holds Inv-loop μ-loop
-loop-holds c = begun (c .before .before .before .before .before .before .before .before .before .before .before .before .before .before .before .before .args .family) (c .before .before .before .before .before .before .before .before .before .before .before .before .before .before .before .before .args .link) (c .before .before .before .before .before .before .before .before .before .before .before .before .before .before .before .before .args .phi) (c .before .before .before .before .before .before .before .before .before .before .before .before .before .before .before .before .args .limit) (c .before .before .before .before .before .before .before .before .before .before .before .before .before .before .before .before .args .n) (c .before .before .before .before .before .before .before .before .before .before .before .before .before .before .before .before .args .p) (c .before .before .before .before .before .before .before .before .before .before .before .before .before .before .before .before .args .q) (c .before .before .before .before .before .before .before .before .before .before .before .before .before .before .before .before .args .shape) (c .before .before .before .before .before .before .before .before .before .before .before .before .before .before .before .before .args .theta .now) (c .before .before .before .before .before .before .before .before .before .before .before .before .before .before .before .before .args .offset .now) (c .before .before .before .before .before .before .before .before .before .before .before .before .before .before .before .before .args .x .now) (c .before .before .before .before .before .before .before .before .before .before .before .before .before .before .before .before .args .y .now) (c .before .before .before .before .before .before .before .before .before .before .before .before .before .before .before .before .args .weights .now) _ (c .before .before .before .before .before .before .before .before .before .before .before .before .before .before .before .before .pre .0 .ready .effects) _ _ _ _ _ (c .before .before .before .before .before .before .before .before .before .before .before .before .before .before .before .before .pre .0 .lent) (c .before .before .before .before .mu-row .ensures) (c .before .before .start-eta .ensures)
+loop-holds c =
+    let mu-row = c .before .before .before .before in
+    let start = mu-row .before .before .before .before .before .before .before .before .before .before .before .before in
+    let args = start .args in
+    begun (args .family) (args .link) (args .phi) (args .limit) (args .n) (args .p) (args .q) (args .shape) (args .theta .now) (args .offset .now)
+    (args .x .now) (args .y .now) (args .weights .now) _ (start .pre .0 .ready .effects) _ _ _ _ _ (start .pre .0 .lent) (mu-row .mu-row .ensures)
+    (c .before .before .start-eta .ensures)
 
 iterate-requires : tie.Need-iterate-requires Inv-loop μ-loop
-iterate-requires c κs = asked-kept (c .before .before .before .before .before .before .before .before .before .before .before .before .before .before .before .before .before .before .before .before .before .pre .0) (c .before .before .before .before .loop .inv .rows-only .len ∙ c .before .before .before .before .before .before .before .start-eta .ensures .only .len) (c .before .before .before .before .loop .inv .matrices-only .len) (c .before .before .before .before .loop .inv .terms-only .len)
+iterate-requires c κs =
+    let loop = c .before .before .before .before in
+    let start-eta = loop .before .before .before in
+    let start = start-eta .before .before .before .before .before .before .before .before .before .before .before .before .before .before in
+    asked-kept (start .pre .0) (loop .loop .inv .rows-only .len ∙ start-eta .start-eta .ensures .only .len) (loop .loop .inv .matrices-only .len)
+    (loop .loop .inv .terms-only .len)
 
 enum-known-it : tie.Need-enum-known-it Inv-loop μ-loop
 enum-known-it c = search needs
@@ -40,79 +60,216 @@ failed-fit-requires : tie.Need-failed-fit-requires Inv-loop μ-loop
 failed-fit-requires c κs = search needs
 
 same-length : tie.Need-same-length Inv-loop μ-loop
-same-length c = c .before .before .before .before .before .before .before .before .before .before .iterate .kept .1 .1 .1 .1 .1 .1 .1 .1 .1 .1 .1 .1 .1 .1 .1 .1 .0 ∙ (c .before .before .before .before .before .before .before .before .before .before .before .before .before .before .before .loop .inv .rows-only .len ∙ c .before .before .before .before .before .before .before .before .before .before .before .before .before .before .before .before .before .before .start-eta .ensures .only .len)
+same-length c =
+    let iterate = c .before .before .before .before .before .before .before .before .before .before in
+    let loop = iterate .before .before .before .before .before in
+    let start-eta = loop .before .before .before in
+    iterate .iterate .kept .1 .1 .1 .1 .1 .1 .1 .1 .1 .1 .1 .1 .1 .1 .1 .1 .0 ∙ (loop .loop .inv .rows-only .len ∙ start-eta .start-eta .ensures .only .len)
 
 same-length-2 : tie.Need-same-length-2 Inv-loop μ-loop
-same-length-2 c = c .before .before .before .before .before .before .before .before .before .before .iterate .kept .1 .1 .1 .1 .1 .1 .1 .1 .1 .1 .1 .1 .1 .1 .1 .1 .1 .0 ∙ c .before .before .before .before .before .before .before .before .before .before .before .before .before .before .before .loop .inv .matrices-only .len
+same-length-2 c =
+    let iterate = c .before .before .before .before .before .before .before .before .before .before in
+    let loop = iterate .before .before .before .before .before in
+    iterate .iterate .kept .1 .1 .1 .1 .1 .1 .1 .1 .1 .1 .1 .1 .1 .1 .1 .1 .1 .0 ∙ loop .loop .inv .matrices-only .len
 
 same-length-3 : tie.Need-same-length-3 Inv-loop μ-loop
-same-length-3 c = c .before .before .before .before .before .before .before .before .before .before .iterate .kept .1 .1 .1 .1 .1 .1 .1 .1 .1 .1 .1 .1 .1 .1 .1 .1 .1 .1 .0 ∙ c .before .before .before .before .before .before .before .before .before .before .before .before .before .before .before .loop .inv .terms-only .len
+same-length-3 c =
+    let iterate = c .before .before .before .before .before .before .before .before .before .before in
+    let loop = iterate .before .before .before .before .before in
+    iterate .iterate .kept .1 .1 .1 .1 .1 .1 .1 .1 .1 .1 .1 .1 .1 .1 .1 .1 .1 .1 .0 ∙ loop .loop .inv .terms-only .len
 
 returns : tie.Need-returns Inv-loop μ-loop
-returns c = end-unsolved (c .before .before .before .before .before .before .before .before .before .before .before .before .before .before .before .before .before .before .before .before .before .before .before .before .before .before .before .before .before .before .before .before .args .family) (c .before .before .before .before .before .before .before .before .before .before .before .before .before .before .before .before .before .before .before .before .before .before .before .before .before .before .before .before .before .before .before .before .args .link) (c .before .before .before .before .before .before .before .before .before .before .before .before .before .before .before .before .before .before .before .before .before .before .before .before .before .before .before .before .before .before .before .before .args .phi) (c .before .before .before .before .before .before .before .before .before .before .before .before .before .before .before .before .before .before .before .before .before .before .before .before .before .before .before .before .before .before .before .before .args .limit) (c .before .before .before .before .before .before .before .before .before .before .before .before .before .before .before .before .before .before .before .before .before .before .before .before .before .before .before .before .before .before .before .before .args .n) (c .before .before .before .before .before .before .before .before .before .before .before .before .before .before .before .before .before .before .before .before .before .before .before .before .before .before .before .before .before .before .before .before .args .p) (c .before .before .before .before .before .before .before .before .before .before .before .before .before .before .before .before .before .before .before .before .before .before .before .before .before .before .before .before .before .before .before .before .args .q) (c .before .before .before .before .before .before .before .before .before .before .before .before .before .before .before .before .before .before .before .before .before .before .before .before .before .before .before .before .before .before .before .before .args .shape) (c .before .before .before .before .before .before .before .before .before .before .before .before .before .before .before .before .before .before .before .before .before .before .before .before .before .before .before .before .before .before .before .before .args .theta .now) (c .before .before .before .before .before .before .before .before .before .before .before .before .before .before .before .before .before .before .before .before .before .before .before .before .before .before .before .before .before .before .before .before .args .offset .now) (c .before .before .before .before .before .before .before .before .before .before .before .before .before .before .before .before .before .before .before .before .before .before .before .before .before .before .before .before .before .before .before .before .args .x .now) (c .before .before .before .before .before .before .before .before .before .before .before .before .before .before .before .before .before .before .before .before .before .before .before .before .before .before .before .before .before .before .before .before .args .y .now) (c .before .before .before .before .before .before .before .before .before .before .before .before .before .before .before .before .before .before .before .before .before .before .before .before .before .before .before .before .before .before .before .before .args .weights .now) _ (c .before .before .before .before .before .before .before .before .before .before .before .before .before .before .before .before .before .before .before .before .before .before .before .before .before .before .before .before .before .before .before .before .pre .0 .ready .effects) _ _ _ _ _ (c .before .before .before .before .before .before .before .before .before .before .before .before .before .before .before .before .before .before .before .before .before .before .before .before .before .before .before .before .before .before .before .before .pre .0 .lent) (c .before .before .before .before .before .before .before .before .before .before .before .before .before .before .before .before .before .before .before .before .mu-row .ensures) (c .before .before .before .before .before .before .before .before .before .before .before .before .before .before .before .before .before .before .start-eta .ensures) _ _ _ _ _ _ _ _ (c .before .before .before .before .before .before .before .before .before .before .before .before .before .before .before .loop .inv) _ _ _ _ (c .before .before .before .before .before .before .before .before .before .before .before .before .before .before .loop-test .taken) (c .before .before .before .before .before .before .before .before .before .before .iterate .ensures) _ _ _ (c .before .before .it .given .1) refl (c .failed-fit .ensures)
+returns c =
+    let iterate = c .before .before .before .before .before .before .before .before .before .before in
+    let loop-test = iterate .before .before .before .before in
+    let loop = loop-test .before in
+    let start-eta = loop .before .before .before in
+    let mu-row = start-eta .before .before in
+    let start = mu-row .before .before .before .before .before .before .before .before .before .before .before .before in
+    let args = start .args in
+    end-unsolved (args .family) (args .link) (args .phi) (args .limit) (args .n) (args .p) (args .q) (args .shape) (args .theta .now) (args .offset .now)
+    (args .x .now) (args .y .now) (args .weights .now) _ (start .pre .0 .ready .effects) _ _ _ _ _ (start .pre .0 .lent) (mu-row .mu-row .ensures)
+    (start-eta .start-eta .ensures) _ _ _ _ _ _ _ _ (loop .loop .inv) _ _ _ _ (loop-test .loop-test .taken) (iterate .iterate .ensures) _ _ _
+    (c .before .before .it .given .1) refl (c .failed-fit .ensures)
 
 enum-known-it-2 : tie.Need-enum-known-it-2 Inv-loop μ-loop
 enum-known-it-2 c = search needs
 
 add-failed-fit : tie.Need-add-failed-fit Inv-loop μ-loop
-add-failed-fit c = omega (arith, c .before .before .before .before .before .before .before .before .before .before .before .before .before .loop-test .taken, c .before .before .before .before .before .before .before .before .before .before .before .before .before .before .before .before .before .before .before .before .before .before .before .before .before .before .before .before .before .before .before .pre .1, c .before .before .before .before .before .before .before .before .before .before .before .before .before .before .loop .inv .solved-each)
+add-failed-fit c =
+    let loop-test = c .before .before .before .before .before .before .before .before .before .before .before .before .before in
+    let loop = loop-test .before in
+    let start = loop .before .before .before .before .before .before .before .before .before .before .before .before .before .before .before .before .before in
+    omega (arith, loop-test .loop-test .taken, start .pre .1, loop .loop .inv .solved-each)
 
 add-failed-fit-2 : tie.Need-add-failed-fit-2 Inv-loop μ-loop
-add-failed-fit-2 c = omega (arith, c .before .before .before .before .before .before .before .before .before .before .before .before .before .loop-test .taken, c .before .before .before .before .before .before .before .before .before .before .before .before .before .before .before .before .before .before .before .before .before .before .before .before .before .before .before .before .before .before .before .pre .1, c .before .before .before .before .before .before .before .before .before .before .before .before .before .before .loop .inv .few, stuck-few _ _ (c .before .before .before .before .before .before .before .before .before .iterate .ensures .few) (c .before .it2 .given .1))
+add-failed-fit-2 c =
+    let iterate = c .before .before .before .before .before .before .before .before .before in
+    let loop-test = iterate .before .before .before .before in
+    let loop = loop-test .before in
+    let start = loop .before .before .before .before .before .before .before .before .before .before .before .before .before .before .before .before .before in
+    omega (arith, loop-test .loop-test .taken, start .pre .1, loop .loop .inv .few, stuck-few _ _ (iterate .iterate .ensures .few) (c .before .it2 .given .1))
 
 failed-fit-requires-2 : tie.Need-failed-fit-requires-2 Inv-loop μ-loop
 failed-fit-requires-2 c κs = search needs
 
 same-length-4 : tie.Need-same-length-4 Inv-loop μ-loop
-same-length-4 c = c .before .before .before .before .before .before .before .before .before .before .iterate .kept .1 .1 .1 .1 .1 .1 .1 .1 .1 .1 .1 .1 .1 .1 .1 .1 .0 ∙ (c .before .before .before .before .before .before .before .before .before .before .before .before .before .before .before .loop .inv .rows-only .len ∙ c .before .before .before .before .before .before .before .before .before .before .before .before .before .before .before .before .before .before .start-eta .ensures .only .len)
+same-length-4 c =
+    let iterate = c .before .before .before .before .before .before .before .before .before .before in
+    let loop = iterate .before .before .before .before .before in
+    let start-eta = loop .before .before .before in
+    iterate .iterate .kept .1 .1 .1 .1 .1 .1 .1 .1 .1 .1 .1 .1 .1 .1 .1 .1 .0 ∙ (loop .loop .inv .rows-only .len ∙ start-eta .start-eta .ensures .only .len)
 
 same-length-5 : tie.Need-same-length-5 Inv-loop μ-loop
-same-length-5 c = c .before .before .before .before .before .before .before .before .before .before .iterate .kept .1 .1 .1 .1 .1 .1 .1 .1 .1 .1 .1 .1 .1 .1 .1 .1 .1 .0 ∙ c .before .before .before .before .before .before .before .before .before .before .before .before .before .before .before .loop .inv .matrices-only .len
+same-length-5 c =
+    let iterate = c .before .before .before .before .before .before .before .before .before .before in
+    let loop = iterate .before .before .before .before .before in
+    iterate .iterate .kept .1 .1 .1 .1 .1 .1 .1 .1 .1 .1 .1 .1 .1 .1 .1 .1 .1 .0 ∙ loop .loop .inv .matrices-only .len
 
 same-length-6 : tie.Need-same-length-6 Inv-loop μ-loop
-same-length-6 c = c .before .before .before .before .before .before .before .before .before .before .iterate .kept .1 .1 .1 .1 .1 .1 .1 .1 .1 .1 .1 .1 .1 .1 .1 .1 .1 .1 .0 ∙ c .before .before .before .before .before .before .before .before .before .before .before .before .before .before .before .loop .inv .terms-only .len
+same-length-6 c =
+    let iterate = c .before .before .before .before .before .before .before .before .before .before in
+    let loop = iterate .before .before .before .before .before in
+    iterate .iterate .kept .1 .1 .1 .1 .1 .1 .1 .1 .1 .1 .1 .1 .1 .1 .1 .1 .1 .1 .0 ∙ loop .loop .inv .terms-only .len
 
 returns-2 : tie.Need-returns-2 Inv-loop μ-loop
-returns-2 c = end-stuck (c .before .before .before .before .before .before .before .before .before .before .before .before .before .before .before .before .before .before .before .before .before .before .before .before .before .before .before .before .before .before .before .before .args .family) (c .before .before .before .before .before .before .before .before .before .before .before .before .before .before .before .before .before .before .before .before .before .before .before .before .before .before .before .before .before .before .before .before .args .link) (c .before .before .before .before .before .before .before .before .before .before .before .before .before .before .before .before .before .before .before .before .before .before .before .before .before .before .before .before .before .before .before .before .args .phi) (c .before .before .before .before .before .before .before .before .before .before .before .before .before .before .before .before .before .before .before .before .before .before .before .before .before .before .before .before .before .before .before .before .args .limit) (c .before .before .before .before .before .before .before .before .before .before .before .before .before .before .before .before .before .before .before .before .before .before .before .before .before .before .before .before .before .before .before .before .args .n) (c .before .before .before .before .before .before .before .before .before .before .before .before .before .before .before .before .before .before .before .before .before .before .before .before .before .before .before .before .before .before .before .before .args .p) (c .before .before .before .before .before .before .before .before .before .before .before .before .before .before .before .before .before .before .before .before .before .before .before .before .before .before .before .before .before .before .before .before .args .q) (c .before .before .before .before .before .before .before .before .before .before .before .before .before .before .before .before .before .before .before .before .before .before .before .before .before .before .before .before .before .before .before .before .args .shape) (c .before .before .before .before .before .before .before .before .before .before .before .before .before .before .before .before .before .before .before .before .before .before .before .before .before .before .before .before .before .before .before .before .args .theta .now) (c .before .before .before .before .before .before .before .before .before .before .before .before .before .before .before .before .before .before .before .before .before .before .before .before .before .before .before .before .before .before .before .before .args .offset .now) (c .before .before .before .before .before .before .before .before .before .before .before .before .before .before .before .before .before .before .before .before .before .before .before .before .before .before .before .before .before .before .before .before .args .x .now) (c .before .before .before .before .before .before .before .before .before .before .before .before .before .before .before .before .before .before .before .before .before .before .before .before .before .before .before .before .before .before .before .before .args .y .now) (c .before .before .before .before .before .before .before .before .before .before .before .before .before .before .before .before .before .before .before .before .before .before .before .before .before .before .before .before .before .before .before .before .args .weights .now) _ (c .before .before .before .before .before .before .before .before .before .before .before .before .before .before .before .before .before .before .before .before .before .before .before .before .before .before .before .before .before .before .before .before .pre .0 .ready .effects) _ _ _ _ _ (c .before .before .before .before .before .before .before .before .before .before .before .before .before .before .before .before .before .before .before .before .before .before .before .before .before .before .before .before .before .before .before .before .pre .0 .lent) (c .before .before .before .before .before .before .before .before .before .before .before .before .before .before .before .before .before .before .before .before .mu-row .ensures) (c .before .before .before .before .before .before .before .before .before .before .before .before .before .before .before .before .before .before .start-eta .ensures) _ _ _ _ _ _ _ _ (c .before .before .before .before .before .before .before .before .before .before .before .before .before .before .before .loop .inv) _ _ _ _ (c .before .before .before .before .before .before .before .before .before .before .before .before .before .before .loop-test .taken) (c .before .before .before .before .before .before .before .before .before .before .iterate .ensures) _ _ _ (c .before .before .it2 .given .1) refl (c .failed-fit2 .ensures)
+returns-2 c =
+    let iterate = c .before .before .before .before .before .before .before .before .before .before in
+    let loop-test = iterate .before .before .before .before in
+    let loop = loop-test .before in
+    let start-eta = loop .before .before .before in
+    let mu-row = start-eta .before .before in
+    let start = mu-row .before .before .before .before .before .before .before .before .before .before .before .before in
+    let args = start .args in
+    end-stuck (args .family) (args .link) (args .phi) (args .limit) (args .n) (args .p) (args .q) (args .shape) (args .theta .now) (args .offset .now)
+    (args .x .now) (args .y .now) (args .weights .now) _ (start .pre .0 .ready .effects) _ _ _ _ _ (start .pre .0 .lent) (mu-row .mu-row .ensures)
+    (start-eta .start-eta .ensures) _ _ _ _ _ _ _ _ (loop .loop .inv) _ _ _ _ (loop-test .loop-test .taken) (iterate .iterate .ensures) _ _ _
+    (c .before .before .it2 .given .1) refl (c .failed-fit2 .ensures)
 
 enum-known-it-3 : tie.Need-enum-known-it-3 Inv-loop μ-loop
 enum-known-it-3 c = search needs
 
 add-k : tie.Need-add-k Inv-loop μ-loop
-add-k c = omega (arith, c .before .before .before .before .before .before .before .before .before .before .before .before .before .loop-test .taken, c .before .before .before .before .before .before .before .before .before .before .before .before .before .before .before .before .before .before .before .before .before .before .before .before .before .before .before .before .before .before .before .pre .1)
+add-k c =
+    let loop-test = c .before .before .before .before .before .before .before .before .before .before .before .before .before in
+    let start = loop-test .before .before .before .before .before .before .before .before
+    .before .before .before .before .before .before .before .before .before .before in
+    omega (arith, loop-test .loop-test .taken, start .pre .1)
 
 add-solves : tie.Need-add-solves Inv-loop μ-loop
-add-solves c = omega (arith, c .before .before .before .before .before .before .before .before .before .before .before .before .before .loop-test .taken, c .before .before .before .before .before .before .before .before .before .before .before .before .before .before .before .before .before .before .before .before .before .before .before .before .before .before .before .before .before .before .before .pre .1, c .before .before .before .before .before .before .before .before .before .before .before .before .before .before .loop .inv .solved-each)
+add-solves c =
+    let loop-test = c .before .before .before .before .before .before .before .before .before .before .before .before .before in
+    let loop = loop-test .before in
+    let start = loop .before .before .before .before .before .before .before .before .before .before .before .before .before .before .before .before .before in
+    omega (arith, loop-test .loop-test .taken, start .pre .1, loop .loop .inv .solved-each)
 
 add-tries : tie.Need-add-tries Inv-loop μ-loop
-add-tries c = omega (arith, c .before .before .before .before .before .before .before .before .before .before .before .before .before .loop-test .taken, c .before .before .before .before .before .before .before .before .before .before .before .before .before .before .before .before .before .before .before .before .before .before .before .before .before .before .before .before .before .before .before .pre .1, c .before .before .before .before .before .before .before .before .before .before .before .before .before .before .loop .inv .few, few-tries (c .before .before .before .before .before .before .before .before .before .before .before .before .before .before .before .before .before .before .before .before .before .before .before .before .before .before .before .before .before .before .before .args .family) (c .before .before .before .before .before .before .before .before .before .before .before .before .before .before .before .before .before .before .before .before .before .before .before .before .before .before .before .before .before .before .before .args .link) (c .before .before .before .before .before .before .before .before .before .before .before .before .before .before .before .before .before .before .before .before .before .before .before .before .before .before .before .before .before .before .before .args .phi) (c .before .before .before .before .before .before .before .before .before .before .before .before .before .before .before .before .before .before .before .before .before .before .before .before .before .before .before .before .before .before .before .args .limit) (c .before .before .before .before .before .before .before .before .before .before .before .before .before .before .before .before .before .before .before .before .before .before .before .before .before .before .before .before .before .before .before .args .n) (c .before .before .before .before .before .before .before .before .before .before .before .before .before .before .before .before .before .before .before .before .before .before .before .before .before .before .before .before .before .before .before .args .p) (c .before .before .before .before .before .before .before .before .before .before .before .before .before .before .before .before .before .before .before .before .before .before .before .before .before .before .before .before .before .before .before .args .q) (c .before .before .before .before .before .before .before .before .before .before .before .before .before .before .before .before .before .before .before .before .before .before .before .before .before .before .before .before .before .before .before .args .shape) (c .before .before .before .before .before .before .before .before .before .before .before .before .before .before .before .before .before .before .before .before .before .before .before .before .before .before .before .before .before .before .before .args .theta .now) (c .before .before .before .before .before .before .before .before .before .before .before .before .before .before .before .before .before .before .before .before .before .before .before .before .before .before .before .before .before .before .before .args .offset .now) (c .before .before .before .before .before .before .before .before .before .before .before .before .before .before .before .before .before .before .before .before .before .before .before .before .before .before .before .before .before .before .before .args .x .now) (c .before .before .before .before .before .before .before .before .before .before .before .before .before .before .before .before .before .before .before .before .before .before .before .before .before .before .before .before .before .before .before .args .y .now) (c .before .before .before .before .before .before .before .before .before .before .before .before .before .before .before .before .before .before .before .before .before .before .before .before .before .before .before .before .before .before .before .args .weights .now) _ (c .before .before .before .before .before .before .before .before .before .before .before .before .before .before .before .before .before .before .before .before .before .before .before .before .before .before .before .before .before .before .before .pre .0 .ready .effects) _ _ _ _ _ (c .before .before .before .before .before .before .before .before .before .before .before .before .before .before .before .before .before .before .before .before .before .before .before .before .before .before .before .before .before .before .before .pre .0 .lent) (c .before .before .before .before .before .before .before .before .before .before .before .before .before .before .before .before .before .before .before .mu-row .ensures) (c .before .before .before .before .before .before .before .before .before .before .before .before .before .before .before .before .before .start-eta .ensures) _ _ _ _ _ _ _ _ (c .before .before .before .before .before .before .before .before .before .before .before .before .before .before .loop .inv) _ _ _ _ (c .before .before .before .before .before .before .before .before .before .before .before .before .before .loop-test .taken) (c .before .before .before .before .before .before .before .before .before .iterate .ensures) _ _ (c .before .it3 .given .1))
+add-tries c =
+    let iterate = c .before .before .before .before .before .before .before .before .before in
+    let loop-test = iterate .before .before .before .before in
+    let loop = loop-test .before in
+    let start-eta = loop .before .before .before in
+    let mu-row = start-eta .before .before in
+    let start = mu-row .before .before .before .before .before .before .before .before .before .before .before .before in
+    let args = start .args in
+    omega (
+      arith,
+      loop-test .loop-test .taken,
+      start .pre .1,
+      loop .loop .inv .few,
+      few-tries (args .family) (args .link) (args .phi) (args .limit) (args .n) (args .p) (args .q) (args .shape) (args .theta .now) (args .offset .now)
+          (args .x .now) (args .y .now) (args .weights .now) _ (start .pre .0 .ready .effects) _ _ _ _ _ (start .pre .0 .lent) (mu-row .mu-row .ensures)
+          (start-eta .start-eta .ensures) _ _ _ _ _ _ _ _ (loop .loop .inv) _ _ _ _ (loop-test .loop-test .taken) (iterate .iterate .ensures) _ _
+          (c .before .it3 .given .1),
+    )
 
 stops-requires : tie.Need-stops-requires Inv-loop μ-loop
 stops-requires c κs = search needs
 
 stop-requires : tie.Need-stop-requires Inv-loop μ-loop
-stop-requires c κs = (lent-kept (c .before .before .before .before .before .before .before .before .before .before .before .before .before .before .before .before .before .before .before .before .before .before .before .before .before .before .before .before .before .before .before .before .before .before .before .before .pre .0 .lent) (c .before .before .before .before .before .before .before .before .before .before .before .before .before .before .iterate .kept .1 .1 .1 .1 .1 .1 .1 .1 .1 .1 .1 .1 .1 .1 .1 .1 .0 ∙ (c .before .before .before .before .before .before .before .before .before .before .before .before .before .before .before .before .before .before .before .loop .inv .rows-only .len ∙ c .before .before .before .before .before .before .before .before .before .before .before .before .before .before .before .before .before .before .before .before .before .before .start-eta .ensures .only .len)) (c .before .before .before .before .before .before .before .before .before .before .before .before .before .before .iterate .kept .1 .1 .1 .1 .1 .1 .1 .1 .1 .1 .1 .1 .1 .1 .1 .1 .1 .0 ∙ c .before .before .before .before .before .before .before .before .before .before .before .before .before .before .before .before .before .before .before .loop .inv .matrices-only .len) (c .before .before .before .before .before .before .before .before .before .before .before .before .before .before .iterate .kept .1 .1 .1 .1 .1 .1 .1 .1 .1 .1 .1 .1 .1 .1 .1 .1 .1 .1 .0 ∙ c .before .before .before .before .before .before .before .before .before .before .before .before .before .before .before .before .before .before .before .loop .inv .terms-only .len), c .before .before .before .before .before .before .before .before .before .before .before .before .before .before .before .before .before .before .before .before .before .before .before .before .before .before .before .before .before .before .before .before .before .before .before .before .pre .0 .y-long)
+stop-requires c κs =
+    let iterate = c .before .before .before .before .before .before .before .before .before .before .before .before .before .before in
+    let loop = iterate .before .before .before .before .before in
+    let start-eta = loop .before .before .before in
+    let start = start-eta .before .before .before .before .before .before .before .before .before .before .before .before .before .before in (
+      lent-kept (start .pre .0 .lent)
+          (iterate .iterate .kept .1 .1 .1 .1 .1 .1 .1 .1 .1 .1 .1 .1 .1 .1 .1 .1 .0
+          ∙ (loop .loop .inv .rows-only .len ∙ start-eta .start-eta .ensures .only .len))
+          (iterate .iterate .kept .1 .1 .1 .1 .1 .1 .1 .1 .1 .1 .1 .1 .1 .1 .1 .1 .1 .0 ∙ loop .loop .inv .matrices-only .len)
+          (iterate .iterate .kept .1 .1 .1 .1 .1 .1 .1 .1 .1 .1 .1 .1 .1 .1 .1 .1 .1 .1 .0 ∙ loop .loop .inv .terms-only .len),
+      start .pre .0 .y-long,
+    )
 
 stopped-fit-requires : tie.Need-stopped-fit-requires Inv-loop μ-loop
 stopped-fit-requires c κs = search needs
 
 same-length-7 : tie.Need-same-length-7 Inv-loop μ-loop
-same-length-7 c = c .before .before .before .before .before .stop .kept .1 .1 .1 .1 .1 .1 .0 ∙ c .before .before .before .before .before .before .before .before .before .before .before .before .before .before .before .before .before .before .before .before .iterate .kept .1 .1 .1 .1 .1 .1 .1 .1 .1 .1 .1 .1 .1 .1 .1 .1 .0 ∙ (c .before .before .before .before .before .before .before .before .before .before .before .before .before .before .before .before .before .before .before .before .before .before .before .before .before .loop .inv .rows-only .len ∙ c .before .before .before .before .before .before .before .before .before .before .before .before .before .before .before .before .before .before .before .before .before .before .before .before .before .before .before .before .start-eta .ensures .only .len)
+same-length-7 c =
+    let stop = c .before .before .before .before .before in
+    let iterate = stop .before .before .before .before .before .before .before .before .before .before .before .before .before .before .before in
+    let loop = iterate .before .before .before .before .before in
+    let start-eta = loop .before .before .before in
+    stop .stop .kept .1 .1 .1 .1 .1 .1 .0 ∙ iterate .iterate .kept .1 .1 .1 .1 .1 .1 .1 .1 .1 .1 .1 .1 .1 .1 .1 .1 .0
+    ∙ (loop .loop .inv .rows-only .len ∙ start-eta .start-eta .ensures .only .len)
 
 same-length-8 : tie.Need-same-length-8 Inv-loop μ-loop
-same-length-8 c = c .before .before .before .before .before .stop .kept .1 .1 .1 .1 .1 .1 .1 .0 ∙ c .before .before .before .before .before .before .before .before .before .before .before .before .before .before .before .before .before .before .before .before .iterate .kept .1 .1 .1 .1 .1 .1 .1 .1 .1 .1 .1 .1 .1 .1 .1 .1 .1 .0 ∙ c .before .before .before .before .before .before .before .before .before .before .before .before .before .before .before .before .before .before .before .before .before .before .before .before .before .loop .inv .matrices-only .len
+same-length-8 c =
+    let stop = c .before .before .before .before .before in
+    let iterate = stop .before .before .before .before .before .before .before .before .before .before .before .before .before .before .before in
+    let loop = iterate .before .before .before .before .before in
+    stop .stop .kept .1 .1 .1 .1 .1 .1 .1 .0 ∙ iterate .iterate .kept .1 .1 .1 .1 .1 .1 .1 .1 .1 .1 .1 .1 .1 .1 .1 .1 .1 .0
+    ∙ loop .loop .inv .matrices-only .len
 
 same-length-9 : tie.Need-same-length-9 Inv-loop μ-loop
-same-length-9 c = c .before .before .before .before .before .before .before .before .before .before .before .before .before .before .before .before .before .before .before .before .iterate .kept .1 .1 .1 .1 .1 .1 .1 .1 .1 .1 .1 .1 .1 .1 .1 .1 .1 .1 .0 ∙ c .before .before .before .before .before .before .before .before .before .before .before .before .before .before .before .before .before .before .before .before .before .before .before .before .before .loop .inv .terms-only .len
+same-length-9 c =
+    let iterate = c .before .before .before .before .before .before .before .before .before
+    .before .before .before .before .before .before .before .before .before .before .before in
+    let loop = iterate .before .before .before .before .before in
+    iterate .iterate .kept .1 .1 .1 .1 .1 .1 .1 .1 .1 .1 .1 .1 .1 .1 .1 .1 .1 .1 .0 ∙ loop .loop .inv .terms-only .len
 
 returns-3 : tie.Need-returns-3 Inv-loop μ-loop
-returns-3 c = end-stopped (c .before .before .before .before .before .before .before .before .before .before .before .before .before .before .before .before .before .before .before .before .before .before .before .before .before .before .before .before .before .before .before .before .before .before .before .before .before .before .before .before .before .before .args .family) (c .before .before .before .before .before .before .before .before .before .before .before .before .before .before .before .before .before .before .before .before .before .before .before .before .before .before .before .before .before .before .before .before .before .before .before .before .before .before .before .before .before .before .args .link) (c .before .before .before .before .before .before .before .before .before .before .before .before .before .before .before .before .before .before .before .before .before .before .before .before .before .before .before .before .before .before .before .before .before .before .before .before .before .before .before .before .before .before .args .phi) (c .before .before .before .before .before .before .before .before .before .before .before .before .before .before .before .before .before .before .before .before .before .before .before .before .before .before .before .before .before .before .before .before .before .before .before .before .before .before .before .before .before .before .args .limit) (c .before .before .before .before .before .before .before .before .before .before .before .before .before .before .before .before .before .before .before .before .before .before .before .before .before .before .before .before .before .before .before .before .before .before .before .before .before .before .before .before .before .before .args .n) (c .before .before .before .before .before .before .before .before .before .before .before .before .before .before .before .before .before .before .before .before .before .before .before .before .before .before .before .before .before .before .before .before .before .before .before .before .before .before .before .before .before .before .args .p) (c .before .before .before .before .before .before .before .before .before .before .before .before .before .before .before .before .before .before .before .before .before .before .before .before .before .before .before .before .before .before .before .before .before .before .before .before .before .before .before .before .before .before .args .q) (c .before .before .before .before .before .before .before .before .before .before .before .before .before .before .before .before .before .before .before .before .before .before .before .before .before .before .before .before .before .before .before .before .before .before .before .before .before .before .before .before .before .before .args .shape) (c .before .before .before .before .before .before .before .before .before .before .before .before .before .before .before .before .before .before .before .before .before .before .before .before .before .before .before .before .before .before .before .before .before .before .before .before .before .before .before .before .before .before .args .theta .now) (c .before .before .before .before .before .before .before .before .before .before .before .before .before .before .before .before .before .before .before .before .before .before .before .before .before .before .before .before .before .before .before .before .before .before .before .before .before .before .before .before .before .before .args .offset .now) (c .before .before .before .before .before .before .before .before .before .before .before .before .before .before .before .before .before .before .before .before .before .before .before .before .before .before .before .before .before .before .before .before .before .before .before .before .before .before .before .before .before .before .args .x .now) (c .before .before .before .before .before .before .before .before .before .before .before .before .before .before .before .before .before .before .before .before .before .before .before .before .before .before .before .before .before .before .before .before .before .before .before .before .before .before .before .before .before .before .args .y .now) (c .before .before .before .before .before .before .before .before .before .before .before .before .before .before .before .before .before .before .before .before .before .before .before .before .before .before .before .before .before .before .before .before .before .before .before .before .before .before .before .before .before .before .args .weights .now) _ (c .before .before .before .before .before .before .before .before .before .before .before .before .before .before .before .before .before .before .before .before .before .before .before .before .before .before .before .before .before .before .before .before .before .before .before .before .before .before .before .before .before .before .pre .0 .ready .effects) _ _ _ _ _ (c .before .before .before .before .before .before .before .before .before .before .before .before .before .before .before .before .before .before .before .before .before .before .before .before .before .before .before .before .before .before .before .before .before .before .before .before .before .before .before .before .before .before .pre .0 .lent) (c .before .before .before .before .before .before .before .before .before .before .before .before .before .before .before .before .before .before .before .before .before .before .before .before .before .before .before .before .before .before .mu-row .ensures) (c .before .before .before .before .before .before .before .before .before .before .before .before .before .before .before .before .before .before .before .before .before .before .before .before .before .before .before .before .start-eta .ensures) _ _ _ _ _ _ _ _ (c .before .before .before .before .before .before .before .before .before .before .before .before .before .before .before .before .before .before .before .before .before .before .before .before .before .loop .inv) _ _ _ _ (c .before .before .before .before .before .before .before .before .before .before .before .before .before .before .before .before .before .before .before .before .before .before .before .before .loop-test .taken) (c .before .before .before .before .before .before .before .before .before .before .before .before .before .before .before .before .before .before .before .before .iterate .ensures) _ _ (c .before .before .before .before .before .before .before .before .before .before .before .before .it3 .given .1) _ _ _ _ _ (sym (c .before .before .before .before .before .before .before .before .before .before .stops .ensures) ∙ c .before .before .before .before .before .before .before .before .before .if1 .taken) (lent-kept (c .before .before .before .before .before .before .before .before .before .before .before .before .before .before .before .before .before .before .before .before .before .before .before .before .before .before .before .before .before .before .before .before .before .before .before .before .before .before .before .before .before .before .pre .0 .lent) (c .before .before .before .before .before .before .before .before .before .before .before .before .before .before .before .before .before .before .before .before .iterate .kept .1 .1 .1 .1 .1 .1 .1 .1 .1 .1 .1 .1 .1 .1 .1 .1 .0 ∙ (c .before .before .before .before .before .before .before .before .before .before .before .before .before .before .before .before .before .before .before .before .before .before .before .before .before .loop .inv .rows-only .len ∙ c .before .before .before .before .before .before .before .before .before .before .before .before .before .before .before .before .before .before .before .before .before .before .before .before .before .before .before .before .start-eta .ensures .only .len)) (c .before .before .before .before .before .before .before .before .before .before .before .before .before .before .before .before .before .before .before .before .iterate .kept .1 .1 .1 .1 .1 .1 .1 .1 .1 .1 .1 .1 .1 .1 .1 .1 .1 .0 ∙ c .before .before .before .before .before .before .before .before .before .before .before .before .before .before .before .before .before .before .before .before .before .before .before .before .before .loop .inv .matrices-only .len) (c .before .before .before .before .before .before .before .before .before .before .before .before .before .before .before .before .before .before .before .before .iterate .kept .1 .1 .1 .1 .1 .1 .1 .1 .1 .1 .1 .1 .1 .1 .1 .1 .1 .1 .0 ∙ c .before .before .before .before .before .before .before .before .before .before .before .before .before .before .before .before .before .before .before .before .before .before .before .before .before .loop .inv .terms-only .len)) (c .before .before .before .before .before .stop .ensures) refl (c .stopped-fit .ensures)
+returns-3 c =
+    let stop = c .before .before .before .before .before in
+    let if1 = stop .before .before .before .before in
+    let stops = if1 .before in
+    let it3 = stops .before .before in
+    let iterate = it3 .before .before .before .before .before .before .before .before in
+    let loop-test = iterate .before .before .before .before in
+    let loop = loop-test .before in
+    let start-eta = loop .before .before .before in
+    let mu-row = start-eta .before .before in
+    let start = mu-row .before .before .before .before .before .before .before .before .before .before .before .before in
+    let args = start .args in
+    end-stopped (args .family) (args .link) (args .phi) (args .limit) (args .n) (args .p) (args .q) (args .shape) (args .theta .now) (args .offset .now)
+    (args .x .now) (args .y .now) (args .weights .now) _ (start .pre .0 .ready .effects) _ _ _ _ _ (start .pre .0 .lent) (mu-row .mu-row .ensures)
+    (start-eta .start-eta .ensures) _ _ _ _ _ _ _ _ (loop .loop .inv) _ _ _ _ (loop-test .loop-test .taken) (iterate .iterate .ensures) _ _ (it3 .it3 .given .1)
+    _ _ _ _ _ (sym (stops .stops .ensures) ∙ if1 .if1 .taken)
+    (lent-kept (start .pre .0 .lent)
+    (iterate .iterate .kept .1 .1 .1 .1 .1 .1 .1 .1 .1 .1 .1 .1 .1 .1 .1 .1 .0
+    ∙ (loop .loop .inv .rows-only .len ∙ start-eta .start-eta .ensures .only .len))
+    (iterate .iterate .kept .1 .1 .1 .1 .1 .1 .1 .1 .1 .1 .1 .1 .1 .1 .1 .1 .1 .0 ∙ loop .loop .inv .matrices-only .len)
+    (iterate .iterate .kept .1 .1 .1 .1 .1 .1 .1 .1 .1 .1 .1 .1 .1 .1 .1 .1 .1 .1 .0 ∙ loop .loop .inv .terms-only .len)) (stop .stop .ensures) refl
+    (c .stopped-fit .ensures)
 
 loop-less : tie.Need-loop-less Inv-loop μ-loop
-loop-less c = omega (arith, c .before .before .before .before .before .before .before .before .before .before .before .before .before .before .before .loop-test .taken)
+loop-less c =
+    let loop-test = c .before .before .before .before .before .before .before .before .before .before .before .before .before .before .before in
+    omega (arith, loop-test .loop-test .taken)
 
 loop-again : tie.Need-loop-again Inv-loop μ-loop
-loop-again c = turn-on (c .before .before .before .before .before .before .before .before .before .before .before .before .before .before .before .before .before .before .before .before .before .before .before .before .before .before .before .before .before .before .before .before .before .args .family) (c .before .before .before .before .before .before .before .before .before .before .before .before .before .before .before .before .before .before .before .before .before .before .before .before .before .before .before .before .before .before .before .before .before .args .link) (c .before .before .before .before .before .before .before .before .before .before .before .before .before .before .before .before .before .before .before .before .before .before .before .before .before .before .before .before .before .before .before .before .before .args .phi) (c .before .before .before .before .before .before .before .before .before .before .before .before .before .before .before .before .before .before .before .before .before .before .before .before .before .before .before .before .before .before .before .before .before .args .limit) (c .before .before .before .before .before .before .before .before .before .before .before .before .before .before .before .before .before .before .before .before .before .before .before .before .before .before .before .before .before .before .before .before .before .args .n) (c .before .before .before .before .before .before .before .before .before .before .before .before .before .before .before .before .before .before .before .before .before .before .before .before .before .before .before .before .before .before .before .before .before .args .p) (c .before .before .before .before .before .before .before .before .before .before .before .before .before .before .before .before .before .before .before .before .before .before .before .before .before .before .before .before .before .before .before .before .before .args .q) (c .before .before .before .before .before .before .before .before .before .before .before .before .before .before .before .before .before .before .before .before .before .before .before .before .before .before .before .before .before .before .before .before .before .args .shape) (c .before .before .before .before .before .before .before .before .before .before .before .before .before .before .before .before .before .before .before .before .before .before .before .before .before .before .before .before .before .before .before .before .before .args .theta .now) (c .before .before .before .before .before .before .before .before .before .before .before .before .before .before .before .before .before .before .before .before .before .before .before .before .before .before .before .before .before .before .before .before .before .args .offset .now) (c .before .before .before .before .before .before .before .before .before .before .before .before .before .before .before .before .before .before .before .before .before .before .before .before .before .before .before .before .before .before .before .before .before .args .x .now) (c .before .before .before .before .before .before .before .before .before .before .before .before .before .before .before .before .before .before .before .before .before .before .before .before .before .before .before .before .before .before .before .before .before .args .y .now) (c .before .before .before .before .before .before .before .before .before .before .before .before .before .before .before .before .before .before .before .before .before .before .before .before .before .before .before .before .before .before .before .before .before .args .weights .now) _ (c .before .before .before .before .before .before .before .before .before .before .before .before .before .before .before .before .before .before .before .before .before .before .before .before .before .before .before .before .before .before .before .before .before .pre .0 .ready .effects) _ _ _ _ _ (c .before .before .before .before .before .before .before .before .before .before .before .before .before .before .before .before .before .before .before .before .before .before .before .before .before .before .before .before .before .before .before .before .before .pre .0 .lent) (c .before .before .before .before .before .before .before .before .before .before .before .before .before .before .before .before .before .before .before .before .before .mu-row .ensures) (c .before .before .before .before .before .before .before .before .before .before .before .before .before .before .before .before .before .before .before .start-eta .ensures) _ _ _ _ _ _ _ _ (c .before .before .before .before .before .before .before .before .before .before .before .before .before .before .before .before .loop .inv) _ _ _ _ (c .before .before .before .before .before .before .before .before .before .before .before .before .before .before .before .loop-test .taken) (c .before .before .before .before .before .before .before .before .before .before .before .iterate .ensures) _ _ (c .before .before .before .it3 .given .1) (sym (c .before .stops .ensures) ∙ c .if1 .left)
+loop-again c =
+    let it3 = c .before .before .before in
+    let iterate = it3 .before .before .before .before .before .before .before .before in
+    let loop-test = iterate .before .before .before .before in
+    let loop = loop-test .before in
+    let start-eta = loop .before .before .before in
+    let mu-row = start-eta .before .before in
+    let start = mu-row .before .before .before .before .before .before .before .before .before .before .before .before in
+    let args = start .args in
+    turn-on (args .family) (args .link) (args .phi) (args .limit) (args .n) (args .p) (args .q) (args .shape) (args .theta .now) (args .offset .now)
+    (args .x .now) (args .y .now) (args .weights .now) _ (start .pre .0 .ready .effects) _ _ _ _ _ (start .pre .0 .lent) (mu-row .mu-row .ensures)
+    (start-eta .start-eta .ensures) _ _ _ _ _ _ _ _ (loop .loop .inv) _ _ _ _ (loop-test .loop-test .taken) (iterate .iterate .ensures) _ _ (it3 .it3 .given .1)
+    (sym (c .before .stops .ensures) ∙ c .if1 .left)
 
 failed-fit-requires-3 : tie.Need-failed-fit-requires-3 Inv-loop μ-loop
 failed-fit-requires-3 c κs = search needs
@@ -127,7 +284,14 @@ same-length-12 : tie.Need-same-length-12 Inv-loop μ-loop
 same-length-12 c = c .before .before .loop .inv .terms-only .len
 
 returns-4 : tie.Need-returns-4 Inv-loop μ-loop
-returns-4 c = end-spent (c .before .before .before .before .before .before .before .before .before .before .before .before .before .before .before .before .before .before .before .args .family) (c .before .before .before .before .before .before .before .before .before .before .before .before .before .before .before .before .before .before .before .args .link) (c .before .before .before .before .before .before .before .before .before .before .before .before .before .before .before .before .before .before .before .args .phi) (c .before .before .before .before .before .before .before .before .before .before .before .before .before .before .before .before .before .before .before .args .limit) (c .before .before .before .before .before .before .before .before .before .before .before .before .before .before .before .before .before .before .before .args .n) (c .before .before .before .before .before .before .before .before .before .before .before .before .before .before .before .before .before .before .before .args .p) (c .before .before .before .before .before .before .before .before .before .before .before .before .before .before .before .before .before .before .before .args .q) (c .before .before .before .before .before .before .before .before .before .before .before .before .before .before .before .before .before .before .before .args .shape) (c .before .before .before .before .before .before .before .before .before .before .before .before .before .before .before .before .before .before .before .args .theta .now) (c .before .before .before .before .before .before .before .before .before .before .before .before .before .before .before .before .before .before .before .args .offset .now) (c .before .before .before .before .before .before .before .before .before .before .before .before .before .before .before .before .before .before .before .args .x .now) (c .before .before .before .before .before .before .before .before .before .before .before .before .before .before .before .before .before .before .before .args .y .now) (c .before .before .before .before .before .before .before .before .before .before .before .before .before .before .before .before .before .before .before .args .weights .now) _ (c .before .before .before .before .before .before .before .before .before .before .before .before .before .before .before .before .before .before .before .pre .0 .ready .effects) _ _ _ _ _ (c .before .before .before .before .before .before .before .before .before .before .before .before .before .before .before .before .before .before .before .pre .0 .lent) (c .before .before .before .before .before .before .before .mu-row .ensures) (c .before .before .before .before .before .start-eta .ensures) _ _ _ _ _ _ _ _ (c .before .before .loop .inv) _ _ (omega arith) refl (c .failed-fit3 .ensures)
+returns-4 c =
+    let start-eta = c .before .before .before .before .before in
+    let mu-row = start-eta .before .before in
+    let start = mu-row .before .before .before .before .before .before .before .before .before .before .before .before in
+    let args = start .args in
+    end-spent (args .family) (args .link) (args .phi) (args .limit) (args .n) (args .p) (args .q) (args .shape) (args .theta .now) (args .offset .now)
+    (args .x .now) (args .y .now) (args .weights .now) _ (start .pre .0 .ready .effects) _ _ _ _ _ (start .pre .0 .lent) (mu-row .mu-row .ensures)
+    (start-eta .start-eta .ensures) _ _ _ _ _ _ _ _ (c .before .before .loop .inv) _ _ (omega arith) refl (c .failed-fit3 .ensures)
 
 pub inner-fit-spec : {M : Type 1} → statement M
 inner-fit-spec =
