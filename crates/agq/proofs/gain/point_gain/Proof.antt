@@ -27,8 +27,8 @@ add-mark c = search needs
 
 lambda-within-requires : tie.Need-lambda-within-requires
 lambda-within-requires c κs =
-    let s = c .before .before .before .before .before .before .before .before .before .before in
-    ((s .pre .good, s .pre .effects, s .pre .thetas), (omega (arith, s .pre .in-m), omega (arith, s .pre .in-m), inl (omega arith)))
+    let start = c .before .before .before .before .before .before .before .before .before .before in
+    ((start .pre .good, start .pre .effects, start .pre .thetas), (omega (arith, start .pre .in-m), omega (arith, start .pre .in-m), inl (omega arith)))
 
 mul-z-times : tie.Need-mul-z-times
 mul-z-times c = search needs
@@ -61,18 +61,35 @@ z-times-requires c κs =
 
 point-means-requires : tie.Need-point-means-requires
 point-means-requires c κs =
-    let s = c .before .before .before .before .before .before .before .before .before .before .before .before .before .before .before .before .before .before .before .before in
-    let a = s .args in
-    let w = filled-part (a .xbeta + a .n + a .n) (a .n) _ _ (a .r .now) (c .before .before .before .z-times .last .1 .1 .1 .1 .1 .1 .0) refl (omega (arith, s .pre .in-r)) (c .before .before .before .z-times .kept .1 .1 .1 .1 .1 .1 .0) (c .before .before .before .z-times .ensures) in
-    (s .pre .offsets, omega (arith, s .pre .in-r, w .only .len), omega (arith, s .pre .in-r, w .only .len), omega (arith, s .pre .in-r, w .only .len), inl (omega arith), inr (omega arith))
+    let z-times = c .before .before .before in
+    let start = z-times .before .before .before .before .before .before .before .before
+    .before .before .before .before .before .before .before .before .before in
+    let a = start .args in
+    let w = filled-part (a .xbeta + a .n + a .n) (a .n) _ _ (a .r .now) (z-times .z-times .last .1 .1 .1 .1 .1 .1 .0) refl (omega (arith, start .pre .in-r))
+    (z-times .z-times .kept .1 .1 .1 .1 .1 .1 .0) (z-times .z-times .ensures) in (
+      start .pre .offsets,
+      omega (arith, start .pre .in-r, w .only .len),
+      omega (arith, start .pre .in-r, w .only .len),
+      omega (arith, start .pre .in-r, w .only .len),
+      inl (omega arith),
+      inr (omega arith),
+    )
 
 deviance-gain-requires : tie.Need-deviance-gain-requires
 deviance-gain-requires c κs =
-    let s = c .before .before .before .before .before .before .before .before .before .before .before .before .before .before .before .before .before .before .before .before .before .before .before .before in
-    let a = s .args in
-    let w = filled-part (a .xbeta + a .n + a .n) (a .n) _ _ (a .r .now) (c .before .before .before .before .before .before .before .z-times .last .1 .1 .1 .1 .1 .1 .0) refl (omega (arith, s .pre .in-r)) (c .before .before .before .before .before .before .before .z-times .kept .1 .1 .1 .1 .1 .1 .0) (c .before .before .before .before .before .before .before .z-times .ensures) in
-    let len = c .before .before .before .point-means .ensures .only .len in
-    (s .pre .responses, omega (arith, s .pre .in-r, w .only .len, len), omega (arith, s .pre .in-r, w .only .len, len), omega (arith, s .pre .in-r, w .only .len, len))
+    let point-means = c .before .before .before in
+    let z-times = point-means .before .before .before .before in
+    let start = z-times .before .before .before .before .before .before .before .before
+    .before .before .before .before .before .before .before .before .before in
+    let a = start .args in
+    let w = filled-part (a .xbeta + a .n + a .n) (a .n) _ _ (a .r .now) (z-times .z-times .last .1 .1 .1 .1 .1 .1 .0) refl (omega (arith, start .pre .in-r))
+    (z-times .z-times .kept .1 .1 .1 .1 .1 .1 .0) (z-times .z-times .ensures) in
+    let len = point-means .point-means .ensures .only .len in (
+      start .pre .responses,
+      omega (arith, start .pre .in-r, w .only .len, len),
+      omega (arith, start .pre .in-r, w .only .len, len),
+      omega (arith, start .pre .in-r, w .only .len, len),
+    )
 
 same-length : tie.Need-same-length
 same-length c = search needs
@@ -82,9 +99,16 @@ same-length-2 c = search needs
 
 returns : tie.Need-returns
 returns c =
-    let s = c .before .before .before .before .before .before .before .before .before .before .before .before .before .before .before .before .before .before .before .before .before .before .before .before .before in
-    let a = s .args in
-    gain-made (a .family) (a .link) (a .shape) (a .theta .now) (sparse (a .starts .now) (a .columns .now) (a .values .now)) (a .y .now) (a .weights .now) (a .offset .now) (a .n) (a .q) (a .xbeta) (a .trial) (a .r .now) _ _ (a .m .now) _ _ _ (s .pre .in-r) (c .before .before .before .before .before .before .before .before .before .before .before .before .before .before .lambda-within .ensures) (part-is (a .trial + a .q) (a .q) _ _ refl) (filled-part (a .xbeta + a .n + a .n) (a .n) _ _ (a .r .now) (c .before .before .before .before .before .before .before .before .z-times .last .1 .1 .1 .1 .1 .1 .0) refl (omega (arith, s .pre .in-r)) (c .before .before .before .before .before .before .before .before .z-times .kept .1 .1 .1 .1 .1 .1 .0) (c .before .before .before .before .before .before .before .before .z-times .ensures)) (c .before .before .before .before .point-means .ensures) (c .deviance-gain .ensures)
+    let point-means = c .before .before .before .before in
+    let z-times = point-means .before .before .before .before in
+    let lambda-within = z-times .before .before .before .before .before .before in
+    let start = lambda-within .before .before .before .before .before .before .before .before .before .before .before in
+    let a = start .args in
+    gain-made (a .family) (a .link) (a .shape) (a .theta .now) (sparse (a .starts .now) (a .columns .now) (a .values .now)) (a .y .now) (a .weights .now)
+    (a .offset .now) (a .n) (a .q) (a .xbeta) (a .trial) (a .r .now) _ _ (a .m .now) _ _ _ (start .pre .in-r) (lambda-within .lambda-within .ensures)
+    (part-is (a .trial + a .q) (a .q) _ _ refl)
+    (filled-part (a .xbeta + a .n + a .n) (a .n) _ _ (a .r .now) (z-times .z-times .last .1 .1 .1 .1 .1 .1 .0) refl (omega (arith, start .pre .in-r))
+    (z-times .z-times .kept .1 .1 .1 .1 .1 .1 .0) (z-times .z-times .ensures)) (point-means .point-means .ensures) (c .deviance-gain .ensures)
 
 pub point-gain-spec : {M : Type 1} → statement M
 point-gain-spec =

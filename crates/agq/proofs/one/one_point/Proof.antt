@@ -16,8 +16,8 @@ mul-hat c = omega arith
 
 slice-read-hat : tie.Need-slice-read-hat
 slice-read-hat c =
-    let s = c .before .before .before .before .before .before .before .before .before .before in
-    omega (arith, s .pre .0 .in-m, s .pre .1)
+    let start = c .before .before .before .before .before .before .before .before .before .before in
+    omega (arith, start .pre .0 .in-m, start .pre .1)
 
 add-m : tie.Need-add-m
 add-m c = omega arith
@@ -30,9 +30,18 @@ slice-write-m c = omega arith
 
 point-gain-requires : tie.Need-point-gain-requires
 point-gain-requires c κs =
-    let s = c .before .before .before .before .before .before .before .before .before .before .before .before in
-    let p = s .pre .0 in
-    record { good = p .good; effects = p .effects; thetas = p .thetas; rows = p .rows; responses = p .responses; offsets = p .offsets; in-r = p .in-r; in-m = simp length-set (p .in-m) }
+    let start = c .before .before .before .before .before .before .before .before .before .before .before .before in
+    let p = start .pre .0 in
+    record {
+      good = p .good;
+      effects = p .effects;
+      thetas = p .thetas;
+      rows = p .rows;
+      responses = p .responses;
+      offsets = p .offsets;
+      in-r = p .in-r;
+      in-m = simp length-set (p .in-m);
+    }
 
 delta-requires : tie.Need-delta-requires
 delta-requires c κs = omega arith
@@ -45,9 +54,12 @@ same-length-2 c = c .before .before .before .before .before .point-gain .ensures
 
 returns : tie.Need-returns
 returns c =
-    let s = c .before .before .before .before .before .before .before .before .before .before .before .before .before .before .before .before .before .before in
-    let a = s .args in
-    one-made (a .family) (a .link) (a .shape) (a .theta .now) (sparse (a .starts .now) (a .columns .now) (a .values .now)) (a .y .now) (a .weights .now) (a .offset .now) (a .n) (a .q) (a .xbeta) (a .g) (a .sigma) (a .node) (a .log-weight) (a .inv-phi) (a .u) (a .trial) (a .r .now) _ (a .m .now) _ (s .pre .1 .0) (s .pre .1 .1) (s .pre .0 .in-m) _ _ (c .before .before .before .before .before .point-gain .ensures) (c .delta .ensures)
+    let point-gain = c .before .before .before .before .before in
+    let start = point-gain .before .before .before .before .before .before .before .before .before .before .before .before .before in
+    let a = start .args in
+    one-made (a .family) (a .link) (a .shape) (a .theta .now) (sparse (a .starts .now) (a .columns .now) (a .values .now)) (a .y .now) (a .weights .now)
+    (a .offset .now) (a .n) (a .q) (a .xbeta) (a .g) (a .sigma) (a .node) (a .log-weight) (a .inv-phi) (a .u) (a .trial) (a .r .now) _ (a .m .now) _
+    (start .pre .1 .0) (start .pre .1 .1) (start .pre .0 .in-m) _ _ (point-gain .point-gain .ensures) (c .delta .ensures)
 
 pub one-point-spec : {M : Type 1} → statement M
 one-point-spec =

@@ -14,22 +14,31 @@ use Rattle.agq.proofs.one.one_terms.Statement.{statement}
 use Rattle.agq.proofs.one.one_terms.Tie as tie
 
 abbrev Inv-loop : tie.InvT-loop
-Inv-loop family link shape theta starts columns values y weights offset n q xbeta r₀ nodes node-weights size g sigma inv-phi u trial m₀ terms₀ i₀ r m terms i = (i ≤ size) × (length terms ≡ length terms₀) × (terms ≡ fillTo i (oneTermAtNode family link shape theta (sparse starts columns values) y weights offset n q xbeta g sigma inv-phi (row u q m₀) r₀ (row trial q m₀) nodes node-weights) terms₀) × (Only trial (q + q) m₀ m) × (Only (xbeta + n + n) n r₀ r) × (Only g 1 (row trial q m₀) (row trial q m))
+Inv-loop family link shape theta starts columns values y weights offset n q xbeta r₀ nodes node-weights size g sigma inv-phi u trial m₀ terms₀ i₀ r m terms i =
+    (i ≤ size) × (length terms ≡ length terms₀)
+    × (terms ≡ fillTo i
+    (oneTermAtNode family link shape theta (sparse starts columns values) y weights offset n q xbeta g sigma inv-phi (row u q m₀) r₀ (row trial q m₀) nodes
+    node-weights) terms₀) × (Only trial (q + q) m₀ m) × (Only (xbeta + n + n) n r₀ r) × (Only g 1 (row trial q m₀) (row trial q m))
 
 abbrev μ-loop : tie.MeasureT-loop
-μ-loop family link shape theta starts columns values y weights offset n q xbeta r₀ nodes node-weights size g sigma inv-phi u trial m₀ terms₀ i₀ r m terms i = size - i
+μ-loop family link shape theta starts columns values y weights offset n q xbeta r₀ nodes node-weights size g sigma inv-phi u trial m₀ terms₀ i₀ r m terms i =
+    size - i
 
 loop-holds : tie.Need-loop-holds Inv-loop μ-loop
 loop-holds c = (omega arith, omega arith, fill-none _ _, only-none _ _ _, only-none _ _ _, only-none _ _ _)
 
 mul-node : tie.Need-mul-node Inv-loop μ-loop
-mul-node c = omega (arith, c .loop-test .taken, c .before .before .before .before .before .before .before .before .before .before .before .before .before .before .pre .1, c .before .before .before .before .before .before .before .before .before .before .before .before .before .before .good .1 .1 .1 .1 .1 .1 .1 .1 .1 .1 .1 .1 .1 .1 .0)
+mul-node c =
+    let start = c .before .before .before .before .before .before .before .before .before .before .before .before .before .before in
+    omega (arith, c .loop-test .taken, start .pre .1, start .good .1 .1 .1 .1 .1 .1 .1 .1 .1 .1 .1 .1 .1 .1 .0)
 
 shared-slice-read-node : tie.Need-shared-slice-read-node Inv-loop μ-loop
 shared-slice-read-node c = omega arith
 
 mul-ln : tie.Need-mul-ln Inv-loop μ-loop
-mul-ln c = omega (arith, c .before .loop-test .taken, c .before .before .before .before .before .before .before .before .before .before .before .before .before .before .before .pre .1, c .before .before .before .before .before .before .before .before .before .before .before .before .before .before .before .good .1 .1 .1 .1 .1 .1 .1 .1 .1 .1 .1 .1 .1 .1 .0)
+mul-ln c =
+    let start = c .before .before .before .before .before .before .before .before .before .before .before .before .before .before .before in
+    omega (arith, c .before .loop-test .taken, start .pre .1, start .good .1 .1 .1 .1 .1 .1 .1 .1 .1 .1 .1 .1 .1 .1 .0)
 
 shared-slice-read-ln : tie.Need-shared-slice-read-ln Inv-loop μ-loop
 shared-slice-read-ln c = omega arith
@@ -39,30 +48,76 @@ ln-requires c κs = omega arith
 
 one-point-requires : tie.Need-one-point-requires Inv-loop μ-loop
 one-point-requires c κs =
-    let s = c .before .before .before .before .before .before .before .before .before .before .before .before .before .before .before .before .before .before .before in
-    let p = s .pre .0 in
-    let l = c .before .before .before .before .before .before .loop in
-    (record { good = p .good; effects = p .effects; thetas = p .thetas; rows = p .rows; responses = p .responses; offsets = p .offsets; in-r = omega (arith, p .in-r, l .inv .4 .len); in-m = omega (arith, p .in-m, l .inv .3 .len) }, (s .pre .1 .0, s .pre .1 .1))
+    let loop = c .before .before .before .before .before .before in
+    let start = loop .before .before .before .before .before .before .before .before .before .before .before .before .before in
+    let p = start .pre .0 in
+    let l = loop .loop in (
+      record {
+        good = p .good;
+        effects = p .effects;
+        thetas = p .thetas;
+        rows = p .rows;
+        responses = p .responses;
+        offsets = p .offsets;
+        in-r = omega (arith, p .in-r, l .inv .4 .len);
+        in-m = omega (arith, p .in-m, l .inv .3 .len);
+      },
+      (start .pre .1 .0, start .pre .1 .1),
+    )
 
 mul-terms : tie.Need-mul-terms Inv-loop μ-loop
-mul-terms c = omega (arith, c .before .before .before .before .before .before .before .before .before .before .loop-test .taken, c .before .before .before .before .before .before .before .before .before .before .before .before .before .before .before .before .before .before .before .before .before .before .before .before .pre .1, c .before .before .before .before .before .before .before .before .before .before .before .before .before .before .before .before .before .before .before .before .before .before .before .before .good .1 .1 .1 .1 .1 .1 .1 .1 .1 .1 .1 .1 .1 .1 .0)
+mul-terms c =
+    let loop-test = c .before .before .before .before .before .before .before .before .before .before in
+    let start = loop-test .before .before .before .before .before .before .before .before .before .before .before .before .before .before in
+    omega (arith, loop-test .loop-test .taken, start .pre .1, start .good .1 .1 .1 .1 .1 .1 .1 .1 .1 .1 .1 .1 .1 .1 .0)
 
 slice-write-terms : tie.Need-slice-write-terms Inv-loop μ-loop
-slice-write-terms c = omega (arith, c .before .before .before .before .before .before .before .before .before .before .loop-test .taken, c .before .before .before .before .before .before .before .before .before .before .before .before .before .before .before .before .before .before .before .before .before .before .before .before .pre .1, c .before .before .before .before .before .before .before .before .before .before .before .loop .inv .1)
+slice-write-terms c =
+    let loop-test = c .before .before .before .before .before .before .before .before .before .before in
+    let loop = loop-test .before in
+    let start = loop .before .before .before .before .before .before .before .before .before .before .before .before .before in
+    omega (arith, loop-test .loop-test .taken, start .pre .1, loop .loop .inv .1)
 
 add-i : tie.Need-add-i Inv-loop μ-loop
-add-i c = omega (arith, c .before .before .before .before .before .before .before .before .before .before .loop-test .taken, c .before .before .before .before .before .before .before .before .before .before .before .before .before .before .before .before .before .before .before .before .before .before .before .before .pre .1, c .before .before .before .before .before .before .before .before .before .before .before .before .before .before .before .before .before .before .before .before .before .before .before .before .good .1 .1 .1 .1 .1 .1 .1 .1 .1 .1 .1 .1 .1 .1 .0)
+add-i c =
+    let loop-test = c .before .before .before .before .before .before .before .before .before .before in
+    let start = loop-test .before .before .before .before .before .before .before .before .before .before .before .before .before .before in
+    omega (arith, loop-test .loop-test .taken, start .pre .1, start .good .1 .1 .1 .1 .1 .1 .1 .1 .1 .1 .1 .1 .1 .1 .0)
 
 loop-less : tie.Need-loop-less Inv-loop μ-loop
 loop-less c = omega arith
 
 loop-again : tie.Need-loop-again Inv-loop μ-loop
 loop-again c =
-    let s = c .before .before .before .before .before .before .before .before .before .before .before .before .before .before .before .before .before .before .before .before .before .before .before .before in
-    let a = s .args in
-    let l = c .before .before .before .before .before .before .before .before .before .before .before .loop in
-    let p = rw (c .before .before .before .before .before .before .before .ln .ensures) at (c .before .before .before .before .one-point .ensures) in
-    (omega (arith, c .before .before .before .before .before .before .before .before .before .before .loop-test .taken), simp length-set (l .inv .1), rw (turn-term (a .family) (a .link) (a .shape) (a .theta .now) (sparse (a .starts .now) (a .columns .now) (a .values .now)) (a .y .now) (a .weights .now) (a .offset .now) (a .n) (a .q) (a .xbeta) (a .g) (a .sigma) (a .inv-phi) (a .u) (a .trial) (a .nodes .now) (a .node-weights .now) (a .r .now) (l .r) (a .m .now) (l .m) (s .pre .1 .0) (s .pre .1 .1) (s .pre .0 .in-m) (s .pre .0 .in-r) (l .inv .3) (l .inv .4) (l .inv .5) (l .i) _ _ _ p) (fill-step (oneTermAtNode (a .family) (a .link) (a .shape) (a .theta .now) (sparse (a .starts .now) (a .columns .now) (a .values .now)) (a .y .now) (a .weights .now) (a .offset .now) (a .n) (a .q) (a .xbeta) (a .g) (a .sigma) (a .inv-phi) (row (a .u) (a .q) (a .m .now)) (a .r .now) (row (a .trial) (a .q) (a .m .now)) (a .nodes .now) (a .node-weights .now)) (a .terms .now) (l .i) (l .terms) (l .inv .2)), turn-m (a .family) (a .link) (a .shape) (a .theta .now) (sparse (a .starts .now) (a .columns .now) (a .values .now)) (a .y .now) (a .weights .now) (a .offset .now) (a .n) (a .q) (a .xbeta) (a .g) (a .sigma) (a .inv-phi) (a .u) (a .trial) (a .nodes .now) (a .node-weights .now) (a .r .now) (l .r) (a .m .now) (l .m) (s .pre .1 .0) (s .pre .1 .1) (s .pre .0 .in-m) (s .pre .0 .in-r) (l .inv .3) (l .inv .4) (l .inv .5) (l .i) _ _ _ p, turn-r (a .family) (a .link) (a .shape) (a .theta .now) (sparse (a .starts .now) (a .columns .now) (a .values .now)) (a .y .now) (a .weights .now) (a .offset .now) (a .n) (a .q) (a .xbeta) (a .g) (a .sigma) (a .inv-phi) (a .u) (a .trial) (a .nodes .now) (a .node-weights .now) (a .r .now) (l .r) (a .m .now) (l .m) (s .pre .1 .0) (s .pre .1 .1) (s .pre .0 .in-m) (s .pre .0 .in-r) (l .inv .3) (l .inv .4) (l .inv .5) (l .i) _ _ _ p, turn-trial (a .family) (a .link) (a .shape) (a .theta .now) (sparse (a .starts .now) (a .columns .now) (a .values .now)) (a .y .now) (a .weights .now) (a .offset .now) (a .n) (a .q) (a .xbeta) (a .g) (a .sigma) (a .inv-phi) (a .u) (a .trial) (a .nodes .now) (a .node-weights .now) (a .r .now) (l .r) (a .m .now) (l .m) (s .pre .1 .0) (s .pre .1 .1) (s .pre .0 .in-m) (s .pre .0 .in-r) (l .inv .3) (l .inv .4) (l .inv .5) (l .i) _ _ _ p)
+    let one-point = c .before .before .before .before in
+    let ln = one-point .before .before .before in
+    let loop-test = ln .before .before .before in
+    let loop = loop-test .before in
+    let start = loop .before .before .before .before .before .before .before .before .before .before .before .before .before in
+    let pre = start .pre in
+    let a = start .args in
+    let l = loop .loop in
+    let p = rw (ln .ln .ensures) at (one-point .one-point .ensures) in (
+      omega (arith, loop-test .loop-test .taken),
+      simp length-set (l .inv .1),
+      rw (turn-term (a .family) (a .link) (a .shape) (a .theta .now) (sparse (a .starts .now) (a .columns .now) (a .values .now)) (a .y .now)
+          (a .weights .now) (a .offset .now) (a .n) (a .q) (a .xbeta) (a .g) (a .sigma) (a .inv-phi) (a .u) (a .trial) (a .nodes .now)
+          (a .node-weights .now) (a .r .now) (l .r) (a .m .now) (l .m) (pre .1 .0) (pre .1 .1) (pre .0 .in-m) (pre .0 .in-r) (l .inv .3) (l .inv .4)
+          (l .inv .5) (l .i) _ _ _ p)
+          (fill-step
+          (oneTermAtNode (a .family) (a .link) (a .shape) (a .theta .now) (sparse (a .starts .now) (a .columns .now) (a .values .now)) (a .y .now)
+          (a .weights .now) (a .offset .now) (a .n) (a .q) (a .xbeta) (a .g) (a .sigma) (a .inv-phi) (row (a .u) (a .q) (a .m .now)) (a .r .now)
+          (row (a .trial) (a .q) (a .m .now)) (a .nodes .now) (a .node-weights .now)) (a .terms .now) (l .i) (l .terms) (l .inv .2)),
+      turn-m (a .family) (a .link) (a .shape) (a .theta .now) (sparse (a .starts .now) (a .columns .now) (a .values .now)) (a .y .now) (a .weights .now)
+          (a .offset .now) (a .n) (a .q) (a .xbeta) (a .g) (a .sigma) (a .inv-phi) (a .u) (a .trial) (a .nodes .now) (a .node-weights .now) (a .r .now) (l .r)
+          (a .m .now) (l .m) (pre .1 .0) (pre .1 .1) (pre .0 .in-m) (pre .0 .in-r) (l .inv .3) (l .inv .4) (l .inv .5) (l .i) _ _ _ p,
+      turn-r (a .family) (a .link) (a .shape) (a .theta .now) (sparse (a .starts .now) (a .columns .now) (a .values .now)) (a .y .now) (a .weights .now)
+          (a .offset .now) (a .n) (a .q) (a .xbeta) (a .g) (a .sigma) (a .inv-phi) (a .u) (a .trial) (a .nodes .now) (a .node-weights .now) (a .r .now) (l .r)
+          (a .m .now) (l .m) (pre .1 .0) (pre .1 .1) (pre .0 .in-m) (pre .0 .in-r) (l .inv .3) (l .inv .4) (l .inv .5) (l .i) _ _ _ p,
+      turn-trial (a .family) (a .link) (a .shape) (a .theta .now) (sparse (a .starts .now) (a .columns .now) (a .values .now)) (a .y .now) (a .weights .now)
+          (a .offset .now) (a .n) (a .q) (a .xbeta) (a .g) (a .sigma) (a .inv-phi) (a .u) (a .trial) (a .nodes .now) (a .node-weights .now) (a .r .now) (l .r)
+          (a .m .now) (l .m) (pre .1 .0) (pre .1 .1) (pre .0 .in-m) (pre .0 .in-r) (l .inv .3) (l .inv .4) (l .inv .5) (l .i) _ _ _ p,
+    )
 
 same-length : tie.Need-same-length Inv-loop μ-loop
 same-length c = c .before .loop .inv .4 .len
