@@ -13,10 +13,16 @@ trial-gain-requires : tie.Need-trial-gain-requires
 trial-gain-requires c κs = search needs
 
 add-end : tie.Need-add-end
-add-end c = omega (arith, c .before .before .before .before .before .before .before .before .before .before .before .before .before .before .before .before .before .before .good .1 .1 .1 .1 .1 .1 .1 .1 .1 .1 .1 .1 .1 .1 .1 .1 .1 .1 .1 .1 .1 .1 .1 .0, c .before .before .before .before .before .before .before .before .before .before .before .before .before .before .before .before .before .before .pre .1 .0 .in-m)
+add-end c =
+    let start = c .before .before .before .before .before .before .before .before
+    .before .before .before .before .before .before .before .before .before .before in
+    omega (arith, start .good .1 .1 .1 .1 .1 .1 .1 .1 .1 .1 .1 .1 .1 .1 .1 .1 .1 .1 .1 .1 .1 .1 .1 .0, start .pre .1 .0 .in-m)
 
 mul-dot : tie.Need-mul-dot
-mul-dot c = omega (arith, c .before .before .before .before .before .before .before .before .before .before .before .before .before .before .before .before .before .before .good .1 .1 .1 .1 .1 .1 .1 .1 .1 .1 .1 .1 .1 .1 .1 .1 .1 .1 .1 .1 .1 .1 .1 .0, c .before .before .before .before .before .before .before .before .before .before .before .before .before .before .before .before .before .before .pre .1 .0 .in-m)
+mul-dot c =
+    let start = c .before .before .before .before .before .before .before .before
+    .before .before .before .before .before .before .before .before .before .before in
+    omega (arith, start .good .1 .1 .1 .1 .1 .1 .1 .1 .1 .1 .1 .1 .1 .1 .1 .1 .1 .1 .1 .1 .1 .1 .1 .0, start .pre .1 .0 .in-m)
 
 sub-dot : tie.Need-sub-dot
 sub-dot c = search needs
@@ -28,7 +34,10 @@ part-dot-end : tie.Need-part-dot-end
 part-dot-end c = search needs
 
 mul-dot-2 : tie.Need-mul-dot-2
-mul-dot-2 c = omega (arith, c .before .before .before .before .before .before .before .before .before .before .before .before .before .before .before .before .before .before .before .before .good .1 .1 .1 .1 .1 .1 .1 .1 .1 .1 .1 .1 .1 .1 .1 .1 .1 .1 .1 .1 .1 .1 .1 .0, c .before .before .before .before .before .before .before .before .before .before .before .before .before .before .before .before .before .before .before .before .pre .1 .0 .in-m)
+mul-dot-2 c =
+    let start = c .before .before .before .before .before .before .before .before .before
+    .before .before .before .before .before .before .before .before .before .before .before in
+    omega (arith, start .good .1 .1 .1 .1 .1 .1 .1 .1 .1 .1 .1 .1 .1 .1 .1 .1 .1 .1 .1 .1 .1 .1 .1 .0, start .pre .1 .0 .in-m)
 
 sub-dot-2 : tie.Need-sub-dot-2
 sub-dot-2 c = search needs
@@ -43,7 +52,10 @@ dot-requires : tie.Need-dot-requires
 dot-requires c κs = search needs
 
 log-weight-requires : tie.Need-log-weight-requires
-log-weight-requires c κs = (c .before .before .before .before .before .before .before .before .before .before .before .before .before .before .before .before .before .before .before .before .before .before .pre .1 .0 .some, c .before .before .before .before .before .before .before .before .before .before .before .before .before .before .before .before .before .before .before .before .before .before .pre .1 .1)
+log-weight-requires c κs =
+    let start = c .before .before .before .before .before .before .before .before .before .before
+    .before .before .before .before .before .before .before .before .before .before .before .before in
+    (start .pre .1 .0 .some, start .pre .1 .1)
 
 delta-requires : tie.Need-delta-requires
 delta-requires c κs = search needs
@@ -56,8 +68,14 @@ same-length-2 c = search needs
 
 returns : tie.Need-returns
 returns c =
-    let a = c .before .before .before .before .before .before .before .before .before .before .before .before .before .before .before .before .before .before .before .before .before .before .before .before .args in
-    joint-made (gainIn (a .family) (a .link) (a .shape) (a .theta .now) (sparse (a .starts .now) (a .columns .now) (a .values .now)) (a .y .now) (a .weights .now) (a .offset .now) (a .n) (a .q) (a .xbeta) (a .r .now)) (a .n) (a .q) (a .xbeta) (a .size) (a .l) (a .u) (a .trial) (a .point) (a .nodes .now) (a .node-logs .now) (a .inv-phi) (a .hats) (a .r .now) _ (a .m .now) _ (c .before .before .before .before .before .before .before .before .before .before .before .before .before .before .before .before .before .before .before .before .before .before .before .before .pre .1 .0) _ (c .before .before .before .before .before .before .before .before .before .before .trial-gain .ensures) _ _ _ _ (part-is (a .trial) (a .q) _ _ refl) (c .before .before .dot .ensures) (c .before .log-weight .ensures) (c .delta .ensures)
+    let trial-gain = c .before .before .before .before .before .before .before .before .before .before in
+    let start = trial-gain .before .before .before .before .before .before .before .before .before .before .before .before .before .before in
+    let a = start .args in
+    joint-made
+    (gainIn (a .family) (a .link) (a .shape) (a .theta .now) (sparse (a .starts .now) (a .columns .now) (a .values .now)) (a .y .now) (a .weights .now)
+    (a .offset .now) (a .n) (a .q) (a .xbeta) (a .r .now)) (a .n) (a .q) (a .xbeta) (a .size) (a .l) (a .u) (a .trial) (a .point) (a .nodes .now)
+    (a .node-logs .now) (a .inv-phi) (a .hats) (a .r .now) _ (a .m .now) _ (start .pre .1 .0) _ (trial-gain .trial-gain .ensures) _ _ _ _
+    (part-is (a .trial) (a .q) _ _ refl) (c .before .before .dot .ensures) (c .before .log-weight .ensures) (c .delta .ensures)
 
 pub joint-point-spec : {M : Type 1} → statement M
 joint-point-spec =

@@ -12,38 +12,68 @@ use Rattle.several.proofs.group.group_terms.Statement.{statement}
 use Rattle.several.proofs.group.group_terms.Tie as tie
 
 abbrev Inv-loop : tie.InvT-loop
-Inv-loop family link shape theta starts columns values y weights offset n q xbeta r₀ nodes node-logs size s k count inv-phi l u trial m₀ terms₀ i₀ r m terms i = (i ≤ count) × (TermsIn (groupTermIn (gainIn family link shape theta (sparse starts columns values) y weights offset n q xbeta r₀) s k inv-phi nodes node-logs size (row l (k * k) m₀) (row u q m₀) (row trial q m₀)) n q xbeta trial i r₀ r m₀ m terms₀ terms) × (Only s k (row trial q m₀) (row trial q m))
+Inv-loop family link shape theta starts columns values y weights offset n q xbeta r₀ nodes node-logs size s k count inv-phi l u trial m₀ terms₀ i₀ r m terms i =
+    (i ≤ count)
+    × (TermsIn
+    (groupTermIn (gainIn family link shape theta (sparse starts columns values) y weights offset n q xbeta r₀) s k inv-phi nodes node-logs size
+    (row l (k * k) m₀) (row u q m₀) (row trial q m₀)) n q xbeta trial i r₀ r m₀ m terms₀ terms) × (Only s k (row trial q m₀) (row trial q m))
 
 abbrev μ-loop : tie.MeasureT-loop
-μ-loop family link shape theta starts columns values y weights offset n q xbeta r₀ nodes node-logs size s k count inv-phi l u trial m₀ terms₀ i₀ r m terms i = count - i
+μ-loop family link shape theta starts columns values y weights offset n q xbeta r₀ nodes node-logs size s k count inv-phi l u trial m₀ terms₀ i₀ r m terms i =
+    count - i
 
 loop-holds : tie.Need-loop-holds Inv-loop μ-loop
 loop-holds c = (omega arith, terms-none, only-none _ _ _)
 
 group-point-requires : tie.Need-group-point-requires Inv-loop μ-loop
 group-point-requires c κs =
-    let a = c .before .before .before .before .before .before .before .before .before .before .before .before .before .before .before .before .args in
-    let at = c .before .before .before .loop in
-    (room-kept (a .shape) (a .theta .now) (a .starts .now) (a .columns .now) (a .values .now) (a .y .now) (a .offset .now) (a .n) (a .q) (a .xbeta) (a .r .now) (at .r) (a .trial) (a .m .now) (at .m) (at .inv .1 .in-r .len) (at .inv .1 .in-m .len) (c .before .before .before .before .before .before .before .before .before .before .before .before .before .before .before .before .pre .0), (grid-kept (a .q) (a .s) (a .k) (a .size) (a .l) (a .u) (a .trial) (a .nodes .now) (a .m .now) (at .m) (at .inv .1 .in-m .len) (c .before .before .before .before .before .before .before .before .before .before .before .before .before .before .before .before .pre .1 .0), c .before .before .before .before .before .before .before .before .before .before .before .before .before .before .before .before .pre .1 .1 .0))
+    let loop = c .before .before .before in
+    let start = loop .before .before .before .before .before .before .before .before .before .before .before .before .before in
+    let a = start .args in
+    let at = loop .loop in (
+      room-kept (a .shape) (a .theta .now) (a .starts .now) (a .columns .now) (a .values .now) (a .y .now) (a .offset .now) (a .n) (a .q) (a .xbeta)
+          (a .r .now) (at .r) (a .trial) (a .m .now) (at .m) (at .inv .1 .in-r .len) (at .inv .1 .in-m .len) (start .pre .0),
+      (
+        grid-kept (a .q) (a .s) (a .k) (a .size) (a .l) (a .u) (a .trial) (a .nodes .now) (a .m .now) (at .m) (at .inv .1 .in-m .len) (start .pre .1 .0),
+        start .pre .1 .1 .0,
+      ),
+    )
 
 mul-terms : tie.Need-mul-terms Inv-loop μ-loop
-mul-terms c = omega (arith, c .before .before .before .before .before .before .before .before .before .before .before .before .before .before .before .before .before .before .before .before .before .good .1 .1 .1 .1 .1 .1 .1 .1 .1 .1 .1 .1 .1 .1 .1 .1 .1 .1 .1 .1 .1 .1 .1 .1 .1 .0, c .before .before .before .before .before .before .before .loop-test .taken, c .before .before .before .before .before .before .before .before .before .before .before .before .before .before .before .before .before .before .before .before .before .pre .1 .1 .1)
+mul-terms c =
+    let loop-test = c .before .before .before .before .before .before .before in
+    let start = loop-test .before .before .before .before .before .before .before .before .before .before .before .before .before .before in
+    omega (arith, start .good .1 .1 .1 .1 .1 .1 .1 .1 .1 .1 .1 .1 .1 .1 .1 .1 .1 .1 .1 .1 .1 .1 .1 .1 .1 .0, loop-test .loop-test .taken, start .pre .1 .1 .1)
 
 slice-write-terms : tie.Need-slice-write-terms Inv-loop μ-loop
-slice-write-terms c = omega (arith, c .before .before .before .before .before .before .before .loop-test .taken, c .before .before .before .before .before .before .before .before .before .before .before .before .before .before .before .before .before .before .before .before .before .pre .1 .1 .1, terms-length (c .before .before .before .before .before .before .before .before .loop .inv .1))
+slice-write-terms c =
+    let loop-test = c .before .before .before .before .before .before .before in
+    let loop = loop-test .before in
+    let start = loop .before .before .before .before .before .before .before .before .before .before .before .before .before in
+    omega (arith, loop-test .loop-test .taken, start .pre .1 .1 .1, terms-length (loop .loop .inv .1))
 
 add-i : tie.Need-add-i Inv-loop μ-loop
-add-i c = omega (arith, c .before .before .before .before .before .before .before .before .before .before .before .before .before .before .before .before .before .before .before .before .before .good .1 .1 .1 .1 .1 .1 .1 .1 .1 .1 .1 .1 .1 .1 .1 .1 .1 .1 .1 .1 .1 .1 .1 .1 .1 .0, c .before .before .before .before .before .before .before .loop-test .taken, c .before .before .before .before .before .before .before .before .before .before .before .before .before .before .before .before .before .before .before .before .before .pre .1 .1 .1)
+add-i c =
+    let loop-test = c .before .before .before .before .before .before .before in
+    let start = loop-test .before .before .before .before .before .before .before .before .before .before .before .before .before .before in
+    omega (arith, start .good .1 .1 .1 .1 .1 .1 .1 .1 .1 .1 .1 .1 .1 .1 .1 .1 .1 .1 .1 .1 .1 .1 .1 .1 .1 .0, loop-test .loop-test .taken, start .pre .1 .1 .1)
 
 loop-less : tie.Need-loop-less Inv-loop μ-loop
 loop-less c = omega (arith, c .before .before .before .before .before .before .before .loop-test .taken)
 
 loop-again : tie.Need-loop-again Inv-loop μ-loop
 loop-again c =
-    let a = c .before .before .before .before .before .before .before .before .before .before .before .before .before .before .before .before .before .before .before .before .before .args in
-    let at = c .before .before .before .before .before .before .before .before .loop in
-    let p = group-turn (a .family) (a .link) (a .shape) (a .theta .now) (sparse (a .starts .now) (a .columns .now) (a .values .now)) (a .y .now) (a .weights .now) (a .offset .now) (a .n) (a .q) (a .xbeta) (a .r .now) (at .r) (c .before .before .before .before .before .before .before .before .before .before .before .before .before .before .before .before .before .before .before .before .before .pre .0 .in-r) (a .size) (a .l) (a .u) (a .trial) (a .nodes .now) (a .node-logs .now) (a .inv-phi) (a .m .now) (at .m) (a .terms .now) (at .terms) (at .i) (a .s) (a .k) (c .before .before .before .before .before .before .before .before .before .before .before .before .before .before .before .before .before .before .before .before .before .pre .1 .0) (at .inv .1) (at .inv .2) _ _ _ (c .before .before .before .before .group-point .ensures) in
-    (omega (arith, c .before .before .before .before .before .before .before .loop-test .taken), p .0, p .1)
+    let group-point = c .before .before .before .before in
+    let loop-test = group-point .before .before .before in
+    let loop = loop-test .before in
+    let start = loop .before .before .before .before .before .before .before .before .before .before .before .before .before in
+    let a = start .args in
+    let at = loop .loop in
+    let p = group-turn (a .family) (a .link) (a .shape) (a .theta .now) (sparse (a .starts .now) (a .columns .now) (a .values .now)) (a .y .now)
+    (a .weights .now) (a .offset .now) (a .n) (a .q) (a .xbeta) (a .r .now) (at .r) (start .pre .0 .in-r) (a .size) (a .l) (a .u) (a .trial) (a .nodes .now)
+    (a .node-logs .now) (a .inv-phi) (a .m .now) (at .m) (a .terms .now) (at .terms) (at .i) (a .s) (a .k) (start .pre .1 .0) (at .inv .1) (at .inv .2) _ _ _
+    (group-point .group-point .ensures) in
+    (omega (arith, loop-test .loop-test .taken), p .0, p .1)
 
 same-length : tie.Need-same-length Inv-loop μ-loop
 same-length c = c .before .loop .inv .1 .in-r .len
