@@ -21,10 +21,16 @@ is-finite-requires : tie.Need-is-finite-requires
 is-finite-requires c κs = search needs
 
 returns : tie.Need-returns
-returns c = sum-found (c .before .before .before .before .before .args .t .now) (c .before .before .before .before .before .args .count) _ (c .before .before .before .before .before .pre) (c .before .before .log-sum-exp .ensures) (sym (c .before .is-finite .ensures) ∙ c .if1 .taken)
+returns c =
+    let start = c .before .before .before .before .before in
+    sum-found (start .args .t .now) (start .args .count) _ (start .pre) (c .before .before .log-sum-exp .ensures)
+    (sym (c .before .is-finite .ensures) ∙ c .if1 .taken)
 
 returns-2 : tie.Need-returns-2
-returns-2 c = no-sum-found (c .before .before .before .before .before .args .t .now) (c .before .before .before .before .before .args .count) _ (c .before .before .before .before .before .pre) (c .before .before .log-sum-exp .ensures) (sym (c .before .is-finite .ensures) ∙ c .if1 .left)
+returns-2 c =
+    let start = c .before .before .before .before .before in
+    no-sum-found (start .args .t .now) (start .args .count) _ (start .pre) (c .before .before .log-sum-exp .ensures)
+    (sym (c .before .is-finite .ensures) ∙ c .if1 .left)
 
 pub log-sum-spec : {M : Type 1} → statement M
 log-sum-spec =

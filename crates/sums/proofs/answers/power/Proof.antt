@@ -17,7 +17,12 @@ loop-holds : tie.Need-loop-holds Inv-loop μ-loop
 loop-holds c = (omega arith, power-none _)
 
 mul-power : tie.Need-mul-power Inv-loop μ-loop
-mul-power c = omega (arith, power-fits (c .before .before .args .size) (c .before .loop .i) (c .before .before .args .k) (c .before .loop .power) (c .before .before .pre .0) (c .loop-test .taken) (c .before .loop .inv .1) (c .before .before .pre .1))
+mul-power c =
+    omega (
+      arith,
+      power-fits (c .before .before .args .size) (c .before .loop .i) (c .before .before .args .k) (c .before .loop .power) (c .before .before .pre .0)
+          (c .loop-test .taken) (c .before .loop .inv .1) (c .before .before .pre .1),
+    )
 
 add-i : tie.Need-add-i Inv-loop μ-loop
 add-i c = omega (arith, c .loop-test .taken)

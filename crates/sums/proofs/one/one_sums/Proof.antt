@@ -16,19 +16,38 @@ mark-row-requires : tie.Need-mark-row-requires
 mark-row-requires c κs = c .before .before .before .before .before .before .before .before .before .before .pre .0 .lent .sizes .n-few
 
 mark-group-requires : tie.Need-mark-group-requires
-mark-group-requires c κs = (c .before .before .before .before .before .before .before .before .before .before .before .before .pre .0 .ready .rows, (omega (arith, c .before .before .before .before .before .before .before .before .before .before .before .before .pre .1), mark-in (c .before .before .before .before .before .before .before .before .before .before .before .before .pre .0 .lent .sizes) (c .before .before .before .before .before .before .before .before .before .before .before .before .args .r .now) (c .before .mark-row .ensures) (c .before .before .before .before .before .before .before .before .before .before .before .before .pre .0 .lent .rows-long)))
+mark-group-requires c κs =
+    let start = c .before .before .before .before .before .before .before .before .before .before .before .before in (
+      start .pre .0 .ready .rows,
+      (
+        omega (arith, start .pre .1),
+        mark-in (start .pre .0 .lent .sizes) (start .args .r .now) (c .before .mark-row .ensures) (start .pre .0 .lent .rows-long),
+      ),
+    )
 
 u-at-requires : tie.Need-u-at-requires
-u-at-requires c κs = (c .before .before .before .before .before .before .before .before .before .before .before .before .before .before .before .pre .0 .lent .sizes .p-few, c .before .before .before .before .before .before .before .before .before .before .before .before .before .before .before .pre .0 .lent .sizes .q-few)
+u-at-requires c κs =
+    let start = c .before .before .before .before .before .before .before .before .before .before .before .before .before .before .before in
+    (start .pre .0 .lent .sizes .p-few, start .pre .0 .lent .sizes .q-few)
 
 trial-u-at-requires : tie.Need-trial-u-at-requires
-trial-u-at-requires c κs = (c .before .before .before .before .before .before .before .before .before .before .before .before .before .before .before .before .pre .0 .lent .sizes .p-few, c .before .before .before .before .before .before .before .before .before .before .before .before .before .before .before .before .pre .0 .lent .sizes .q-few)
+trial-u-at-requires c κs =
+    let start = c .before .before .before .before .before .before .before .before .before .before .before .before .before .before .before .before in
+    (start .pre .0 .lent .sizes .p-few, start .pre .0 .lent .sizes .q-few)
 
 copy-row-requires : tie.Need-copy-row-requires
-copy-row-requires c κs = (hats-before (c .before .before .before .before .before .before .before .before .before .before .before .before .before .before .before .before .before .before .args .p) (c .before .before .before .before .before .before .before .before .before .before .before .before .before .before .before .before .before .before .args .q) _ _ (c .before .before .u-at .ensures) (c .before .trial-u-at .ensures), trial-u-in (c .before .before .before .before .before .before .before .before .before .before .before .before .before .before .before .before .before .before .pre .0 .lent .sizes) (c .before .before .before .before .before .before .before .before .before .before .before .before .before .before .before .before .before .before .args .m .now) (c .before .trial-u-at .ensures) (c .before .before .before .before .before .before .before .before .before .before .before .before .before .before .before .before .before .before .pre .0 .lent .matrices-long))
+copy-row-requires c κs =
+    let start = c .before .before .before .before .before .before .before .before
+    .before .before .before .before .before .before .before .before .before .before in (
+      hats-before (start .args .p) (start .args .q) _ _ (c .before .before .u-at .ensures) (c .before .trial-u-at .ensures),
+      trial-u-in (start .pre .0 .lent .sizes) (start .args .m .now) (c .before .trial-u-at .ensures) (start .pre .0 .lent .matrices-long),
+    )
 
 xbeta-row-requires : tie.Need-xbeta-row-requires
-xbeta-row-requires c κs = c .before .before .before .before .before .before .before .before .before .before .before .before .before .before .before .before .before .before .before .before .before .pre .0 .lent .sizes .n-few
+xbeta-row-requires c κs =
+    let start = c .before .before .before .before .before .before .before .before .before .before
+    .before .before .before .before .before .before .before .before .before .before .before in
+    start .pre .0 .lent .sizes .n-few
 
 inverse-phi-requires : tie.Need-inverse-phi-requires
 inverse-phi-requires c κs = search needs
@@ -43,22 +62,69 @@ slice-aggregate-one-terms-2 : tie.Need-slice-aggregate-one-terms-2
 slice-aggregate-one-terms-2 c = search needs
 
 one-terms-requires : tie.Need-one-terms-requires
-one-terms-requires c κs = (room-of _ _ (c .before .before .before .before .before .before .before .before .before .before .before .before .before .before .before .before .before .before .before .before .before .before .before .before .before .before .before .before .before .before .before .pre .0) (c .before .before .before .before .before .before .before .before .before .xbeta-row .ensures) (c .before .before .before .before .before .before .before .before .before .before .before .before .before .before .trial-u-at .ensures) (c .before .before .before .before .before .before .before .before .before .before .before .before .before .before .before .before .before .before .mark-group .ensures .only .len) (ap length (c .before .before .before .before .before .before .before .before .before .before .before .before .copy-row .ensures) ∙ length-fillat _ _ _ _), (c .before .before .before .before .before .before .before .before .before .before .before .before .before .before .before .before .before .before .before .before .before .before .before .before .before .before .before .before .before .before .before .pre .1, hats-before (c .before .before .before .before .before .before .before .before .before .before .before .before .before .before .before .before .before .before .before .before .before .before .before .before .before .before .before .before .before .before .before .args .p) (c .before .before .before .before .before .before .before .before .before .before .before .before .before .before .before .before .before .before .before .before .before .before .before .before .before .before .before .before .before .before .before .args .q) _ _ (c .before .before .before .before .before .before .before .before .before .before .before .before .before .before .before .u-at .ensures) (c .before .before .before .before .before .before .before .before .before .before .before .before .before .before .trial-u-at .ensures), rule-nodes-long _ _ (c .before .before .before .before .before .before .before .gh-rule .ensures), rule-weights-long _ _ (c .before .before .before .before .before .before .before .gh-rule .ensures), rule-in _ _ (c .before .before .before .before .before .before .before .gh-rule .ensures) (c .before .before .before .before .before .before .before .before .before .before .before .before .before .before .before .before .before .before .before .before .before .before .before .before .before .before .before .before .before .before .before .args .t .now) (c .before .before .before .before .before .before .before .before .before .before .before .before .before .before .before .before .before .before .before .before .before .before .before .before .before .before .before .before .before .before .before .pre .0 .lent .terms-long)))
+one-terms-requires c κs =
+    let gh-rule = c .before .before .before .before .before .before .before in
+    let xbeta-row = gh-rule .before .before in
+    let copy-row = xbeta-row .before .before .before in
+    let trial-u-at = copy-row .before .before in
+    let u-at = trial-u-at .before in
+    let mark-group = u-at .before .before .before in
+    let start = mark-group .before .before .before .before .before .before .before .before .before .before .before .before .before in (
+      room-of _ _ (start .pre .0) (xbeta-row .xbeta-row .ensures) (trial-u-at .trial-u-at .ensures) (mark-group .mark-group .ensures .only .len)
+          (ap length (copy-row .copy-row .ensures) ∙ length-fillat _ _ _ _),
+      (
+        start .pre .1,
+        hats-before (start .args .p) (start .args .q) _ _ (u-at .u-at .ensures) (trial-u-at .trial-u-at .ensures),
+        rule-nodes-long _ _ (gh-rule .gh-rule .ensures),
+        rule-weights-long _ _ (gh-rule .gh-rule .ensures),
+        rule-in _ _ (gh-rule .gh-rule .ensures) (start .args .t .now) (start .pre .0 .lent .terms-long),
+      ),
+    )
 
 log-sum-requires : tie.Need-log-sum-requires
-log-sum-requires c κs = rw (ap length (c .before .before .before .before .before .before .before .one-terms .ensures .terms) ∙ length-fill _ _ _) (rule-in _ _ (c .before .before .before .before .before .before .before .before .before .before .before .before .before .before .before .gh-rule .ensures) (c .before .before .before .before .before .before .before .before .before .before .before .before .before .before .before .before .before .before .before .before .before .before .before .before .before .before .before .before .before .before .before .before .before .before .before .before .before .before .before .args .t .now) (c .before .before .before .before .before .before .before .before .before .before .before .before .before .before .before .before .before .before .before .before .before .before .before .before .before .before .before .before .before .before .before .before .before .before .before .before .before .before .before .pre .0 .lent .terms-long))
+log-sum-requires c κs =
+    let one-terms = c .before .before .before .before .before .before .before in
+    let gh-rule = one-terms .before .before .before .before .before .before .before .before in
+    let start = gh-rule .before .before .before .before .before .before .before .before .before .before .before
+    .before .before .before .before .before .before .before .before .before .before .before .before .before in
+    rw (ap length (one-terms .one-terms .ensures .terms) ∙ length-fill _ _ _)
+    (rule-in _ _ (gh-rule .gh-rule .ensures) (start .args .t .now) (start .pre .0 .lent .terms-long))
 
 same-length : tie.Need-same-length
-same-length c = c .before .before .before .before .before .before .before .before .one-terms .ensures .in-r .len ∙ c .before .before .before .before .before .before .before .before .before .before .before .before .before .before .before .before .before .before .before .before .before .before .before .before .before .before .before .mark-group .ensures .only .len
+same-length c =
+    let one-terms = c .before .before .before .before .before .before .before .before in
+    let mark-group = one-terms .before .before .before .before .before .before .before .before .before
+    .before .before .before .before .before .before .before .before .before .before in
+    one-terms .one-terms .ensures .in-r .len ∙ mark-group .mark-group .ensures .only .len
 
 same-length-2 : tie.Need-same-length-2
-same-length-2 c = c .before .before .before .before .before .before .before .before .one-terms .ensures .in-m .len ∙ ap length (c .before .before .before .before .before .before .before .before .before .before .before .before .before .before .before .before .before .before .before .before .before .copy-row .ensures) ∙ length-fillat _ _ _ _
+same-length-2 c =
+    let one-terms = c .before .before .before .before .before .before .before .before in
+    let copy-row = one-terms .before .before .before .before .before .before .before .before .before .before .before .before .before in
+    one-terms .one-terms .ensures .in-m .len ∙ ap length (copy-row .copy-row .ensures) ∙ length-fillat _ _ _ _
 
 same-length-3 : tie.Need-same-length-3
 same-length-3 c = ap length (c .before .before .before .before .before .before .before .before .one-terms .ensures .terms) ∙ length-fill _ _ _
 
 returns : tie.Need-returns
-returns c = one-made (c .before .before .before .before .before .before .before .before .before .before .before .before .before .before .before .before .before .before .before .before .before .before .before .before .before .before .before .before .before .before .before .before .before .before .before .before .before .before .before .before .args .family) (c .before .before .before .before .before .before .before .before .before .before .before .before .before .before .before .before .before .before .before .before .before .before .before .before .before .before .before .before .before .before .before .before .before .before .before .before .before .before .before .before .args .link) (c .before .before .before .before .before .before .before .before .before .before .before .before .before .before .before .before .before .before .before .before .before .before .before .before .before .before .before .before .before .before .before .before .before .before .before .before .before .before .before .before .args .shape) (c .before .before .before .before .before .before .before .before .before .before .before .before .before .before .before .before .before .before .before .before .before .before .before .before .before .before .before .before .before .before .before .before .before .before .before .before .before .before .before .before .args .theta .now) (sparse (c .before .before .before .before .before .before .before .before .before .before .before .before .before .before .before .before .before .before .before .before .before .before .before .before .before .before .before .before .before .before .before .before .before .before .before .before .before .before .before .before .args .starts .now) (c .before .before .before .before .before .before .before .before .before .before .before .before .before .before .before .before .before .before .before .before .before .before .before .before .before .before .before .before .before .before .before .before .before .before .before .before .before .before .before .before .args .columns .now) (c .before .before .before .before .before .before .before .before .before .before .before .before .before .before .before .before .before .before .before .before .before .before .before .before .before .before .before .before .before .before .before .before .before .before .before .before .before .before .before .before .args .values .now)) (c .before .before .before .before .before .before .before .before .before .before .before .before .before .before .before .before .before .before .before .before .before .before .before .before .before .before .before .before .before .before .before .before .before .before .before .before .before .before .before .before .args .y .now) (c .before .before .before .before .before .before .before .before .before .before .before .before .before .before .before .before .before .before .before .before .before .before .before .before .before .before .before .before .before .before .before .before .before .before .before .before .before .before .before .before .args .weights .now) (c .before .before .before .before .before .before .before .before .before .before .before .before .before .before .before .before .before .before .before .before .before .before .before .before .before .before .before .before .before .before .before .before .before .before .before .before .before .before .before .before .args .offset .now) (c .before .before .before .before .before .before .before .before .before .before .before .before .before .before .before .before .before .before .before .before .before .before .before .before .before .before .before .before .before .before .before .before .before .before .before .before .before .before .before .before .args .n) (c .before .before .before .before .before .before .before .before .before .before .before .before .before .before .before .before .before .before .before .before .before .before .before .before .before .before .before .before .before .before .before .before .before .before .before .before .before .before .before .before .args .p) (c .before .before .before .before .before .before .before .before .before .before .before .before .before .before .before .before .before .before .before .before .before .before .before .before .before .before .before .before .before .before .before .before .before .before .before .before .before .before .before .before .args .q) (c .before .before .before .before .before .before .before .before .before .before .before .before .before .before .before .before .before .before .before .before .before .before .before .before .before .before .before .before .before .before .before .before .before .before .before .before .before .before .before .before .args .order) (c .before .before .before .before .before .before .before .before .before .before .before .before .before .before .before .before .before .before .before .before .before .before .before .before .before .before .before .before .before .before .before .before .before .before .before .before .before .before .before .before .args .g) (c .before .before .before .before .before .before .before .before .before .before .before .before .before .before .before .before .before .before .before .before .before .before .before .before .before .before .before .before .before .before .before .before .before .before .before .before .before .before .before .before .args .sigma) (c .before .before .before .before .before .before .before .before .before .before .before .before .before .before .before .before .before .before .before .before .before .before .before .before .before .before .before .before .before .before .before .before .before .before .before .before .before .before .before .before .args .phi) _ _ _ _ _ _ _ _ _ _ _ _ _ _ _ _ _ (c .before .before .before .before .before .before .before .before .before .before .before .before .before .before .before .before .before .before .before .before .before .before .before .before .before .before .before .before .before .before .before .before .before .before .before .before .before .before .before .before .pre .0 .ready .effects) (c .before .before .before .before .before .before .before .before .before .before .before .before .before .before .before .before .before .before .before .before .before .before .before .before .before .before .before .before .before .before .before .before .before .before .before .before .before .before .before .before .pre .0 .lent) (c .before .before .before .before .before .before .before .before .before .before .before .before .before .before .before .before .before .before .before .before .before .before .before .before .before .before .before .before .before .before .before .before .before .before .before .before .before .before .before .before .pre .1) (c .before .before .before .before .before .before .before .before .before .before .before .before .before .before .before .before .before .before .before .before .before .before .before .before .before .before .before .before .before .mark-row .ensures) (c .before .before .before .before .before .before .before .before .before .before .before .before .before .before .before .before .before .before .before .before .before .before .before .before .before .before .before .mark-group .ensures) (c .before .before .before .before .before .before .before .before .before .before .before .before .before .before .before .before .before .before .before .before .before .before .before .before .u-at .ensures) (c .before .before .before .before .before .before .before .before .before .before .before .before .before .before .before .before .before .before .before .before .before .before .before .trial-u-at .ensures) (c .before .before .before .before .before .before .before .before .before .before .before .before .before .before .before .before .before .before .before .before .before .copy-row .ensures) (c .before .before .before .before .before .before .before .before .before .before .before .before .before .before .before .before .before .before .xbeta-row .ensures) (c .before .before .before .before .before .before .before .before .before .before .before .before .before .before .before .before .before .inverse-phi .ensures) (rule-size _ _ (c .before .before .before .before .before .before .before .before .before .before .before .before .before .before .before .before .gh-rule .ensures)) (rule-nodes _ _ (c .before .before .before .before .before .before .before .before .before .before .before .before .before .before .before .before .gh-rule .ensures)) (rule-weights _ _ (c .before .before .before .before .before .before .before .before .before .before .before .before .before .before .before .before .gh-rule .ensures)) (c .before .before .before .before .before .before .before .before .one-terms .ensures) (c .log-sum .ensures)
+returns c =
+    let one-terms = c .before .before .before .before .before .before .before .before in
+    let gh-rule = one-terms .before .before .before .before .before .before .before .before in
+    let inverse-phi = gh-rule .before in
+    let xbeta-row = inverse-phi .before in
+    let copy-row = xbeta-row .before .before .before in
+    let trial-u-at = copy-row .before .before in
+    let u-at = trial-u-at .before in
+    let mark-group = u-at .before .before .before in
+    let mark-row = mark-group .before .before in
+    let start = mark-row .before .before .before .before .before .before .before .before .before .before .before in
+    let args = start .args in
+    one-made (args .family) (args .link) (args .shape) (args .theta .now) (sparse (args .starts .now) (args .columns .now) (args .values .now)) (args .y .now)
+    (args .weights .now) (args .offset .now) (args .n) (args .p) (args .q) (args .order) (args .g) (args .sigma) (args .phi) _ _ _ _ _ _ _ _ _ _ _ _ _ _ _ _ _
+    (start .pre .0 .ready .effects) (start .pre .0 .lent) (start .pre .1) (mark-row .mark-row .ensures) (mark-group .mark-group .ensures) (u-at .u-at .ensures)
+    (trial-u-at .trial-u-at .ensures) (copy-row .copy-row .ensures) (xbeta-row .xbeta-row .ensures) (inverse-phi .inverse-phi .ensures)
+    (rule-size _ _ (gh-rule .gh-rule .ensures)) (rule-nodes _ _ (gh-rule .gh-rule .ensures)) (rule-weights _ _ (gh-rule .gh-rule .ensures))
+    (one-terms .one-terms .ensures) (c .log-sum .ensures)
 
 pub one-sums-spec : {M : Type 1} → statement M
 one-sums-spec =
