@@ -1,10 +1,11 @@
 #!/usr/bin/env python3
-"""usage: places.py [--width N] FILE..
+"""usage: places.py FILE..
        places.py --ways CRATE FN[,FN..]
-Names the places of a proof file. In each answer `NAME c = ..` the chains `c .before .before ..` of three or more become names, each bound once by `let` at the
-head of the answer and told from the next nearer one. A place has the name of what is read there first (`c .before .. .ldl .kept` makes it ldl), the first one is
-start; where the file has that name already, at-ldl. What start knows, its `.args` and `.pre`, has a name where it is read six times. A `let` that is a place and no more keeps its name. Lines longer than N (160) are broken as rt fmt has them.
-An answer that is one short line with one such chain is left. What an answer means stays as it was; `rt fmt` after it.
+Names the places of proof files. In each answer `NAME c = ..` the chains `c .before .before ..` of three or more become names, each bound once by `let` at the
+head of the answer and told from the next nearer one. A place has the name of what is read there first (`c .before .. .ldl .kept` makes it ldl), the function's
+first one is start; where the file has that name already, at-ldl. A `let` that is a place and no more keeps its name if that is longer than a letter. What start
+knows, its `.args` and `.pre`, has a name where it is read six times. Lines longer than 160 are broken as rt fmt has them; a short answer with one chain is left.
+What an answer means stays: with its places written out it is the text that it was, or the file is left and told. `rt fmt` after it.
 With --ways a way that answers go again and again from the same place to the same place is written once, as an abbreviation above the answers:
 `abbrev fit-of : tie.After-if1 → tie.After-fit`, and the answers have `let fit = fit-of c in`."""
 import re, sys
@@ -12,18 +13,21 @@ sys.dont_write_bytecode = True
 from common import root, proof_of, Generated, records, needs, chain
 
 WIDTH, OFTEN = 160, 6
-RESERVED = set("unfoldable abbrev axiom unfold unfolding ruleset mutual infix infixl infixr elim let in do where use mod pub record as with rw at search omega cc refl".split())
+RESERVED = set("""unfoldable abbrev axiom unfold unfolding ruleset mutual infix infixl infixr elim let in do where use mod pub record as with rw at search omega
+    cc refl""".split())
 WORD = r"[^\s(){}\[\],;.]+"
+BEGIN, END = r"(?<![^\s(){}\[\],;])", r"(?![^\s(){}\[\],;])"
 BEFORE = " .before"
+CLAUSE = r"([^\s=:(){}]+(?: [^\s=:(){}]+)+) =(?: |$)"
 
 
 def words(text):
     """the names that a text uses, without the fields"""
-    return set(re.findall(r"(?<![^\s(){}\[\],;])" + WORD, text))
+    return set(re.findall(BEGIN + WORD, text))
 
 
 def place_of(var):
-    return re.compile(r"(?<![^\s(){}\[\],;])" + re.escape(var) + r"((?:\s+\.before)+)(?![^\s(){}\[\],;])(?:\s+\.([^\s(){}\[\],;.]+))?")
+    return re.compile(BEGIN + re.escape(var) + r"((?:\s+\.before)+)" + END + r"(?:\s+\.(" + WORD + "))?")
 
 
 def unlet(var, body):
@@ -35,7 +39,7 @@ def unlet(var, body):
             return body, kept
         steps = len(m.group(2).split())
         rest = body[:m.start()] + body[m.end():]
-        name = re.compile(r"(?<![^\s(){}\[\],;])" + re.escape(m.group(1)) + r"(?![^\s(){}\[\],;])")
+        name = re.compile(BEGIN + re.escape(m.group(1)) + END)
         if re.search(r"λ[^.]*(?<!\S)" + re.escape(m.group(1)) + r"[^.]*\.", rest):
             return body, kept
         body = name.sub(var + BEFORE * steps, rest)
@@ -75,7 +79,7 @@ def named(var, body, taken, shortest=3):
         read = f"{names.get(steps[-1])} .{field} ." if steps else None
         if read and body.count(read) >= OFTEN and field not in used:
             lets.append(f"let {field} = {names[steps[-1]]} .{field} in")
-            body = re.sub(r"(?<![^\s(){}\[\],;])" + re.escape(read), f"{field} .", body)
+            body = re.sub(BEGIN + re.escape(read), f"{field} .", body)
     return lets, body
 
 
@@ -150,7 +154,8 @@ def laid_units(text, room, first=None):
             lines.append(line)
             line, space = "", room
         if len(part) > space:
-            part = laid_one(part, room) if len(units(part)) == 1 else laid_units(re.sub("^([×∙→]) ", lambda m: m.group(1) + "\u00a0", part), room).replace("\u00a0", " ")
+            tied = re.sub("^([×∙→]) ", lambda m: m.group(1) + "\u00a0", part)
+            part = laid_one(part, room) if len(units(part)) == 1 else laid_units(tied, room).replace("\u00a0", " ")
             lines += ([line] if line else [])
             lines += part.split("\n")[:-1]
             line = part.split("\n")[-1]
@@ -221,7 +226,7 @@ def rewritten(text):
     taken = words(re.sub(r"(?m)^\s*--.*$", "", text))
     out, lines, k = [], text.split("\n"), 0
     while k < len(lines):
-        m = re.match(r"([^\s=:(){}]+(?: [^\s=:(){}]+)+) =(?: |$)", lines[k])
+        m = re.match(CLAUSE, lines[k])
         if not m or re.match(r"(use|unfolding|infix)", lines[k]):
             out.append(signature(lines[k]))
             k += 1
@@ -237,6 +242,23 @@ def rewritten(text):
 
 
 LET = r"let (" + WORD + r") = (" + WORD + r")((?:\s+\.before)+) in"
+
+
+def written_out(text):
+    """the declarations of a text, each on one line, with its places, and args and pre, written out"""
+    out, lines = [], text.split("\n")
+    for line in lines:
+        if line.startswith(" ") and out:
+            out[-1] += " " + line.strip()
+        elif line:
+            out.append(line)
+    for k, line in enumerate(out):
+        head, equals, body = line.partition(" =")
+        for var in head.split()[1:] if re.match(CLAUSE, line) else []:
+            while m := re.search(r"let (" + WORD + r") = (" + re.escape(var) + r"(?: \.before)+(?: \.(?:args|pre))?) in ", body):
+                body = re.sub(BEGIN + re.escape(m.group(1)) + END, lambda _: m.group(2), body[:m.start()] + body[m.end():])
+        out[k] = re.sub(r"[,;]? ?([)\]}])", r"\1", re.sub(r"([(\[{]) ", r"\1", head + equals + " " + body.strip()))
+    return out
 
 
 def clauses(text):
@@ -272,14 +294,15 @@ def with_ways(text, lts, tie):
             way += "′"
         taken.add(way)
         names[here, there] = way
-        body = f"{way} c = c{BEFORE * steps}"
-        tops.append(f"abbrev {way} : tie.{here}{applied} → tie.{there}{applied}\n" + (body if len(body) <= WIDTH else body.replace(" = ", " =\n    ", 1)))
+        body = laid(f"c{BEFORE * steps}", WIDTH - 4, WIDTH - len(way) - 5)
+        body = " " + body if "\n" not in body else "\n    " + body.replace("\n", "\n    ")
+        tops.append(f"abbrev {way} : tie.{here}{applied} → tie.{there}{applied}\n{way} c ={body}")
     for start, end, name, near, _, here, there, _ in reversed(often):
         text = text[:start] + f"let {name} = {names[here, there]} {near} in" + text[end:]
     if not tops:
         return text
     top = re.search(r"(?m)^\S+ : tie\.Need-", text).start()
-    return text[:top] + "\n\n".join(tops) + "\n\n" + text[top:]
+    return text[:top] + "-- the ways back that several answers go\n" + "\n\n".join(tops) + "\n\n" + text[top:]
 
 
 def ways(crate, fns):
@@ -295,10 +318,7 @@ def ways(crate, fns):
 
 
 def main():
-    global WIDTH
     args = sys.argv[1:]
-    if args[:1] == ["--width"]:
-        WIDTH, args = int(args[1]), args[2:]
     if len(args) == 3 and args[0] == "--ways":
         return ways(args[1], args[2].split(","))
     if not args:
@@ -306,7 +326,9 @@ def main():
     for path in args:
         old = open(path).read()
         new = rewritten(old)
-        if new != old:
+        if written_out(new) != written_out(old):
+            print(f"{path}: left as it is, its answers would not be what they were")
+        elif new != old:
             open(path, "w").write(new)
             print(f"{path}: {old.count('.before')} to {new.count('.before')} .before")
 

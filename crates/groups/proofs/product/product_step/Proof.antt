@@ -10,46 +10,109 @@ use Rattle.groups.proofs.product.product_step.Statement.{statement}
 use Rattle.groups.proofs.product.product_step.Tie as tie
 
 abbrev Inv-loop : tie.InvT-loop
-Inv-loop family link shape theta starts columns values y weights offset n p q order groups k phi fit r₀ m₀ t₀ total₀ points₀ g₀ r m t total points g = Going family link shape theta (sparse starts columns values) y weights offset n p q order groups k phi r₀ m₀ t₀ r m t total points g
+Inv-loop family link shape theta starts columns values y weights offset n p q order groups k phi fit r₀ m₀ t₀ total₀ points₀ g₀ r m t total points g =
+    Going family link shape theta (sparse starts columns values) y weights offset n p q order groups k phi r₀ m₀ t₀ r m t total points g
 
 abbrev μ-loop : tie.MeasureT-loop
 μ-loop family link shape theta starts columns values y weights offset n p q order groups k phi fit r₀ m₀ t₀ total₀ points₀ g₀ r m t total points g = groups - g
 
 loop-holds : tie.Need-loop-holds Inv-loop μ-loop
-loop-holds c = begun (c .before .before .before .before .before .before .before .before .before .before .args .family) (c .before .before .before .before .before .before .before .before .before .before .args .link) (c .before .before .before .before .before .before .before .before .before .before .args .shape) (c .before .before .before .before .before .before .before .before .before .before .args .theta .now) (sparse (c .before .before .before .before .before .before .before .before .before .before .args .starts .now) (c .before .before .before .before .before .before .before .before .before .before .args .columns .now) (c .before .before .before .before .before .before .before .before .before .before .args .values .now)) (c .before .before .before .before .before .before .before .before .before .before .args .y .now) (c .before .before .before .before .before .before .before .before .before .before .args .weights .now) (c .before .before .before .before .before .before .before .before .before .before .args .offset .now) (c .before .before .before .before .before .before .before .before .before .before .args .n) (c .before .before .before .before .before .before .before .before .before .before .args .p) (c .before .before .before .before .before .before .before .before .before .before .args .q) (c .before .before .before .before .before .before .before .before .before .before .args .order) (c .before .before .before .before .before .before .before .before .before .before .args .groups) (c .before .before .before .before .before .before .before .before .before .before .args .k) (c .before .before .before .before .before .before .before .before .before .before .args .phi) _ _ _
+loop-holds c =
+    let start = c .before .before .before .before .before .before .before .before .before .before in
+    let args = start .args in
+    begun (args .family) (args .link) (args .shape) (args .theta .now) (sparse (args .starts .now) (args .columns .now) (args .values .now)) (args .y .now)
+    (args .weights .now) (args .offset .now) (args .n) (args .p) (args .q) (args .order) (args .groups) (args .k) (args .phi) _ _ _
 
 group-requires : tie.Need-group-requires Inv-loop μ-loop
-group-requires c κs = (roomy-kept (c .before .before .before .before .before .before .before .before .before .before .before .before .before .before .before .pre .0) (c .before .before .before .before .loop .inv .frame .rows-only .len) (c .before .before .before .before .loop .inv .frame .matrices-only .len) (c .before .before .before .before .loop .inv .frame .terms-only .len), (effects-within (c .before .before .before .before .before .before .before .before .before .before .before .before .before .before .before .args .q) (c .before .before .before .before .before .before .before .before .before .before .before .before .before .before .before .args .groups) (c .before .before .before .before .before .before .before .before .before .before .before .before .before .before .before .args .k) (c .before .before .before .before .loop .g) (c .before .before .before .before .before .before .before .before .before .before .before .before .before .before .before .args .order) (c .before .before .before .before .before .before .before .before .before .before .before .before .before .before .before .pre .1) (c .before .before .before .loop-test .taken), c .before .before .before .before .before .before .before .before .before .before .before .before .before .before .before .pre .1 .capped))
+group-requires c κs =
+    let loop-test = c .before .before .before in
+    let loop = loop-test .before in
+    let start = loop .before .before .before .before .before .before .before .before .before .before .before in (
+      roomy-kept (start .pre .0) (loop .loop .inv .frame .rows-only .len) (loop .loop .inv .frame .matrices-only .len)
+          (loop .loop .inv .frame .terms-only .len),
+      (
+        effects-within (start .args .q) (start .args .groups) (start .args .k) (loop .loop .g) (start .args .order) (start .pre .1)
+            (loop-test .loop-test .taken),
+        start .pre .1 .capped,
+      ),
+    )
 
 add-points : tie.Need-add-points Inv-loop μ-loop
-add-points c = omega (arith, room-left (c .before .before .before .before .before .before .before .before .before .before .before .before .before .before .before .before .before .before .before .before .before .before .before .args .family) (c .before .before .before .before .before .before .before .before .before .before .before .before .before .before .before .before .before .before .before .before .before .before .before .args .link) (c .before .before .before .before .before .before .before .before .before .before .before .before .before .before .before .before .before .before .before .before .before .before .before .args .shape) (c .before .before .before .before .before .before .before .before .before .before .before .before .before .before .before .before .before .before .before .before .before .before .before .args .theta .now) (sparse (c .before .before .before .before .before .before .before .before .before .before .before .before .before .before .before .before .before .before .before .before .before .before .before .args .starts .now) (c .before .before .before .before .before .before .before .before .before .before .before .before .before .before .before .before .before .before .before .before .before .before .before .args .columns .now) (c .before .before .before .before .before .before .before .before .before .before .before .before .before .before .before .before .before .before .before .before .before .before .before .args .values .now)) (c .before .before .before .before .before .before .before .before .before .before .before .before .before .before .before .before .before .before .before .before .before .before .before .args .y .now) (c .before .before .before .before .before .before .before .before .before .before .before .before .before .before .before .before .before .before .before .before .before .before .before .args .weights .now) (c .before .before .before .before .before .before .before .before .before .before .before .before .before .before .before .before .before .before .before .before .before .before .before .args .offset .now) (c .before .before .before .before .before .before .before .before .before .before .before .before .before .before .before .before .before .before .before .before .before .before .before .args .n) (c .before .before .before .before .before .before .before .before .before .before .before .before .before .before .before .before .before .before .before .before .before .before .before .args .p) (c .before .before .before .before .before .before .before .before .before .before .before .before .before .before .before .before .before .before .before .before .before .before .before .args .q) (c .before .before .before .before .before .before .before .before .before .before .before .before .before .before .before .before .before .before .before .before .before .before .before .args .order) (c .before .before .before .before .before .before .before .before .before .before .before .before .before .before .before .before .before .before .before .before .before .before .before .args .groups) (c .before .before .before .before .before .before .before .before .before .before .before .before .before .before .before .before .before .before .before .before .before .before .before .args .k) (c .before .before .before .before .before .before .before .before .before .before .before .before .before .before .before .before .before .before .before .before .before .before .before .args .phi) _ _ _ (c .before .before .before .before .before .before .before .before .before .before .before .before .before .before .before .before .before .before .before .before .before .before .before .pre .0 .ready .effects) (c .before .before .before .before .before .before .before .before .before .before .before .before .before .before .before .before .before .before .before .before .before .before .before .pre .0 .lent) (c .before .before .before .before .before .before .before .before .before .before .before .before .before .before .before .before .before .before .before .before .before .before .before .pre .1) _ _ _ _ _ _ (c .before .before .before .before .before .before .before .before .before .before .before .before .loop .inv) _ (c .before .before .before .before .before .before .before .group .ensures .few) (c .before .before .before .before .before .before .before .before .before .before .before .loop-test .taken))
+add-points c =
+    let group = c .before .before .before .before .before .before .before in
+    let loop-test = group .before .before .before .before in
+    let loop = loop-test .before in
+    let start = loop .before .before .before .before .before .before .before .before .before .before .before in
+    let args = start .args in
+    omega (
+      arith,
+      room-left (args .family) (args .link) (args .shape) (args .theta .now) (sparse (args .starts .now) (args .columns .now) (args .values .now))
+          (args .y .now) (args .weights .now) (args .offset .now) (args .n) (args .p) (args .q) (args .order) (args .groups) (args .k) (args .phi) _ _ _
+          (start .pre .0 .ready .effects) (start .pre .0 .lent) (start .pre .1) _ _ _ _ _ _ (loop .loop .inv) _ (group .group .ensures .few)
+          (loop-test .loop-test .taken),
+    )
 
 enum-known-sum : tie.Need-enum-known-sum Inv-loop μ-loop
 enum-known-sum c = search needs
 
 same-length : tie.Need-same-length Inv-loop μ-loop
-same-length c = c .before .before .before .before .before .before .before .before .before .before .group .ensures .frame .rows-only .len ∙ c .before .before .before .before .before .before .before .before .before .before .before .before .before .before .before .loop .inv .frame .rows-only .len
+same-length c =
+    let group = c .before .before .before .before .before .before .before .before .before .before in
+    let loop = group .before .before .before .before .before in
+    group .group .ensures .frame .rows-only .len ∙ loop .loop .inv .frame .rows-only .len
 
 same-length-2 : tie.Need-same-length-2 Inv-loop μ-loop
-same-length-2 c = c .before .before .before .before .before .before .before .before .before .before .group .ensures .frame .matrices-only .len ∙ c .before .before .before .before .before .before .before .before .before .before .before .before .before .before .before .loop .inv .frame .matrices-only .len
+same-length-2 c =
+    let group = c .before .before .before .before .before .before .before .before .before .before in
+    let loop = group .before .before .before .before .before in
+    group .group .ensures .frame .matrices-only .len ∙ loop .loop .inv .frame .matrices-only .len
 
 same-length-3 : tie.Need-same-length-3 Inv-loop μ-loop
-same-length-3 c = c .before .before .before .before .before .before .before .before .before .before .group .ensures .frame .terms-only .len ∙ c .before .before .before .before .before .before .before .before .before .before .before .before .before .before .before .loop .inv .frame .terms-only .len
+same-length-3 c =
+    let group = c .before .before .before .before .before .before .before .before .before .before in
+    let loop = group .before .before .before .before .before in
+    group .group .ensures .frame .terms-only .len ∙ loop .loop .inv .frame .terms-only .len
 
 returns : tie.Need-returns Inv-loop μ-loop
-returns c = declines (c .before .before .before .before .before .before .before .before .before .before .before .before .before .before .before .before .before .before .before .before .before .before .before .before .before .before .args .family) (c .before .before .before .before .before .before .before .before .before .before .before .before .before .before .before .before .before .before .before .before .before .before .before .before .before .before .args .link) (c .before .before .before .before .before .before .before .before .before .before .before .before .before .before .before .before .before .before .before .before .before .before .before .before .before .before .args .shape) (c .before .before .before .before .before .before .before .before .before .before .before .before .before .before .before .before .before .before .before .before .before .before .before .before .before .before .args .theta .now) (sparse (c .before .before .before .before .before .before .before .before .before .before .before .before .before .before .before .before .before .before .before .before .before .before .before .before .before .before .args .starts .now) (c .before .before .before .before .before .before .before .before .before .before .before .before .before .before .before .before .before .before .before .before .before .before .before .before .before .before .args .columns .now) (c .before .before .before .before .before .before .before .before .before .before .before .before .before .before .before .before .before .before .before .before .before .before .before .before .before .before .args .values .now)) (c .before .before .before .before .before .before .before .before .before .before .before .before .before .before .before .before .before .before .before .before .before .before .before .before .before .before .args .y .now) (c .before .before .before .before .before .before .before .before .before .before .before .before .before .before .before .before .before .before .before .before .before .before .before .before .before .before .args .weights .now) (c .before .before .before .before .before .before .before .before .before .before .before .before .before .before .before .before .before .before .before .before .before .before .before .before .before .before .args .offset .now) (c .before .before .before .before .before .before .before .before .before .before .before .before .before .before .before .before .before .before .before .before .before .before .before .before .before .before .args .n) (c .before .before .before .before .before .before .before .before .before .before .before .before .before .before .before .before .before .before .before .before .before .before .before .before .before .before .args .p) (c .before .before .before .before .before .before .before .before .before .before .before .before .before .before .before .before .before .before .before .before .before .before .before .before .before .before .args .q) (c .before .before .before .before .before .before .before .before .before .before .before .before .before .before .before .before .before .before .before .before .before .before .before .before .before .before .args .order) (c .before .before .before .before .before .before .before .before .before .before .before .before .before .before .before .before .before .before .before .before .before .before .before .before .before .before .args .groups) (c .before .before .before .before .before .before .before .before .before .before .before .before .before .before .before .before .before .before .before .before .before .before .before .before .before .before .args .k) (c .before .before .before .before .before .before .before .before .before .before .before .before .before .before .before .before .before .before .before .before .before .before .before .before .before .before .args .phi) _ _ _ (c .before .before .before .before .before .before .before .before .before .before .before .before .before .before .before .before .before .before .before .before .before .before .before .before .before .before .pre .0 .ready .effects) (c .before .before .before .before .before .before .before .before .before .before .before .before .before .before .before .before .before .before .before .before .before .before .before .before .before .before .pre .0 .lent) (c .before .before .before .before .before .before .before .before .before .before .before .before .before .before .before .before .before .before .before .before .before .before .before .before .before .before .pre .1) _ _ _ _ _ _ (c .before .before .before .before .before .before .before .before .before .before .before .before .before .before .before .loop .inv) (c .before .before .before .before .before .before .before .before .before .before .before .before .before .before .loop-test .taken) _ _ _ _ (c .before .before .before .before .before .before .before .before .before .before .group .ensures) (c .before .before .before .before .before .before .before .before .before .before .before .before .before .before .before .before .before .before .before .before .before .before .before .before .before .before .args .fit) _ (c .before .sum .given .1)
+returns c =
+    let group = c .before .before .before .before .before .before .before .before .before .before in
+    let loop-test = group .before .before .before .before in
+    let loop = loop-test .before in
+    let start = loop .before .before .before .before .before .before .before .before .before .before .before in
+    let args = start .args in
+    declines (args .family) (args .link) (args .shape) (args .theta .now) (sparse (args .starts .now) (args .columns .now) (args .values .now)) (args .y .now)
+    (args .weights .now) (args .offset .now) (args .n) (args .p) (args .q) (args .order) (args .groups) (args .k) (args .phi) _ _ _
+    (start .pre .0 .ready .effects) (start .pre .0 .lent) (start .pre .1) _ _ _ _ _ _ (loop .loop .inv) (loop-test .loop-test .taken) _ _ _ _
+    (group .group .ensures) (args .fit) _ (c .before .sum .given .1)
 
 enum-known-sum-2 : tie.Need-enum-known-sum-2 Inv-loop μ-loop
 enum-known-sum-2 c = search needs
 
 add-g : tie.Need-add-g Inv-loop μ-loop
-add-g c = omega (arith, c .before .before .before .before .before .before .before .before .before .before .before .before .before .before .loop-test .taken, groups-few (c .before .before .before .before .before .before .before .before .before .before .before .before .before .before .before .before .before .before .before .before .before .before .before .before .before .before .args .q) (c .before .before .before .before .before .before .before .before .before .before .before .before .before .before .before .before .before .before .before .before .before .before .before .before .before .before .args .groups) (c .before .before .before .before .before .before .before .before .before .before .before .before .before .before .before .before .before .before .before .before .before .before .before .before .before .before .args .k) (c .before .before .before .before .before .before .before .before .before .before .before .before .before .before .before .before .before .before .before .before .before .before .before .before .before .before .args .order) (c .before .before .before .before .before .before .before .before .before .before .before .before .before .before .before .before .before .before .before .before .before .before .before .before .before .before .pre .0 .lent .sizes .q-some) (c .before .before .before .before .before .before .before .before .before .before .before .before .before .before .before .before .before .before .before .before .before .before .before .before .before .before .pre .0 .lent .sizes .q-few) (c .before .before .before .before .before .before .before .before .before .before .before .before .before .before .before .before .before .before .before .before .before .before .before .before .before .before .pre .1))
+add-g c =
+    let loop-test = c .before .before .before .before .before .before .before .before .before .before .before .before .before .before in
+    let start = loop-test .before .before .before .before .before .before .before .before .before .before .before .before in
+    omega (
+      arith,
+      loop-test .loop-test .taken,
+      groups-few (start .args .q) (start .args .groups) (start .args .k) (start .args .order) (start .pre .0 .lent .sizes .q-some)
+          (start .pre .0 .lent .sizes .q-few) (start .pre .1),
+    )
 
 loop-less : tie.Need-loop-less Inv-loop μ-loop
 loop-less c = omega (arith, c .before .before .before .before .before .before .before .before .before .before .before .before .before .before .loop-test .taken)
 
 loop-again : tie.Need-loop-again Inv-loop μ-loop
-loop-again c = goes-on (c .before .before .before .before .before .before .before .before .before .before .before .before .before .before .before .before .before .before .before .before .before .before .before .before .before .before .args .family) (c .before .before .before .before .before .before .before .before .before .before .before .before .before .before .before .before .before .before .before .before .before .before .before .before .before .before .args .link) (c .before .before .before .before .before .before .before .before .before .before .before .before .before .before .before .before .before .before .before .before .before .before .before .before .before .before .args .shape) (c .before .before .before .before .before .before .before .before .before .before .before .before .before .before .before .before .before .before .before .before .before .before .before .before .before .before .args .theta .now) (sparse (c .before .before .before .before .before .before .before .before .before .before .before .before .before .before .before .before .before .before .before .before .before .before .before .before .before .before .args .starts .now) (c .before .before .before .before .before .before .before .before .before .before .before .before .before .before .before .before .before .before .before .before .before .before .before .before .before .before .args .columns .now) (c .before .before .before .before .before .before .before .before .before .before .before .before .before .before .before .before .before .before .before .before .before .before .before .before .before .before .args .values .now)) (c .before .before .before .before .before .before .before .before .before .before .before .before .before .before .before .before .before .before .before .before .before .before .before .before .before .before .args .y .now) (c .before .before .before .before .before .before .before .before .before .before .before .before .before .before .before .before .before .before .before .before .before .before .before .before .before .before .args .weights .now) (c .before .before .before .before .before .before .before .before .before .before .before .before .before .before .before .before .before .before .before .before .before .before .before .before .before .before .args .offset .now) (c .before .before .before .before .before .before .before .before .before .before .before .before .before .before .before .before .before .before .before .before .before .before .before .before .before .before .args .n) (c .before .before .before .before .before .before .before .before .before .before .before .before .before .before .before .before .before .before .before .before .before .before .before .before .before .before .args .p) (c .before .before .before .before .before .before .before .before .before .before .before .before .before .before .before .before .before .before .before .before .before .before .before .before .before .before .args .q) (c .before .before .before .before .before .before .before .before .before .before .before .before .before .before .before .before .before .before .before .before .before .before .before .before .before .before .args .order) (c .before .before .before .before .before .before .before .before .before .before .before .before .before .before .before .before .before .before .before .before .before .before .before .before .before .before .args .groups) (c .before .before .before .before .before .before .before .before .before .before .before .before .before .before .before .before .before .before .before .before .before .before .before .before .before .before .args .k) (c .before .before .before .before .before .before .before .before .before .before .before .before .before .before .before .before .before .before .before .before .before .before .before .before .before .before .args .phi) _ _ _ (c .before .before .before .before .before .before .before .before .before .before .before .before .before .before .before .before .before .before .before .before .before .before .before .before .before .before .pre .0 .ready .effects) (c .before .before .before .before .before .before .before .before .before .before .before .before .before .before .before .before .before .before .before .before .before .before .before .before .before .before .pre .0 .lent) (c .before .before .before .before .before .before .before .before .before .before .before .before .before .before .before .before .before .before .before .before .before .before .before .before .before .before .pre .1) _ _ _ _ _ _ (c .before .before .before .before .before .before .before .before .before .before .before .before .before .before .before .loop .inv) (c .before .before .before .before .before .before .before .before .before .before .before .before .before .before .loop-test .taken) _ _ _ _ (c .before .before .before .before .before .before .before .before .before .before .group .ensures) _ (c .before .sum2 .given .1)
+loop-again c =
+    let group = c .before .before .before .before .before .before .before .before .before .before in
+    let loop-test = group .before .before .before .before in
+    let loop = loop-test .before in
+    let start = loop .before .before .before .before .before .before .before .before .before .before .before in
+    let args = start .args in
+    goes-on (args .family) (args .link) (args .shape) (args .theta .now) (sparse (args .starts .now) (args .columns .now) (args .values .now)) (args .y .now)
+    (args .weights .now) (args .offset .now) (args .n) (args .p) (args .q) (args .order) (args .groups) (args .k) (args .phi) _ _ _
+    (start .pre .0 .ready .effects) (start .pre .0 .lent) (start .pre .1) _ _ _ _ _ _ (loop .loop .inv) (loop-test .loop-test .taken) _ _ _ _
+    (group .group .ensures) _ (c .before .sum2 .given .1)
 
 same-length-4 : tie.Need-same-length-4 Inv-loop μ-loop
 same-length-4 c = c .before .loop .inv .frame .rows-only .len
@@ -61,7 +124,12 @@ same-length-6 : tie.Need-same-length-6 Inv-loop μ-loop
 same-length-6 c = c .before .loop .inv .frame .terms-only .len
 
 returns-2 : tie.Need-returns-2 Inv-loop μ-loop
-returns-2 c = ends (c .before .before .before .before .before .before .before .before .before .before .before .before .args .family) (c .before .before .before .before .before .before .before .before .before .before .before .before .args .link) (c .before .before .before .before .before .before .before .before .before .before .before .before .args .shape) (c .before .before .before .before .before .before .before .before .before .before .before .before .args .theta .now) (sparse (c .before .before .before .before .before .before .before .before .before .before .before .before .args .starts .now) (c .before .before .before .before .before .before .before .before .before .before .before .before .args .columns .now) (c .before .before .before .before .before .before .before .before .before .before .before .before .args .values .now)) (c .before .before .before .before .before .before .before .before .before .before .before .before .args .y .now) (c .before .before .before .before .before .before .before .before .before .before .before .before .args .weights .now) (c .before .before .before .before .before .before .before .before .before .before .before .before .args .offset .now) (c .before .before .before .before .before .before .before .before .before .before .before .before .args .n) (c .before .before .before .before .before .before .before .before .before .before .before .before .args .p) (c .before .before .before .before .before .before .before .before .before .before .before .before .args .q) (c .before .before .before .before .before .before .before .before .before .before .before .before .args .order) (c .before .before .before .before .before .before .before .before .before .before .before .before .args .groups) (c .before .before .before .before .before .before .before .before .before .before .before .before .args .k) (c .before .before .before .before .before .before .before .before .before .before .before .before .args .phi) _ _ _ (c .before .before .before .before .before .before .before .before .before .before .before .before .pre .0 .ready .effects) (c .before .before .before .before .before .before .before .before .before .before .before .before .pre .0 .lent) (c .before .before .before .before .before .before .before .before .before .before .before .before .pre .1) _ _ _ _ _ _ (c .before .loop .inv) (c .before .before .before .before .before .before .before .before .before .before .before .before .args .fit) (c .loop-test .left)
+returns-2 c =
+    let start = c .before .before .before .before .before .before .before .before .before .before .before .before in
+    let args = start .args in
+    ends (args .family) (args .link) (args .shape) (args .theta .now) (sparse (args .starts .now) (args .columns .now) (args .values .now)) (args .y .now)
+    (args .weights .now) (args .offset .now) (args .n) (args .p) (args .q) (args .order) (args .groups) (args .k) (args .phi) _ _ _
+    (start .pre .0 .ready .effects) (start .pre .0 .lent) (start .pre .1) _ _ _ _ _ _ (c .before .loop .inv) (args .fit) (c .loop-test .left)
 
 pub product-step-spec : {M : Type 1} → statement M
 product-step-spec =
