@@ -18,6 +18,7 @@ RESERVED = set("""unfoldable abbrev axiom unfold unfolding ruleset mutual infix 
 WORD = r"[^\s(){}\[\],;.]+"
 BEGIN, END = r"(?<![^\s(){}\[\],;])", r"(?![^\s(){}\[\],;])"
 BEFORE = " .before"
+WAYS = "-- the ways back that several answers go\n"
 CLAUSE = r"([^\s=:(){}]+(?: [^\s=:(){}]+)+) =(?: |$)"
 
 
@@ -261,6 +262,14 @@ def written_out(text):
     return out
 
 
+def unwayed(text):
+    """the text with the ways that --ways wrote put back"""
+    text = text.replace(WAYS, "")
+    for m in re.finditer(r"(?m)^abbrev (\S+) : tie\.\S+.* → tie\.\S+.*\n\1 c =((?:\s+\.before|\s+c)+)\n\n", text):
+        text = re.sub(f" {re.escape(m.group(1))} (" + WORD + ") in", lambda n: f" {n.group(1)}{BEFORE * m.group(2).count('.before')} in", text.replace(m.group(0), ""))
+    return text
+
+
 def clauses(text):
     """(need, its clause's start and end in the text, what its type is applied to)"""
     for m in re.finditer(r"(?m)^(\S+) : tie\.Need-(\S+)(.*)\n((?:unfolding.*\n)*)((?:.+\n)+)", text):
@@ -289,20 +298,20 @@ def with_ways(text, lts, tie):
         if (here, there) in names:
             continue
         several = len({w[5] for w in often if w[6] == there}) > 1
-        way = f"{name}-of" + ("-" + (re.sub("^[A-Z][a-z]+-", "", here) if near == "c" else near) if several else "")
+        way = f"{name}-of" + ("-" + (re.sub("^[A-Z][a-z]+-", "", here).lower() if near == "c" else near) if several else "")
         while way in taken:
             way += "′"
         taken.add(way)
         names[here, there] = way
-        body = laid(f"c{BEFORE * steps}", WIDTH - 4, WIDTH - len(way) - 5)
-        body = " " + body if "\n" not in body else "\n    " + body.replace("\n", "\n    ")
-        tops.append(f"abbrev {way} : tie.{here}{applied} → tie.{there}{applied}\n{way} c ={body}")
+        body = f"{way} c = c{BEFORE * steps}"
+        body = body if len(body) <= WIDTH else f"{way} c =\n    " + fill(["c"] + [".before"] * steps, WIDTH - 4).replace("\n", "\n    ")
+        tops.append(f"abbrev {way} : tie.{here}{applied} → tie.{there}{applied}\n{body}")
     for start, end, name, near, _, here, there, _ in reversed(often):
         text = text[:start] + f"let {name} = {names[here, there]} {near} in" + text[end:]
     if not tops:
         return text
     top = re.search(r"(?m)^\S+ : tie\.Need-", text).start()
-    return text[:top] + "-- the ways back that several answers go\n" + "\n\n".join(tops) + "\n\n" + text[top:]
+    return text[:top] + WAYS + "\n\n".join(tops) + "\n\n" + text[top:]
 
 
 def ways(crate, fns):
@@ -313,6 +322,8 @@ def ways(crate, fns):
             tie = open(f"{g.dir}/Rattle.{crate}.proofs/proofs/{fn}/Tie.antt").read()
             old = open(path).read()
             new = with_ways(old, lts, tie)
+            if written_out(unwayed(new)) != written_out(old):
+                sys.exit(f"{path}: left as it is, its answers would not be what they were")
             open(path, "w").write(new)
             print(f"{path}: {old.count('.before')} to {new.count('.before')} .before")
 

@@ -19,7 +19,9 @@ order-by-requires c κs = search needs
 
 returns : tie.Need-returns
 returns c =
-    same-answer refl refl refl refl (c .before .deviance-by .ensures) (c .order-by .ensures) (c .before .before .plus .ensures ∙ rw (c .before .before .before .of-points .ensures) refl)
+    let of-points = c .before .before .before in
+    same-answer refl refl refl refl (c .before .deviance-by .ensures) (c .order-by .ensures)
+    (c .before .before .plus .ensures ∙ rw (of-points .of-points .ensures) refl)
 
 pub answer-of-spec : {M : Type 1} → statement M
 answer-of-spec =

@@ -20,21 +20,33 @@ enum-known-choice-2 c = search needs
 
 fixed-row-requires : tie.Need-fixed-row-requires
 fixed-row-requires c κs =
-    let s = c .before .before .before .before .before .before .before .before .before .before .before .before .before .before .before .before .before in
-    (s .pre .lent .sizes, s .pre .x-long, s .pre .lent .rows-long, s .pre .lent .matrices-long)
+    let start = c .before .before .before .before .before .before .before .before .before .before .before .before .before .before .before .before .before in
+    (start .pre .lent .sizes, start .pre .x-long, start .pre .lent .rows-long, start .pre .lent .matrices-long)
 
 joint-step-requires : tie.Need-joint-step-requires
 joint-step-requires c κs =
-    let s = c .before .before .before .before .before .before .before .before .before .before .before .before .before .before .before .before .before .before .before .before .before .before .before in
-    (roomy (s .pre) (c .before .before .before .before .before .fixed-row .ensures .only .len), joint-within (s .args .wish) (s .args .q) _ (sym (c .before .before .before .before .before .before .before .before .before .before .before .resolve-gh-order-joint .ensures) ∙ c .before .before .before .before .before .before .before .before .before .choice2 .given .1) .1)
+    let fixed-row = c .before .before .before .before .before in
+    let choice2 = fixed-row .before .before .before .before in
+    let resolve-gh-order-joint = choice2 .before .before in
+    let start = resolve-gh-order-joint .before .before .before .before .before .before .before .before .before .before .before .before in (
+      roomy (start .pre) (fixed-row .fixed-row .ensures .only .len),
+      joint-within (start .args .wish) (start .args .q) _ (sym (resolve-gh-order-joint .resolve-gh-order-joint .ensures) ∙ choice2 .choice2 .given .1) .1,
+    )
 
 returns : tie.Need-returns
 returns c =
-    let s = c .before .before .before .before .before .before .before .before .before .before .before .before .before .before .before .before in
-    joint-declined (s .args .family) (s .args .link) (s .args .shape) (s .args .theta .now) _ (s .args .y .now) (s .args .weights .now) (s .args .offset .now) (s .args .n) (s .args .p) (s .args .q) (s .args .x .now) (s .args .wish) (s .args .phi) (s .args .fit) _ (s .pre .ready .effects) (sym (c .before .before .before .before .resolve-gh-order-joint .ensures) ∙ c .before .before .choice .given .1) _ _ _ _ (c .declined .ensures)
+    let resolve-gh-order-joint = c .before .before .before .before in
+    let start = resolve-gh-order-joint .before .before .before .before .before .before .before .before .before .before .before .before in
+    let args = start .args in
+    joint-declined (args .family) (args .link) (args .shape) (args .theta .now) _ (args .y .now) (args .weights .now) (args .offset .now) (args .n) (args .p)
+    (args .q) (args .x .now) (args .wish) (args .phi) (args .fit) _ (start .pre .ready .effects)
+    (sym (resolve-gh-order-joint .resolve-gh-order-joint .ensures) ∙ c .before .before .choice .given .1) _ _ _ _ (c .declined .ensures)
 
 same-length : tie.Need-same-length
-same-length c = c .before .before .before .before .before .before .joint-step .ensures .frame .rows-only .len ∙ c .before .before .before .before .before .before .before .before .before .before .before .before .fixed-row .ensures .only .len
+same-length c =
+    let joint-step = c .before .before .before .before .before .before in
+    let fixed-row = joint-step .before .before .before .before .before .before in
+    joint-step .joint-step .ensures .frame .rows-only .len ∙ fixed-row .fixed-row .ensures .only .len
 
 same-length-2 : tie.Need-same-length-2
 same-length-2 c = c .before .before .before .before .before .before .joint-step .ensures .frame .matrices-only .len
@@ -44,8 +56,16 @@ same-length-3 c = c .before .before .before .before .before .before .joint-step 
 
 returns-2 : tie.Need-returns-2
 returns-2 c =
-    let s = c .before .before .before .before .before .before .before .before .before .before .before .before .before .before .before .before .before .before .before .before .before .before .before .before .before .before .before .before .before .before in
-    joint-made (s .args .family) (s .args .link) (s .args .shape) (s .args .theta .now) _ (s .args .y .now) (s .args .weights .now) (s .args .offset .now) (s .args .n) (s .args .p) (s .args .q) (s .args .x .now) (s .args .wish) (s .args .phi) (s .args .fit) (s .pre .ready .effects) _ (s .args .r .now) _ _ (s .args .m .now) _ (s .args .t .now) _ _ (s .pre .lent .rows-long) (c .before .before .before .before .before .before .before .before .before .before .before .before .fixed-row .ensures) (sym (c .before .before .before .before .before .before .before .before .before .before .before .before .before .before .before .before .before .before .resolve-gh-order-joint .ensures) ∙ c .before .before .before .before .before .before .before .before .before .before .before .before .before .before .before .before .choice2 .given .1) (c .before .before .before .before .before .before .joint-step .ensures)
+    let joint-step = c .before .before .before .before .before .before in
+    let fixed-row = joint-step .before .before .before .before .before .before in
+    let choice2 = fixed-row .before .before .before .before in
+    let resolve-gh-order-joint = choice2 .before .before in
+    let start = resolve-gh-order-joint .before .before .before .before .before .before .before .before .before .before .before .before in
+    let args = start .args in
+    joint-made (args .family) (args .link) (args .shape) (args .theta .now) _ (args .y .now) (args .weights .now) (args .offset .now) (args .n) (args .p)
+    (args .q) (args .x .now) (args .wish) (args .phi) (args .fit) (start .pre .ready .effects) _ (args .r .now) _ _ (args .m .now) _ (args .t .now) _ _
+    (start .pre .lent .rows-long) (fixed-row .fixed-row .ensures) (sym (resolve-gh-order-joint .resolve-gh-order-joint .ensures) ∙ choice2 .choice2 .given .1)
+    (joint-step .joint-step .ensures)
 
 pub joint-at-spec : {M : Type 1} → statement M
 joint-at-spec =

@@ -19,21 +19,34 @@ enum-known-choice-2 c = search needs
 
 fixed-row-requires : tie.Need-fixed-row-requires
 fixed-row-requires c κs =
-    let s = c .before .before .before .before .before .before .before .before .before .before .before .before .before .before .before .before .before in
-    (s .pre .0 .lent .sizes, s .pre .0 .x-long, s .pre .0 .lent .rows-long, s .pre .0 .lent .matrices-long)
+    let start = c .before .before .before .before .before .before .before .before .before .before .before .before .before .before .before .before .before in
+    (start .pre .0 .lent .sizes, start .pre .0 .x-long, start .pre .0 .lent .rows-long, start .pre .0 .lent .matrices-long)
 
 product-step-requires : tie.Need-product-step-requires
 product-step-requires c κs =
-    let s = c .before .before .before .before .before .before .before .before .before .before .before .before .before .before .before .before .before .before .before .before .before .before .before in
-    (roomy (s .pre .0) (c .before .before .before .before .before .fixed-row .ensures .only .len), grouped (s .args .wish) (s .args .q) (s .args .groups) (s .args .k) _ (s .pre .1) (sym (c .before .before .before .before .before .before .before .before .before .before .before .resolve-gh-order-product .ensures) ∙ c .before .before .before .before .before .before .before .before .before .choice2 .given .1))
+    let fixed-row = c .before .before .before .before .before in
+    let choice2 = fixed-row .before .before .before .before in
+    let resolve-gh-order-product = choice2 .before .before in
+    let start = resolve-gh-order-product .before .before .before .before .before .before .before .before .before .before .before .before in (
+      roomy (start .pre .0) (fixed-row .fixed-row .ensures .only .len),
+      grouped (start .args .wish) (start .args .q) (start .args .groups) (start .args .k) _ (start .pre .1)
+          (sym (resolve-gh-order-product .resolve-gh-order-product .ensures) ∙ choice2 .choice2 .given .1),
+    )
 
 returns : tie.Need-returns
 returns c =
-    let s = c .before .before .before .before .before .before .before .before .before .before .before .before .before .before .before .before in
-    product-declined (s .args .family) (s .args .link) (s .args .shape) (s .args .theta .now) _ (s .args .y .now) (s .args .weights .now) (s .args .offset .now) (s .args .n) (s .args .p) (s .args .q) (s .args .x .now) (s .args .wish) (s .args .phi) (s .args .fit) (s .args .groups) (s .args .k) _ (sym (c .before .before .before .before .resolve-gh-order-product .ensures) ∙ c .before .before .choice .given .1) _ _ _ _ (c .declined .ensures)
+    let resolve-gh-order-product = c .before .before .before .before in
+    let start = resolve-gh-order-product .before .before .before .before .before .before .before .before .before .before .before .before in
+    let args = start .args in
+    product-declined (args .family) (args .link) (args .shape) (args .theta .now) _ (args .y .now) (args .weights .now) (args .offset .now) (args .n) (args .p)
+    (args .q) (args .x .now) (args .wish) (args .phi) (args .fit) (args .groups) (args .k) _
+    (sym (resolve-gh-order-product .resolve-gh-order-product .ensures) ∙ c .before .before .choice .given .1) _ _ _ _ (c .declined .ensures)
 
 same-length : tie.Need-same-length
-same-length c = c .before .before .before .before .before .before .product-step .ensures .frame .rows-only .len ∙ c .before .before .before .before .before .before .before .before .before .before .before .before .fixed-row .ensures .only .len
+same-length c =
+    let product-step = c .before .before .before .before .before .before in
+    let fixed-row = product-step .before .before .before .before .before .before in
+    product-step .product-step .ensures .frame .rows-only .len ∙ fixed-row .fixed-row .ensures .only .len
 
 same-length-2 : tie.Need-same-length-2
 same-length-2 c = c .before .before .before .before .before .before .product-step .ensures .frame .matrices-only .len
@@ -43,8 +56,16 @@ same-length-3 c = c .before .before .before .before .before .before .product-ste
 
 returns-2 : tie.Need-returns-2
 returns-2 c =
-    let s = c .before .before .before .before .before .before .before .before .before .before .before .before .before .before .before .before .before .before .before .before .before .before .before .before .before .before .before .before .before .before in
-    product-made (s .args .family) (s .args .link) (s .args .shape) (s .args .theta .now) _ (s .args .y .now) (s .args .weights .now) (s .args .offset .now) (s .args .n) (s .args .p) (s .args .q) (s .args .x .now) (s .args .wish) (s .args .phi) (s .args .fit) (s .pre .0 .ready .effects) _ (s .args .r .now) _ _ (s .args .m .now) _ (s .args .t .now) _ _ (s .pre .0 .lent .rows-long) (c .before .before .before .before .before .before .before .before .before .before .before .before .fixed-row .ensures) (s .args .groups) (s .args .k) (sym (c .before .before .before .before .before .before .before .before .before .before .before .before .before .before .before .before .before .before .resolve-gh-order-product .ensures) ∙ c .before .before .before .before .before .before .before .before .before .before .before .before .before .before .before .before .choice2 .given .1) (c .before .before .before .before .before .before .product-step .ensures)
+    let product-step = c .before .before .before .before .before .before in
+    let fixed-row = product-step .before .before .before .before .before .before in
+    let choice2 = fixed-row .before .before .before .before in
+    let resolve-gh-order-product = choice2 .before .before in
+    let start = resolve-gh-order-product .before .before .before .before .before .before .before .before .before .before .before .before in
+    let args = start .args in
+    product-made (args .family) (args .link) (args .shape) (args .theta .now) _ (args .y .now) (args .weights .now) (args .offset .now) (args .n) (args .p)
+    (args .q) (args .x .now) (args .wish) (args .phi) (args .fit) (start .pre .0 .ready .effects) _ (args .r .now) _ _ (args .m .now) _ (args .t .now) _ _
+    (start .pre .0 .lent .rows-long) (fixed-row .fixed-row .ensures) (args .groups) (args .k)
+    (sym (resolve-gh-order-product .resolve-gh-order-product .ensures) ∙ choice2 .choice2 .given .1) (product-step .product-step .ensures)
 
 pub product-at-spec : {M : Type 1} → statement M
 product-at-spec =

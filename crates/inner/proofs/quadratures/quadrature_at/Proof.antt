@@ -13,8 +13,9 @@ element-copy-out-k c = search needs
 
 product-at-requires : tie.Need-product-at-requires
 product-at-requires c κs =
-    let s = c .before .before .before .before .before .before .before .before .before .before .before .before .before .before .before .before .before in
-    (s .pre, groups-all (s .args .t4) (s .args .q) (eq-eqb _ _ (c .before .before .before .before .before .if1 .taken)) (s .pre .ready .effects))
+    let if1 = c .before .before .before .before .before in
+    let start = if1 .before .before .before .before .before .before .before .before .before .before .before .before in
+    (start .pre, groups-all (start .args .t4) (start .args .q) (eq-eqb _ _ (if1 .if1 .taken)) (start .pre .ready .effects))
 
 same-length : tie.Need-same-length
 same-length c = c .before .before .before .before .before .before .product-at .ensures .rows-only .len
@@ -27,8 +28,12 @@ same-length-3 c = c .before .before .before .before .before .before .product-at 
 
 returns : tie.Need-returns
 returns c =
-    let s = c .before .before .before .before .before .before .before .before .before .before .before .before .before .before .before .before .before .before .before .before .before .before .before .before in
-    by-product (s .args .family) (s .args .link) (s .args .t4) (s .args .theta .now) _ (s .args .y .now) (s .args .weights .now) (s .args .offset .now) (s .args .n) (s .args .p) (s .args .q) (s .args .x .now) (s .args .wish) (s .args .phi) (s .args .fit) _ _ _ _ _ _ _ (eq-eqb _ _ (c .before .before .before .before .before .before .before .before .before .before .before .before .if1 .taken)) (c .before .before .before .before .before .before .product-at .ensures)
+    let product-at = c .before .before .before .before .before .before in
+    let if1 = product-at .before .before .before .before .before .before in
+    let start = if1 .before .before .before .before .before .before .before .before .before .before .before .before in
+    let args = start .args in
+    by-product (args .family) (args .link) (args .t4) (args .theta .now) _ (args .y .now) (args .weights .now) (args .offset .now) (args .n) (args .p) (args .q)
+    (args .x .now) (args .wish) (args .phi) (args .fit) _ _ _ _ _ _ _ (eq-eqb _ _ (if1 .if1 .taken)) (product-at .product-at .ensures)
 
 joint-at-requires : tie.Need-joint-at-requires
 joint-at-requires c κs = c .before .before .before .before .before .before .before .before .before .before .before .before .before .before .before .pre
@@ -44,8 +49,12 @@ same-length-6 c = c .before .before .before .before .before .before .joint-at .e
 
 returns-2 : tie.Need-returns-2
 returns-2 c =
-    let s = c .before .before .before .before .before .before .before .before .before .before .before .before .before .before .before .before .before .before .before .before .before .before in
-    by-joint (s .args .family) (s .args .link) (s .args .t4) (s .args .theta .now) _ (s .args .y .now) (s .args .weights .now) (s .args .offset .now) (s .args .n) (s .args .p) (s .args .q) (s .args .x .now) (s .args .wish) (s .args .phi) (s .args .fit) _ _ _ _ _ _ _ (ne-eqb _ _ (c .before .before .before .before .before .before .before .before .before .before .if1 .left)) (c .before .before .before .before .before .before .joint-at .ensures)
+    let joint-at = c .before .before .before .before .before .before in
+    let if1 = joint-at .before .before .before .before in
+    let start = if1 .before .before .before .before .before .before .before .before .before .before .before .before in
+    let args = start .args in
+    by-joint (args .family) (args .link) (args .t4) (args .theta .now) _ (args .y .now) (args .weights .now) (args .offset .now) (args .n) (args .p) (args .q)
+    (args .x .now) (args .wish) (args .phi) (args .fit) _ _ _ _ _ _ _ (ne-eqb _ _ (if1 .if1 .left)) (joint-at .joint-at .ensures)
 
 pub quadrature-at-spec : {M : Type 1} → statement M
 quadrature-at-spec =
