@@ -29,7 +29,9 @@ pub fn point_gain(
     m: &mut [f64],
 ) -> f64
     requires { ⌜ Room shape (now theta) (now starts) (now columns) (now values) (now y) (now offset) n q xbeta (now r) trial (now m) ⌝ }
-    ensures { λ g. ⌜ GainedIn family link shape (now (theta .entry)) (sparse (now (starts .entry)) (now (columns .entry)) (now (values .entry))) (now (y .entry)) (now (weights .entry)) (now (offset .entry)) n q xbeta trial (now (r .entry)) (now (r .exit)) (now (m .entry)) (now (m .exit)) g ⌝ }
+    ensures { λ g. ⌜
+        GainedIn family link shape (now (theta .entry)) (sparse (now (starts .entry)) (now (columns .entry)) (now (values .entry))) (now (y .entry))
+        (now (weights .entry)) (now (offset .entry)) n q xbeta trial (now (r .entry)) (now (r .exit)) (now (m .entry)) (now (m .exit)) g ⌝ }
 {
     let b = trial + q;
     let be = b + q;

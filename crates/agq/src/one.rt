@@ -40,7 +40,10 @@ fn one_point(
 ) -> f64
     requires { ⌜ Room shape (now theta) (now starts) (now columns) (now values) (now y) (now offset) n q xbeta (now r) trial (now m) ⌝ }
     requires { ⌜ (g < q) × (u + q ≤ trial) ⌝ }
-    ensures { λ x. ⌜ OneIn family link shape (now (theta .entry)) (sparse (now (starts .entry)) (now (columns .entry)) (now (values .entry))) (now (y .entry)) (now (weights .entry)) (now (offset .entry)) n q xbeta g sigma node «log_weight» «inv_phi» u trial (now (r .entry)) (now (r .exit)) (now (m .entry)) (now (m .exit)) x ⌝ }
+    ensures { λ x. ⌜
+        OneIn family link shape (now (theta .entry)) (sparse (now (starts .entry)) (now (columns .entry)) (now (values .entry))) (now (y .entry))
+        (now (weights .entry)) (now (offset .entry)) n q xbeta g sigma node «log_weight» «inv_phi» u trial (now (r .entry)) (now (r .exit)) (now (m .entry))
+        (now (m .exit)) x ⌝ }
 {
     let hat = m[u + g];
     let t = hat + sigma * node;
@@ -96,7 +99,12 @@ pub fn one_terms(
 )
     requires { ⌜ Room shape (now theta) (now starts) (now columns) (now values) (now y) (now offset) n q xbeta (now r) trial (now m) ⌝ }
     requires { ⌜ (g < q) × (u + q ≤ trial) × (size ≤ length (now nodes)) × (size ≤ length (now «node_weights»)) × (size ≤ length (now terms)) ⌝ }
-    ensures { λ _. ⌜ OnesIn (oneTermAtNode family link shape (now (theta .entry)) (sparse (now (starts .entry)) (now (columns .entry)) (now (values .entry))) (now (y .entry)) (now (weights .entry)) (now (offset .entry)) n q xbeta g sigma «inv_phi» (row u q (now (m .entry))) (now (r .entry)) (row trial q (now (m .entry))) (now (nodes .entry)) (now («node_weights» .entry))) n q xbeta trial size (now (r .entry)) (now (r .exit)) (now (m .entry)) (now (m .exit)) (now (terms .entry)) (now (terms .exit)) ⌝ }
+    ensures { λ _. ⌜
+        OnesIn
+        (oneTermAtNode family link shape (now (theta .entry)) (sparse (now (starts .entry)) (now (columns .entry)) (now (values .entry))) (now (y .entry))
+        (now (weights .entry)) (now (offset .entry)) n q xbeta g sigma «inv_phi» (row u q (now (m .entry))) (now (r .entry)) (row trial q (now (m .entry)))
+        (now (nodes .entry)) (now («node_weights» .entry))) n q xbeta trial size (now (r .entry)) (now (r .exit)) (now (m .entry)) (now (m .exit))
+        (now (terms .entry)) (now (terms .exit)) ⌝ }
 {
     let mut i = 0;
     while i < size {

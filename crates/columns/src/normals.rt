@@ -31,7 +31,9 @@ fn normal_column(
     requires { ⌜ Ready shape (now theta) (now starts) (now columns) (now values) q n ⌝ }
     requires { ⌜ WorkRoom n p q (now r) (now m) (now t) ⌝ }
     requires { ⌜ (n * p ≤ length (now x)) × (a < p) ⌝ }
-    ensures { λ _. ⌜ ColumnOf a n p q shape (now (theta .entry)) (now (x .entry)) (sparse (now (starts .entry)) (now (columns .entry)) (now (values .entry))) (now (r .entry)) (now (r .exit)) (now (m .entry)) (now (m .exit)) (now (t .entry)) (now (t .exit)) ⌝ }
+    ensures { λ _. ⌜
+        ColumnOf a n p q shape (now (theta .entry)) (now (x .entry)) (sparse (now (starts .entry)) (now (columns .entry)) (now (values .entry))) (now (r .entry))
+        (now (r .exit)) (now (m .entry)) (now (m .exit)) (now (t .entry)) (now (t .exit)) ⌝ }
 {
     let column = layout::column_row(n);
     let working = layout::working_row(n);
@@ -84,7 +86,9 @@ pub fn normal_columns(
     requires { ⌜ Ready shape (now theta) (now starts) (now columns) (now values) q n ⌝ }
     requires { ⌜ WorkRoom n p q (now r) (now m) (now t) ⌝ }
     requires { ⌜ n * p ≤ length (now x) ⌝ }
-    ensures { λ _. ⌜ ColumnsOf n p q shape (now (theta .entry)) (now (x .entry)) (sparse (now (starts .entry)) (now (columns .entry)) (now (values .entry))) (now (r .entry)) (now (r .exit)) (now (m .entry)) (now (m .exit)) (now (t .entry)) (now (t .exit)) ⌝ }
+    ensures { λ _. ⌜
+        ColumnsOf n p q shape (now (theta .entry)) (now (x .entry)) (sparse (now (starts .entry)) (now (columns .entry)) (now (values .entry))) (now (r .entry))
+        (now (r .exit)) (now (m .entry)) (now (m .exit)) (now (t .entry)) (now (t .exit)) ⌝ }
 {
     let mut a = 0;
     while a < p {

@@ -48,7 +48,9 @@ pub fn unsolved_into(
 )
     requires { ⌜ Ready shape (now theta) (now starts) (now columns) (now values) q n ⌝ }
     requires { ⌜ (column + n ≤ length (now r)) × (va + q ≤ length (now t)) ⌝ }
-    ensures { λ _. ⌜ Whatever n shape (now (theta .entry)) (sparse (now (starts .entry)) (now (columns .entry)) (now (values .entry))) (WroteSide va q (row column n (now (r .entry))) (now (t .entry)) (now (t .exit))) ⌝ }
+    ensures { λ _. ⌜
+        Whatever n shape (now (theta .entry)) (sparse (now (starts .entry)) (now (columns .entry)) (now (values .entry)))
+        (WroteSide va q (row column n (now (r .entry))) (now (t .entry)) (now (t .exit))) ⌝ }
 {
     let ce = column + n;
     let e = va + q;
@@ -91,8 +93,12 @@ pub fn normal_into(
     na: usize,
     t: &mut [f64],
 )
-    requires { ⌜ (n * p ≤ length (now x)) × (a < p) × (column + n ≤ length (now r)) × (solved + p * q ≤ length (now m)) × (va + q ≤ na) × (na + (a + 1) ≤ length (now t)) ⌝ }
-    ensures { λ _. ⌜ Wrote na (a + 1) (build (normalAt (now (x .entry)) p n (row column n (now (r .entry))) (row va q (now (t .entry))) (row solved (p * q) (now (m .entry))) q) (a + 1)) (now (t .entry)) (now (t .exit)) ⌝ }
+    requires { ⌜
+        (n * p ≤ length (now x)) × (a < p) × (column + n ≤ length (now r)) × (solved + p * q ≤ length (now m)) × (va + q ≤ na) × (na + (a + 1) ≤ length (now t)) ⌝ }
+    ensures { λ _. ⌜
+        Wrote na (a + 1)
+        (build (normalAt (now (x .entry)) p n (row column n (now (r .entry))) (row va q (now (t .entry))) (row solved (p * q) (now (m .entry))) q) (a + 1))
+        (now (t .entry)) (now (t .exit)) ⌝ }
 {
     let ce = column + n;
     let se = solved + p * q;
@@ -112,8 +118,12 @@ pub fn side_into(
     ba: usize,
     m: &mut [f64],
 )
-    requires { ⌜ (column + n ≤ length (now r)) × (working + n ≤ length (now r)) × (va + q ≤ length (now t)) × (wy + q ≤ length (now m)) × (ba < length (now m)) ⌝ }
-    ensures { λ _. ⌜ now (m .exit) ≡ set (now (m .entry)) ba (dotOf n (row column n (now (r .entry))) (row working n (now (r .entry))) ⊖ dotOf q (row va q (now (t .entry))) (row wy q (now (m .entry)))) ⌝ }
+    requires { ⌜
+        (column + n ≤ length (now r)) × (working + n ≤ length (now r)) × (va + q ≤ length (now t)) × (wy + q ≤ length (now m)) × (ba < length (now m)) ⌝ }
+    ensures { λ _. ⌜
+        now (m .exit)
+        ≡ set (now (m .entry)) ba
+        (dotOf n (row column n (now (r .entry))) (row working n (now (r .entry))) ⊖ dotOf q (row va q (now (t .entry))) (row wy q (now (m .entry)))) ⌝ }
 {
     let ce = column + n;
     let ze = working + n;

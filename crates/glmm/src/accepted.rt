@@ -49,7 +49,20 @@ pub fn fit_accepted(
     requires { ⌜ Asked n p q shape (now theta) (now starts) (now columns) (now values) (now offset) (now x) (now y) (now rows) (now matrices) (now terms) ⌝ }
     requires { ⌜ limit ≤ 1000 ⌝ }
     requires { ⌜ Writable n p q (now beta) (now se) (now z) (now u) (now b) (now mu) (now eta) (now residual) (now v) ⌝ }
-    ensures { λ a. ⌜ left a (lent (now (beta .exit)) (now (se .exit)) (now (z .exit)) (now (u .exit)) (now (b .exit)) (now (mu .exit)) (now (eta .exit)) (now (residual .exit)) (now (v .exit)) (now (rows .exit)) (now (matrices .exit)) (now (terms .exit))) ≡ fitLeft n p q (givenOf family link (now (y .entry)) (now (weights .entry)) (designOf n p shape (now (theta .entry)) (now (offset .entry)) (now (x .entry)) (sparse (now (starts .entry)) (now (columns .entry)) (now (values .entry))))) (fitOf (givenOf family link (now (y .entry)) (now (weights .entry)) (designOf n p shape (now (theta .entry)) (now (offset .entry)) (now (x .entry)) (sparse (now (starts .entry)) (now (columns .entry)) (now (values .entry))))) wish limit) (lent (now (beta .entry)) (now (se .entry)) (now (z .entry)) (now (u .entry)) (now (b .entry)) (now (mu .entry)) (now (eta .entry)) (now (residual .entry)) (now (v .entry)) (now (rows .entry)) (now (matrices .entry)) (now (terms .entry))) ⌝ }
+    ensures { λ a. ⌜
+        left a
+        (lent (now (beta .exit)) (now (se .exit)) (now (z .exit)) (now (u .exit)) (now (b .exit)) (now (mu .exit)) (now (eta .exit)) (now (residual .exit))
+        (now (v .exit)) (now (rows .exit)) (now (matrices .exit)) (now (terms .exit)))
+        ≡ fitLeft n p q
+        (givenOf family link (now (y .entry)) (now (weights .entry))
+        (designOf n p shape (now (theta .entry)) (now (offset .entry)) (now (x .entry))
+        (sparse (now (starts .entry)) (now (columns .entry)) (now (values .entry)))))
+        (fitOf
+        (givenOf family link (now (y .entry)) (now (weights .entry))
+        (designOf n p shape (now (theta .entry)) (now (offset .entry)) (now (x .entry))
+        (sparse (now (starts .entry)) (now (columns .entry)) (now (values .entry))))) wish limit)
+        (lent (now (beta .entry)) (now (se .entry)) (now (z .entry)) (now (u .entry)) (now (b .entry)) (now (mu .entry)) (now (eta .entry))
+        (now (residual .entry)) (now (v .entry)) (now (rows .entry)) (now (matrices .entry)) (now (terms .entry))) ⌝ }
 {
     let f = fit_in(
         family,

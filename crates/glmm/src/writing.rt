@@ -37,7 +37,15 @@ pub fn write_fit(
 )
     requires { ⌜ Standing shape n p q (now theta) (now y) (now r) (now m) ⌝ }
     requires { ⌜ Writable n p q (now beta) (now se) (now z) (now u) (now b) (now mu) (now eta) (now residual) (now v) ⌝ }
-    ensures { λ _. ⌜ nine (now (beta .exit)) (now (se .exit)) (now (z .exit)) (now (u .exit)) (now (b .exit)) (now (mu .exit)) (now (eta .exit)) (now (residual .exit)) (now (v .exit)) ≡ cond fitted (resultsFrom n p shape (now (theta .entry)) (now (y .entry)) (row (rootInversePlace p q) (p * p) (now (m .entry))) (row (betaPlace p q) p (now (m .entry))) (row (uPlace p q) q (now (m .entry))) (row (muRow n) n (now (r .entry))) (row (etaRow n in_second) n (now (r .entry)))) (nine (now (beta .entry)) (now (se .entry)) (now (z .entry)) (now (u .entry)) (now (b .entry)) (now (mu .entry)) (now (eta .entry)) (now (residual .entry)) (now (v .entry))) ⌝ }
+    ensures { λ _. ⌜
+        nine (now (beta .exit)) (now (se .exit)) (now (z .exit)) (now (u .exit)) (now (b .exit)) (now (mu .exit)) (now (eta .exit)) (now (residual .exit))
+        (now (v .exit))
+        ≡ cond fitted
+        (resultsFrom n p shape (now (theta .entry)) (now (y .entry)) (row (rootInversePlace p q) (p * p) (now (m .entry)))
+        (row (betaPlace p q) p (now (m .entry))) (row (uPlace p q) q (now (m .entry))) (row (muRow n) n (now (r .entry)))
+        (row (etaRow n in_second) n (now (r .entry))))
+        (nine (now (beta .entry)) (now (se .entry)) (now (z .entry)) (now (u .entry)) (now (b .entry)) (now (mu .entry)) (now (eta .entry))
+        (now (residual .entry)) (now (v .entry))) ⌝ }
 {
     if !fitted {
         return;

@@ -54,7 +54,11 @@ fn several_sums(
 ) -> GroupSum
     requires { ⌜ Roomy n p q shape (now theta) (now starts) (now columns) (now values) (now offset) (now y) (now r) (now m) (now t) ⌝ }
     requires { ⌜ (s + k ≤ q) × (sizeOf order ^ k ≤ 400) ⌝ }
-    ensures { λ a. ⌜ SumLeft (givenWith family link shape (now (theta .entry)) (sparse (now (starts .entry)) (now (columns .entry)) (now (values .entry))) (now (y .entry)) (now (weights .entry)) (now (offset .entry)) n p) (severalTerms phi order s k (row (inversePlace q) (k * k) (now (m .entry)))) n p q (sizeOf order ^ k) (now (r .entry)) (now (r .exit)) (now (m .entry)) (now (m .exit)) (now (t .entry)) (now (t .exit)) a ⌝ }
+    ensures { λ a. ⌜
+        SumLeft
+        (givenWith family link shape (now (theta .entry)) (sparse (now (starts .entry)) (now (columns .entry)) (now (values .entry))) (now (y .entry))
+        (now (weights .entry)) (now (offset .entry)) n p) (severalTerms phi order s k (row (inversePlace q) (k * k) (now (m .entry)))) n p q
+        (sizeOf order ^ k) (now (r .entry)) (now (r .exit)) (now (m .entry)) (now (m .exit)) (now (t .entry)) (now (t .exit)) a ⌝ }
 {
     let mark = mark_row(n);
     mark_group(starts, columns, values, q, n, s, k, mark, r);
@@ -127,7 +131,11 @@ pub fn several_group(
 ) -> GroupSum
     requires { ⌜ Roomy n p q shape (now theta) (now starts) (now columns) (now values) (now offset) (now y) (now r) (now m) (now t) ⌝ }
     requires { ⌜ (s + k ≤ q) × (sizeOf order ^ k ≤ 400) ⌝ }
-    ensures { λ a. ⌜ GroupLeft (givenWith family link shape (now (theta .entry)) (sparse (now (starts .entry)) (now (columns .entry)) (now (values .entry))) (now (y .entry)) (now (weights .entry)) (now (offset .entry)) n p) (severalRule phi order s k) n p q (sizeOf order ^ k) (now (r .entry)) (now (r .exit)) (now (m .entry)) (now (m .exit)) (now (t .entry)) (now (t .exit)) a ⌝ }
+    ensures { λ a. ⌜
+        GroupLeft
+        (givenWith family link shape (now (theta .entry)) (sparse (now (starts .entry)) (now (columns .entry)) (now (values .entry))) (now (y .entry))
+        (now (weights .entry)) (now (offset .entry)) n p) (severalRule phi order s k) n p q (sizeOf order ^ k) (now (r .entry)) (now (r .exit))
+        (now (m .entry)) (now (m .exit)) (now (t .entry)) (now (t .exit)) a ⌝ }
 {
     match block_scale(q, s, k, m, t) {
         Scaling::Unscaled(d) => GroupSum {

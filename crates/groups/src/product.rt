@@ -42,7 +42,11 @@ fn group(
 ) -> GroupSum
     requires { ⌜ Roomy n p q shape (now theta) (now starts) (now columns) (now values) (now offset) (now y) (now r) (now m) (now t) ⌝ }
     requires { ⌜ (g * k + k ≤ q) × ((k ≡ 1 → ⊥) → sizeOf order ^ k ≤ 400) ⌝ }
-    ensures { λ a. ⌜ GroupLeft (givenWith family link shape (now (theta .entry)) (sparse (now (starts .entry)) (now (columns .entry)) (now (values .entry))) (now (y .entry)) (now (weights .entry)) (now (offset .entry)) n p) (groupRule phi order k g) n p q (sizeOf order ^ k) (now (r .entry)) (now (r .exit)) (now (m .entry)) (now (m .exit)) (now (t .entry)) (now (t .exit)) a ⌝ }
+    ensures { λ a. ⌜
+        GroupLeft
+        (givenWith family link shape (now (theta .entry)) (sparse (now (starts .entry)) (now (columns .entry)) (now (values .entry))) (now (y .entry))
+        (now (weights .entry)) (now (offset .entry)) n p) (groupRule phi order k g) n p q (sizeOf order ^ k) (now (r .entry)) (now (r .exit))
+        (now (m .entry)) (now (m .exit)) (now (t .entry)) (now (t .exit)) a ⌝ }
 {
     if k == 1 {
         return one_group(
@@ -118,7 +122,11 @@ pub fn product_step(
 ) -> Quadrature
     requires { ⌜ Roomy n p q shape (now theta) (now starts) (now columns) (now values) (now offset) (now y) (now r) (now m) (now t) ⌝ }
     requires { ⌜ Grouped q groups k order ⌝ }
-    ensures { λ a. ⌜ StepLeft (givenWith family link shape (now (theta .entry)) (sparse (now (starts .entry)) (now (columns .entry)) (now (values .entry))) (now (y .entry)) (now (weights .entry)) (now (offset .entry)) n p) (productRule phi order k groups) n p q fit (now (r .entry)) (now (r .exit)) (now (m .entry)) (now (m .exit)) (now (t .entry)) (now (t .exit)) a ⌝ }
+    ensures { λ a. ⌜
+        StepLeft
+        (givenWith family link shape (now (theta .entry)) (sparse (now (starts .entry)) (now (columns .entry)) (now (values .entry))) (now (y .entry))
+        (now (weights .entry)) (now (offset .entry)) n p) (productRule phi order k groups) n p q fit (now (r .entry)) (now (r .exit)) (now (m .entry))
+        (now (m .exit)) (now (t .entry)) (now (t .exit)) a ⌝ }
 {
     let mut total = 0.0;
     let mut points = 0;

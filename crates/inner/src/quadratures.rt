@@ -74,7 +74,11 @@ fn product_at(
 ) -> Quadrature
     requires { ⌜ Asked n p q shape (now theta) (now starts) (now columns) (now values) (now offset) (now x) (now y) (now r) (now m) (now t) ⌝ }
     requires { ⌜ groups * k ≡ q ⌝ }
-    ensures { λ a. ⌜ ProductAt (givenWith family link shape (now (theta .entry)) (sparse (now (starts .entry)) (now (columns .entry)) (now (values .entry))) (now (y .entry)) (now (weights .entry)) (now (offset .entry)) n p (now (x .entry))) wish groups k phi fit (now (r .entry)) (now (r .exit)) (now (m .entry)) (now (m .exit)) (now (t .entry)) (now (t .exit)) a ⌝ }
+    ensures { λ a. ⌜
+        ProductAt
+        (givenWith family link shape (now (theta .entry)) (sparse (now (starts .entry)) (now (columns .entry)) (now (values .entry))) (now (y .entry))
+        (now (weights .entry)) (now (offset .entry)) n p (now (x .entry))) wish groups k phi fit (now (r .entry)) (now (r .exit)) (now (m .entry))
+        (now (m .exit)) (now (t .entry)) (now (t .exit)) a ⌝ }
 {
     let choice = resolve_gh_order_product(wish, k);
     match choice {
@@ -132,7 +136,11 @@ fn joint_at(
     t: &mut [f64],
 ) -> Quadrature
     requires { ⌜ Asked n p q shape (now theta) (now starts) (now columns) (now values) (now offset) (now x) (now y) (now r) (now m) (now t) ⌝ }
-    ensures { λ a. ⌜ JointAt (givenWith family link shape (now (theta .entry)) (sparse (now (starts .entry)) (now (columns .entry)) (now (values .entry))) (now (y .entry)) (now (weights .entry)) (now (offset .entry)) n p (now (x .entry))) wish phi fit (now (r .entry)) (now (r .exit)) (now (m .entry)) (now (m .exit)) (now (t .entry)) (now (t .exit)) a ⌝ }
+    ensures { λ a. ⌜
+        JointAt
+        (givenWith family link shape (now (theta .entry)) (sparse (now (starts .entry)) (now (columns .entry)) (now (values .entry))) (now (y .entry))
+        (now (weights .entry)) (now (offset .entry)) n p (now (x .entry))) wish phi fit (now (r .entry)) (now (r .exit)) (now (m .entry)) (now (m .exit))
+        (now (t .entry)) (now (t .exit)) a ⌝ }
 {
     let choice = resolve_gh_order_joint(wish, q);
     match choice {
@@ -188,7 +196,11 @@ pub fn quadrature_at(
     t: &mut [f64],
 ) -> Quadrature
     requires { ⌜ Asked n p q shape (now theta) (now starts) (now columns) (now values) (now offset) (now x) (now y) (now r) (now m) (now t) ⌝ }
-    ensures { λ a. ⌜ QuadratureAt (givenWith family link shape (now (theta .entry)) (sparse (now (starts .entry)) (now (columns .entry)) (now (values .entry))) (now (y .entry)) (now (weights .entry)) (now (offset .entry)) n p (now (x .entry))) wish phi fit (now (r .entry)) (now (r .exit)) (now (m .entry)) (now (m .exit)) (now (t .entry)) (now (t .exit)) a ⌝ }
+    ensures { λ a. ⌜
+        QuadratureAt
+        (givenWith family link shape (now (theta .entry)) (sparse (now (starts .entry)) (now (columns .entry)) (now (values .entry))) (now (y .entry))
+        (now (weights .entry)) (now (offset .entry)) n p (now (x .entry))) wish phi fit (now (r .entry)) (now (r .exit)) (now (m .entry)) (now (m .exit))
+        (now (t .entry)) (now (t .exit)) a ⌝ }
 {
     if shape.count == 1 {
         let groups = shape.m[0];

@@ -46,7 +46,13 @@ pub fn iterate(
     t: &mut [f64],
 ) -> Iteration
     requires { ⌜ Asked n p q shape (now theta) (now starts) (now columns) (now values) (now offset) (now x) (now y) (now r) (now m) (now t) ⌝ }
-    ensures { λ a. ⌜ IterationLeft (givenOf family link (now (y .entry)) (now (weights .entry)) (designOf n p shape (now (theta .entry)) (now (offset .entry)) (now (x .entry)) (sparse (now (starts .entry)) (now (columns .entry)) (now (values .entry))))) phi (row (etaRow n «in_second») n (now (r .entry))) (row (muRow n) n (now (r .entry))) (etaRow n (not «in_second»)) (now (r .entry)) (now (r .exit)) (now (m .entry)) (now (m .exit)) (now (t .entry)) (now (t .exit)) a ⌝ }
+    ensures { λ a. ⌜
+        IterationLeft
+        (givenOf family link (now (y .entry)) (now (weights .entry))
+        (designOf n p shape (now (theta .entry)) (now (offset .entry)) (now (x .entry))
+        (sparse (now (starts .entry)) (now (columns .entry)) (now (values .entry))))) phi (row (etaRow n «in_second») n (now (r .entry)))
+        (row (muRow n) n (now (r .entry))) (etaRow n (not «in_second»)) (now (r .entry)) (now (r .exit)) (now (m .entry)) (now (m .exit)) (now (t .entry))
+        (now (t .exit)) a ⌝ }
 {
     weigh(family, link, phi, y, weights, offset, n, q, in_second, r, t);
     let solving = solve_into(

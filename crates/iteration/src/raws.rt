@@ -40,7 +40,12 @@ pub fn raw_into(
     requires { ⌜ Ready shape (now theta) (now starts) (now columns) (now values) q n ⌝ }
     requires { ⌜ WorkRoom n p q (now r) (now m) (now t) ⌝ }
     requires { ⌜ (Optional n (now offset)) × (n * p ≤ length (now x)) ⌝ }
-    ensures { λ _. ⌜ RawLeft (designOf n p shape (now (theta .entry)) (now (offset .entry)) (now (x .entry)) (sparse (now (starts .entry)) (now (columns .entry)) (now (values .entry)))) (row (wyPlace p q) q (now (m .entry))) (row (solvedPlace q) (p * q) (now (m .entry))) (row (betaPlace p q) p (now (m .entry))) (now (r .entry)) (now (r .exit)) (now (m .entry)) (now (m .exit)) (now (t .entry)) (now (t .exit)) ⌝ }
+    ensures { λ _. ⌜
+        RawLeft
+        (designOf n p shape (now (theta .entry)) (now (offset .entry)) (now (x .entry))
+        (sparse (now (starts .entry)) (now (columns .entry)) (now (values .entry)))) (row (wyPlace p q) q (now (m .entry)))
+        (row (solvedPlace q) (p * q) (now (m .entry))) (row (betaPlace p q) p (now (m .entry))) (now (r .entry)) (now (r .exit)) (now (m .entry))
+        (now (m .exit)) (now (t .entry)) (now (t .exit)) ⌝ }
 {
     let spare = spare_at(n, p, q);
     let beta = beta_at(p, q);

@@ -29,7 +29,9 @@ pub fn right_sides(
     requires { ⌜ Ready shape (now theta) (now starts) (now columns) (now values) q n ⌝ }
     requires { ⌜ WorkRoom n p q (now r) (now m) (now t) ⌝ }
     requires { ⌜ n * p ≤ length (now x) ⌝ }
-    ensures { λ _. ⌜ SidesOf n p q shape (now (theta .entry)) (now (x .entry)) (sparse (now (starts .entry)) (now (columns .entry)) (now (values .entry))) (now (r .entry)) (now (r .exit)) (now (m .entry)) (now (m .exit)) (now (t .entry)) (now (t .exit)) ⌝ }
+    ensures { λ _. ⌜
+        SidesOf n p q shape (now (theta .entry)) (now (x .entry)) (sparse (now (starts .entry)) (now (columns .entry)) (now (values .entry))) (now (r .entry))
+        (now (r .exit)) (now (m .entry)) (now (m .exit)) (now (t .entry)) (now (t .exit)) ⌝ }
 {
     let weighted = weighted_row(n);
     let end = weighted + n;

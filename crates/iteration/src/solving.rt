@@ -41,7 +41,11 @@ pub fn solve_into(
     requires { ⌜ Ready shape (now theta) (now starts) (now columns) (now values) q n ⌝ }
     requires { ⌜ WorkRoom n p q (now r) (now m) (now t) ⌝ }
     requires { ⌜ (Optional n (now offset)) × (n * p ≤ length (now x)) ⌝ }
-    ensures { λ a. ⌜ SolvesWorking (designOf n p shape (now (theta .entry)) (now (offset .entry)) (now (x .entry)) (sparse (now (starts .entry)) (now (columns .entry)) (now (values .entry)))) (now (r .entry)) (now (r .exit)) (now (m .entry)) (now (m .exit)) (now (t .entry)) (now (t .exit)) a ⌝ }
+    ensures { λ a. ⌜
+        SolvesWorking
+        (designOf n p shape (now (theta .entry)) (now (offset .entry)) (now (x .entry))
+        (sparse (now (starts .entry)) (now (columns .entry)) (now (values .entry)))) (now (r .entry)) (now (r .exit)) (now (m .entry)) (now (m .exit))
+        (now (t .entry)) (now (t .exit)) a ⌝ }
 {
     let factored = factor_system(shape, theta, starts, columns, values, n, q, w_at(q), t, m);
     match factored {

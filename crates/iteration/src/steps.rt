@@ -44,7 +44,10 @@ pub fn step(
     r: &mut [f64],
 ) -> TriesEnd
     requires { ⌜ WorkRoom n p q (now r) (now m) (now t) ⌝ }
-    ensures { λ a. ⌜ TriesDone (trialIn link n q (etaRow n «in_second») (rawRow n) (row (uPlace p q) q (now (m .entry))) (row (wPlace q) n (now (t .entry))) (row (zPlace n q) n (now (t .entry))) (now (r .entry))) (etaRow n (not «in_second»)) (muRow n) (now (r .entry)) (now (r .exit)) a ⌝ }
+    ensures { λ a. ⌜
+        TriesDone
+        (trialIn link n q (etaRow n «in_second») (rawRow n) (row (uPlace p q) q (now (m .entry))) (row (wPlace q) n (now (t .entry)))
+        (row (zPlace n q) n (now (t .entry))) (now (r .entry))) (etaRow n (not «in_second»)) (muRow n) (now (r .entry)) (now (r .exit)) a ⌝ }
 {
     let prev = eta_row(n, in_second);
     let next = eta_row(n, !in_second);

@@ -54,7 +54,11 @@ fn joint_sums(
 ) -> GroupSum
     requires { ⌜ Roomy n p q shape (now theta) (now starts) (now columns) (now values) (now offset) (now y) (now r) (now m) (now t) ⌝ }
     requires { ⌜ sizeOf order ^ q ≤ 7000 ⌝ }
-    ensures { λ a. ⌜ SumLeft (givenWith family link shape (now (theta .entry)) (sparse (now (starts .entry)) (now (columns .entry)) (now (values .entry))) (now (y .entry)) (now (weights .entry)) (now (offset .entry)) n p) (jointTerms phi order (row (inversePlace q) (q * q) (now (m .entry)))) n p q (sizeOf order ^ q) (now (r .entry)) (now (r .exit)) (now (m .entry)) (now (m .exit)) (now (t .entry)) (now (t .exit)) a ⌝ }
+    ensures { λ a. ⌜
+        SumLeft
+        (givenWith family link shape (now (theta .entry)) (sparse (now (starts .entry)) (now (columns .entry)) (now (values .entry))) (now (y .entry))
+        (now (weights .entry)) (now (offset .entry)) n p) (jointTerms phi order (row (inversePlace q) (q * q) (now (m .entry)))) n p q (sizeOf order ^ q)
+        (now (r .entry)) (now (r .exit)) (now (m .entry)) (now (m .exit)) (now (t .entry)) (now (t .exit)) a ⌝ }
 {
     let mark = mark_row(n);
     mark_all(n, mark, r);
@@ -140,7 +144,11 @@ pub fn joint_step(
 ) -> Quadrature
     requires { ⌜ Roomy n p q shape (now theta) (now starts) (now columns) (now values) (now offset) (now y) (now r) (now m) (now t) ⌝ }
     requires { ⌜ sizeOf order ^ q ≤ 7000 ⌝ }
-    ensures { λ a. ⌜ StepLeft (givenWith family link shape (now (theta .entry)) (sparse (now (starts .entry)) (now (columns .entry)) (now (values .entry))) (now (y .entry)) (now (weights .entry)) (now (offset .entry)) n p) (jointRule phi order) n p q fit (now (r .entry)) (now (r .exit)) (now (m .entry)) (now (m .exit)) (now (t .entry)) (now (t .exit)) a ⌝ }
+    ensures { λ a. ⌜
+        StepLeft
+        (givenWith family link shape (now (theta .entry)) (sparse (now (starts .entry)) (now (columns .entry)) (now (values .entry))) (now (y .entry))
+        (now (weights .entry)) (now (offset .entry)) n p) (jointRule phi order) n p q fit (now (r .entry)) (now (r .exit)) (now (m .entry)) (now (m .exit))
+        (now (t .entry)) (now (t .exit)) a ⌝ }
 {
     match block_scale(q, 0, q, m, t) {
         Scaling::Unscaled(d) => Quadrature {

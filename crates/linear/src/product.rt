@@ -86,8 +86,11 @@ pub fn normal_row(
     na: usize,
     t: &mut [f64],
 )
-    requires { ⌜ (n * p ≤ length (now x)) × (n ≤ length (now xw)) × (p * q ≤ length (now solved)) × (a < p) × (va + q ≤ na) × (na + (a + 1) ≤ length (now t)) ⌝ }
-    ensures { λ _. ⌜ Wrote na (a + 1) (build (normalAt (now (x .entry)) p n (now (xw .entry)) (row va q (now (t .entry))) (now (solved .entry)) q) (a + 1)) (now (t .entry)) (now (t .exit)) ⌝ }
+    requires { ⌜
+        (n * p ≤ length (now x)) × (n ≤ length (now xw)) × (p * q ≤ length (now solved)) × (a < p) × (va + q ≤ na) × (na + (a + 1) ≤ length (now t)) ⌝ }
+    ensures { λ _. ⌜
+        Wrote na (a + 1) (build (normalAt (now (x .entry)) p n (now (xw .entry)) (row va q (now (t .entry))) (now (solved .entry)) q) (a + 1)) (now (t .entry))
+        (now (t .exit)) ⌝ }
 {
     let ve = va + q;
     let mut b = 0;

@@ -67,7 +67,8 @@ pub fn mark_group(
 )
     requires { ⌜ Rows (now starts) (now columns) (now values) rows n ⌝ }
     requires { ⌜ (s + k ≤ rows) × (mark + n ≤ length (now r)) ⌝ }
-    ensures { λ _. ⌜ Wrote mark n (build (markAt (sparse (now (starts .entry)) (now (columns .entry)) (now (values .entry))) s k) n) (now (r .entry)) (now (r .exit)) ⌝ }
+    ensures { λ _. ⌜
+        Wrote mark n (build (markAt (sparse (now (starts .entry)) (now (columns .entry)) (now (values .entry))) s k) n) (now (r .entry)) (now (r .exit)) ⌝ }
 {
     let e = mark + n;
     base::wipe(&mut r[mark..e], n);
@@ -112,8 +113,16 @@ pub fn point_means(
     mark: usize,
     r: &mut [f64],
 )
-    requires { ⌜ (Optional n (now offset)) × (xbeta + n ≤ length (now r)) × (zb + n ≤ length (now r)) × (mark + n ≤ length (now r)) × (Apart xbeta n zb n) × (Apart mark n zb n) ⌝ }
-    ensures { λ _. ⌜ Wrote zb n (build (meanOver link (now (offset .entry)) (row xbeta n (now (r .entry))) (row zb n (now (r .entry))) (row mark n (now (r .entry)))) n) (now (r .entry)) (now (r .exit)) ⌝ }
+    requires { ⌜
+        (Optional n (now offset))
+        × (xbeta + n ≤ length (now r))
+        × (zb + n ≤ length (now r))
+        × (mark + n ≤ length (now r))
+        × (Apart xbeta n zb n)
+        × (Apart mark n zb n) ⌝ }
+    ensures { λ _. ⌜
+        Wrote zb n (build (meanOver link (now (offset .entry)) (row xbeta n (now (r .entry))) (row zb n (now (r .entry))) (row mark n (now (r .entry)))) n)
+        (now (r .entry)) (now (r .exit)) ⌝ }
 {
     let mut i = 0;
     while i < n {
@@ -137,7 +146,10 @@ fn add_gain(
     sum: f64,
 ) -> f64
     requires { ⌜ (i + 1 ≤ n) × (n ≤ length (now y)) × (devs + n ≤ length (now r)) × (means + n ≤ length (now r)) × (mark + n ≤ length (now r)) ⌝ }
-    ensures { λ g. ⌜ g ≡ addWhere (marked (row mark n (now (r .entry))) i) sum (entered family (now (y .entry)) (now (weights .entry)) (row means n (now (r .entry))) (row devs n (now (r .entry))) i) ⌝ }
+    ensures { λ g. ⌜
+        g
+        ≡ addWhere (marked (row mark n (now (r .entry))) i) sum
+        (entered family (now (y .entry)) (now (weights .entry)) (row means n (now (r .entry))) (row devs n (now (r .entry))) i) ⌝ }
 {
     if 0.0 < r[mark + i] {
         let wt = weight_at(weights, i);
@@ -159,7 +171,10 @@ pub fn deviance_gain(
     r: &[f64],
 ) -> f64
     requires { ⌜ (n ≤ length (now y)) × (devs + n ≤ length (now r)) × (means + n ≤ length (now r)) × (mark + n ≤ length (now r)) ⌝ }
-    ensures { λ g. ⌜ g ≡ sumWhere n (marked (row mark n (now (r .entry)))) (entered family (now (y .entry)) (now (weights .entry)) (row means n (now (r .entry))) (row devs n (now (r .entry)))) ⌝ }
+    ensures { λ g. ⌜
+        g
+        ≡ sumWhere n (marked (row mark n (now (r .entry))))
+        (entered family (now (y .entry)) (now (weights .entry)) (row means n (now (r .entry))) (row devs n (now (r .entry)))) ⌝ }
 {
     let mut sum = 0.0;
     let mut i = 0;

@@ -18,7 +18,9 @@ ghost use Rattle.agq_rule.specs.Term.{penaltyAt, movedAt};
 pub fn move_effects(k: usize, l: usize, z: usize, u: usize, trial: usize, m: &mut [f64])
     requires { ⌜ (l + k * k ≤ length (now m)) × (z + k ≤ length (now m)) × (u + k ≤ length (now m)) × (trial + k ≤ length (now m)) ⌝ }
     requires { ⌜ (Apart l (k * k) trial k) × (Apart z k trial k) × (Apart u k trial k) × (allTo k (finiteAt (row z k (now m))) ≡ true) ⌝ }
-    ensures { λ _. ⌜ Wrote trial k (build (movedAt k (row l (k * k) (now (m .entry))) (row z k (now (m .entry))) 0 (row u k (now (m .entry)))) k) (now (m .entry)) (now (m .exit)) ⌝ }
+    ensures { λ _. ⌜
+        Wrote trial k (build (movedAt k (row l (k * k) (now (m .entry))) (row z k (now (m .entry))) 0 (row u k (now (m .entry)))) k) (now (m .entry))
+        (now (m .exit)) ⌝ }
 {
     let le = l + k * k;
     let ze = z + k;

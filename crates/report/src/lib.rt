@@ -74,8 +74,13 @@ fn put_results(
     residual: &[f64],
     v: &[f64],
 ) -> usize
-    requires { ⌜ (at ≤ 512) × (outRoom ≤ length (now out)) × Few (nine (now beta) (now se) (now z) (now u) (now b) (now mu) (now eta) (now residual) (now v)) ⌝ }
-    ensures { λ r. ⌜ Grown (resultLines (nine (now (beta .entry)) (now (se .entry)) (now (z .entry)) (now (u .entry)) (now (b .entry)) (now (mu .entry)) (now (eta .entry)) (now (residual .entry)) (now (v .entry)))) resultsMost at (now (out .entry)) r (now (out .exit)) ⌝ }
+    requires { ⌜
+        (at ≤ 512) × (outRoom ≤ length (now out)) × Few (nine (now beta) (now se) (now z) (now u) (now b) (now mu) (now eta) (now residual) (now v)) ⌝ }
+    ensures { λ r. ⌜
+        Grown
+        (resultLines
+        (nine (now (beta .entry)) (now (se .entry)) (now (z .entry)) (now (u .entry)) (now (b .entry)) (now (mu .entry)) (now (eta .entry))
+        (now (residual .entry)) (now (v .entry)))) resultsMost at (now (out .entry)) r (now (out .exit)) ⌝ }
 {
     let fixed_end = put_fixed(out, at, beta, se, z);
     let effects_end = put_effects(out, fixed_end, u, b);
@@ -98,7 +103,11 @@ fn put_fitted(
     v: &[f64],
 ) -> usize
     requires { ⌜ (outRoom ≤ length (now out)) × Few (nine (now beta) (now se) (now z) (now u) (now b) (now mu) (now eta) (now residual) (now v)) ⌝ }
-    ensures { λ r. ⌜ Written (fittedText answer (nine (now (beta .entry)) (now (se .entry)) (now (z .entry)) (now (u .entry)) (now (b .entry)) (now (mu .entry)) (now (eta .entry)) (now (residual .entry)) (now (v .entry)))) (now (out .entry)) r (now (out .exit)) ⌝ }
+    ensures { λ r. ⌜
+        Written
+        (fittedText answer
+        (nine (now (beta .entry)) (now (se .entry)) (now (z .entry)) (now (u .entry)) (now (b .entry)) (now (mu .entry)) (now (eta .entry))
+        (now (residual .entry)) (now (v .entry)))) (now (out .entry)) r (now (out .exit)) ⌝ }
 {
     let ended = lines::end_line(out, answer);
     let deviance_end = put_value(out, ended, b"deviance", 0, answer.deviance);
@@ -121,7 +130,11 @@ pub fn put_answer(
     v: &[f64],
 ) -> usize
     requires { ⌜ (outRoom ≤ length (now out)) × Few (nine (now beta) (now se) (now z) (now u) (now b) (now mu) (now eta) (now residual) (now v)) ⌝ }
-    ensures { λ r. ⌜ Written (answerText answer (nine (now (beta .entry)) (now (se .entry)) (now (z .entry)) (now (u .entry)) (now (b .entry)) (now (mu .entry)) (now (eta .entry)) (now (residual .entry)) (now (v .entry)))) (now (out .entry)) r (now (out .exit)) ⌝ }
+    ensures { λ r. ⌜
+        Written
+        (answerText answer
+        (nine (now (beta .entry)) (now (se .entry)) (now (z .entry)) (now (u .entry)) (now (b .entry)) (now (mu .entry)) (now (eta .entry))
+        (now (residual .entry)) (now (v .entry)))) (now (out .entry)) r (now (out .exit)) ⌝ }
 {
     let number = answer.number;
     if number == 0 {

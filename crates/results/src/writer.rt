@@ -34,7 +34,11 @@ pub fn write_results(
 )
     requires { ⌜ Readable shape n p q (now theta) (now y) (now columns) (now «mode_beta») (now «mode_u») (now «mode_mu») (now «mode_eta») ⌝ }
     requires { ⌜ Writable n p q (now beta) (now se) (now z) (now u) (now b) (now mu) (now eta) (now residual) (now v) ⌝ }
-    ensures { λ _. ⌜ nine (now (beta .exit)) (now (se .exit)) (now (z .exit)) (now (u .exit)) (now (b .exit)) (now (mu .exit)) (now (eta .exit)) (now (residual .exit)) (now (v .exit)) ≡ resultsFrom n p shape (now (theta .entry)) (now (y .entry)) (now (columns .entry)) (now («mode_beta» .entry)) (now («mode_u» .entry)) (now («mode_mu» .entry)) (now («mode_eta» .entry)) ⌝ }
+    ensures { λ _. ⌜
+        nine (now (beta .exit)) (now (se .exit)) (now (z .exit)) (now (u .exit)) (now (b .exit)) (now (mu .exit)) (now (eta .exit)) (now (residual .exit))
+        (now (v .exit))
+        ≡ resultsFrom n p shape (now (theta .entry)) (now (y .entry)) (now (columns .entry)) (now («mode_beta» .entry)) (now («mode_u» .entry))
+        (now («mode_mu» .entry)) (now («mode_eta» .entry)) ⌝ }
 {
     v_rows(columns, p, v);
     standard_errors(v, p, se);

@@ -43,7 +43,17 @@ fn dispersed_fit(
 ) -> Fit
     requires { ⌜ Asked n p q shape (now theta) (now starts) (now columns) (now values) (now offset) (now x) (now y) (now r) (now m) (now t) ⌝ }
     requires { ⌜ limit ≤ 1000 ⌝ }
-    ensures { λ a. ⌜ FitLeft (givenOf family link (now (y .entry)) (now (weights .entry)) (designOf n p shape (now (theta .entry)) (now (offset .entry)) (now (x .entry)) (sparse (now (starts .entry)) (now (columns .entry)) (now (values .entry))))) (dispersionOf (effectiveN n (now (weights .entry))) sumOf (innerAt (givenOf family link (now (y .entry)) (now (weights .entry)) (designOf n p shape (now (theta .entry)) (now (offset .entry)) (now (x .entry)) (sparse (now (starts .entry)) (now (columns .entry)) (now (values .entry))))) wish limit)) (now (r .entry)) (now (r .exit)) (now (m .entry)) (now (m .exit)) (now (t .entry)) (now (t .exit)) a ⌝ }
+    ensures { λ a. ⌜
+        FitLeft
+        (givenOf family link (now (y .entry)) (now (weights .entry))
+        (designOf n p shape (now (theta .entry)) (now (offset .entry)) (now (x .entry))
+        (sparse (now (starts .entry)) (now (columns .entry)) (now (values .entry)))))
+        (dispersionOf (effectiveN n (now (weights .entry))) sumOf
+        (innerAt
+        (givenOf family link (now (y .entry)) (now (weights .entry))
+        (designOf n p shape (now (theta .entry)) (now (offset .entry)) (now (x .entry))
+        (sparse (now (starts .entry)) (now (columns .entry)) (now (values .entry))))) wish limit)) (now (r .entry)) (now (r .exit)) (now (m .entry))
+        (now (m .exit)) (now (t .entry)) (now (t .exit)) a ⌝ }
 {
     let effective = effective_n(weights, n);
     let mut phi = 1.0;
@@ -134,7 +144,17 @@ fn fixed_fit(
 ) -> Fit
     requires { ⌜ Asked n p q shape (now theta) (now starts) (now columns) (now values) (now offset) (now x) (now y) (now r) (now m) (now t) ⌝ }
     requires { ⌜ limit ≤ 1000 ⌝ }
-    ensures { λ a. ⌜ FitLeft (givenOf family link (now (y .entry)) (now (weights .entry)) (designOf n p shape (now (theta .entry)) (now (offset .entry)) (now (x .entry)) (sparse (now (starts .entry)) (now (columns .entry)) (now (values .entry))))) (fixedOf (innerAt (givenOf family link (now (y .entry)) (now (weights .entry)) (designOf n p shape (now (theta .entry)) (now (offset .entry)) (now (x .entry)) (sparse (now (starts .entry)) (now (columns .entry)) (now (values .entry))))) wish limit)) (now (r .entry)) (now (r .exit)) (now (m .entry)) (now (m .exit)) (now (t .entry)) (now (t .exit)) a ⌝ }
+    ensures { λ a. ⌜
+        FitLeft
+        (givenOf family link (now (y .entry)) (now (weights .entry))
+        (designOf n p shape (now (theta .entry)) (now (offset .entry)) (now (x .entry))
+        (sparse (now (starts .entry)) (now (columns .entry)) (now (values .entry)))))
+        (fixedOf
+        (innerAt
+        (givenOf family link (now (y .entry)) (now (weights .entry))
+        (designOf n p shape (now (theta .entry)) (now (offset .entry)) (now (x .entry))
+        (sparse (now (starts .entry)) (now (columns .entry)) (now (values .entry))))) wish limit)) (now (r .entry)) (now (r .exit)) (now (m .entry))
+        (now (m .exit)) (now (t .entry)) (now (t .exit)) a ⌝ }
 {
     let a = inner_at(
         family,
@@ -185,7 +205,16 @@ pub fn fit_in(
 ) -> Fit
     requires { ⌜ Asked n p q shape (now theta) (now starts) (now columns) (now values) (now offset) (now x) (now y) (now r) (now m) (now t) ⌝ }
     requires { ⌜ limit ≤ 1000 ⌝ }
-    ensures { λ a. ⌜ FitLeft (givenOf family link (now (y .entry)) (now (weights .entry)) (designOf n p shape (now (theta .entry)) (now (offset .entry)) (now (x .entry)) (sparse (now (starts .entry)) (now (columns .entry)) (now (values .entry))))) (fitOf (givenOf family link (now (y .entry)) (now (weights .entry)) (designOf n p shape (now (theta .entry)) (now (offset .entry)) (now (x .entry)) (sparse (now (starts .entry)) (now (columns .entry)) (now (values .entry))))) wish limit) (now (r .entry)) (now (r .exit)) (now (m .entry)) (now (m .exit)) (now (t .entry)) (now (t .exit)) a ⌝ }
+    ensures { λ a. ⌜
+        FitLeft
+        (givenOf family link (now (y .entry)) (now (weights .entry))
+        (designOf n p shape (now (theta .entry)) (now (offset .entry)) (now (x .entry))
+        (sparse (now (starts .entry)) (now (columns .entry)) (now (values .entry)))))
+        (fitOf
+        (givenOf family link (now (y .entry)) (now (weights .entry))
+        (designOf n p shape (now (theta .entry)) (now (offset .entry)) (now (x .entry))
+        (sparse (now (starts .entry)) (now (columns .entry)) (now (values .entry))))) wish limit) (now (r .entry)) (now (r .exit)) (now (m .entry))
+        (now (m .exit)) (now (t .entry)) (now (t .exit)) a ⌝ }
 {
     if uses_dispersion(family) {
         return dispersed_fit(

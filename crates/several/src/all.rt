@@ -43,7 +43,14 @@ pub fn joint_point(
     requires { ⌜ Room shape (now theta) (now starts) (now columns) (now values) (now y) (now offset) n q xbeta (now r) trial (now m) ⌝ }
     requires { ⌜ Grid q 0 q size l u trial (now nodes) (now m) ⌝ }
     requires { ⌜ size ≤ length (now «node_logs») ⌝ }
-    ensures { λ x. ⌜ PointIn (jointTermWith (gainIn family link shape (now (theta .entry)) (sparse (now (starts .entry)) (now (columns .entry)) (now (values .entry))) (now (y .entry)) (now (weights .entry)) (now (offset .entry)) n q xbeta (now (r .entry))) q (logWeightIn (now («node_logs» .entry)) size q point) «inv_phi» hats (jointEffects q (now (nodes .entry)) size (row l (q * q) (now (m .entry))) (row u q (now (m .entry))) point)) (jointEffects q (now (nodes .entry)) size (row l (q * q) (now (m .entry))) (row u q (now (m .entry))) point) n q xbeta trial (now (r .entry)) (now (r .exit)) (now (m .entry)) (now (m .exit)) x ⌝ }
+    ensures { λ x. ⌜
+        PointIn
+        (jointTermWith
+        (gainIn family link shape (now (theta .entry)) (sparse (now (starts .entry)) (now (columns .entry)) (now (values .entry))) (now (y .entry))
+        (now (weights .entry)) (now (offset .entry)) n q xbeta (now (r .entry))) q (logWeightIn (now («node_logs» .entry)) size q point) «inv_phi» hats
+        (jointEffects q (now (nodes .entry)) size (row l (q * q) (now (m .entry))) (row u q (now (m .entry))) point))
+        (jointEffects q (now (nodes .entry)) size (row l (q * q) (now (m .entry))) (row u q (now (m .entry))) point) n q xbeta trial (now (r .entry))
+        (now (r .exit)) (now (m .entry)) (now (m .exit)) x ⌝ }
 {
     let dd = trial_gain(
         family,
@@ -106,7 +113,13 @@ pub fn joint_terms(
     requires { ⌜ Room shape (now theta) (now starts) (now columns) (now values) (now y) (now offset) n q xbeta (now r) trial (now m) ⌝ }
     requires { ⌜ Grid q 0 q size l u trial (now nodes) (now m) ⌝ }
     requires { ⌜ (size ≤ length (now «node_logs»)) × (count ≤ length (now terms)) ⌝ }
-    ensures { λ _. ⌜ TermsIn (jointTermIn (gainIn family link shape (now (theta .entry)) (sparse (now (starts .entry)) (now (columns .entry)) (now (values .entry))) (now (y .entry)) (now (weights .entry)) (now (offset .entry)) n q xbeta (now (r .entry))) q «inv_phi» (now (nodes .entry)) (now («node_logs» .entry)) size (row l (q * q) (now (m .entry))) (row u q (now (m .entry)))) n q xbeta trial count (now (r .entry)) (now (r .exit)) (now (m .entry)) (now (m .exit)) (now (terms .entry)) (now (terms .exit)) ⌝ }
+    ensures { λ _. ⌜
+        TermsIn
+        (jointTermIn
+        (gainIn family link shape (now (theta .entry)) (sparse (now (starts .entry)) (now (columns .entry)) (now (values .entry))) (now (y .entry))
+        (now (weights .entry)) (now (offset .entry)) n q xbeta (now (r .entry))) q «inv_phi» (now (nodes .entry)) (now («node_logs» .entry)) size
+        (row l (q * q) (now (m .entry))) (row u q (now (m .entry)))) n q xbeta trial count (now (r .entry)) (now (r .exit)) (now (m .entry)) (now (m .exit))
+        (now (terms .entry)) (now (terms .exit)) ⌝ }
 {
     let end = u + q;
     let hats = dot(&m[u..end], &m[u..end], q);

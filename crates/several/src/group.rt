@@ -44,7 +44,14 @@ pub fn group_point(
     requires { ⌜ Room shape (now theta) (now starts) (now columns) (now values) (now y) (now offset) n q xbeta (now r) trial (now m) ⌝ }
     requires { ⌜ Grid q s k size l u trial (now nodes) (now m) ⌝ }
     requires { ⌜ size ≤ length (now «node_logs») ⌝ }
-    ensures { λ x. ⌜ PointIn (groupTermIn (gainIn family link shape (now (theta .entry)) (sparse (now (starts .entry)) (now (columns .entry)) (now (values .entry))) (now (y .entry)) (now (weights .entry)) (now (offset .entry)) n q xbeta (now (r .entry))) s k «inv_phi» (now (nodes .entry)) (now («node_logs» .entry)) size (row l (k * k) (now (m .entry))) (row u q (now (m .entry))) (row trial q (now (m .entry))) point) (groupEffects s k (now (nodes .entry)) size (row l (k * k) (now (m .entry))) (row u q (now (m .entry))) (row trial q (now (m .entry))) point) n q xbeta trial (now (r .entry)) (now (r .exit)) (now (m .entry)) (now (m .exit)) x ⌝ }
+    ensures { λ x. ⌜
+        PointIn
+        (groupTermIn
+        (gainIn family link shape (now (theta .entry)) (sparse (now (starts .entry)) (now (columns .entry)) (now (values .entry))) (now (y .entry))
+        (now (weights .entry)) (now (offset .entry)) n q xbeta (now (r .entry))) s k «inv_phi» (now (nodes .entry)) (now («node_logs» .entry)) size
+        (row l (k * k) (now (m .entry))) (row u q (now (m .entry))) (row trial q (now (m .entry))) point)
+        (groupEffects s k (now (nodes .entry)) size (row l (k * k) (now (m .entry))) (row u q (now (m .entry))) (row trial q (now (m .entry))) point) n q xbeta
+        trial (now (r .entry)) (now (r .exit)) (now (m .entry)) (now (m .exit)) x ⌝ }
 {
     let dd = trial_gain(
         family,
@@ -112,7 +119,13 @@ pub fn group_terms(
     requires { ⌜ Room shape (now theta) (now starts) (now columns) (now values) (now y) (now offset) n q xbeta (now r) trial (now m) ⌝ }
     requires { ⌜ Grid q s k size l u trial (now nodes) (now m) ⌝ }
     requires { ⌜ (size ≤ length (now «node_logs»)) × (count ≤ length (now terms)) ⌝ }
-    ensures { λ _. ⌜ TermsIn (groupTermIn (gainIn family link shape (now (theta .entry)) (sparse (now (starts .entry)) (now (columns .entry)) (now (values .entry))) (now (y .entry)) (now (weights .entry)) (now (offset .entry)) n q xbeta (now (r .entry))) s k «inv_phi» (now (nodes .entry)) (now («node_logs» .entry)) size (row l (k * k) (now (m .entry))) (row u q (now (m .entry))) (row trial q (now (m .entry)))) n q xbeta trial count (now (r .entry)) (now (r .exit)) (now (m .entry)) (now (m .exit)) (now (terms .entry)) (now (terms .exit)) ⌝ }
+    ensures { λ _. ⌜
+        TermsIn
+        (groupTermIn
+        (gainIn family link shape (now (theta .entry)) (sparse (now (starts .entry)) (now (columns .entry)) (now (values .entry))) (now (y .entry))
+        (now (weights .entry)) (now (offset .entry)) n q xbeta (now (r .entry))) s k «inv_phi» (now (nodes .entry)) (now («node_logs» .entry)) size
+        (row l (k * k) (now (m .entry))) (row u q (now (m .entry))) (row trial q (now (m .entry)))) n q xbeta trial count (now (r .entry)) (now (r .exit))
+        (now (m .entry)) (now (m .exit)) (now (terms .entry)) (now (terms .exit)) ⌝ }
 {
     let mut i = 0;
     while i < count {

@@ -40,7 +40,12 @@ pub fn trial_gain(
 ) -> f64
     requires { ⌜ Room shape (now theta) (now starts) (now columns) (now values) (now y) (now offset) n q xbeta (now r) trial (now m) ⌝ }
     requires { ⌜ Grid q s k size l u trial (now nodes) (now m) ⌝ }
-    ensures { λ dd. ⌜ TrialIn (gainIn family link shape (now (theta .entry)) (sparse (now (starts .entry)) (now (columns .entry)) (now (values .entry))) (now (y .entry)) (now (weights .entry)) (now (offset .entry)) n q xbeta (now (r .entry))) (groupEffects s k (now (nodes .entry)) size (row l (k * k) (now (m .entry))) (row u q (now (m .entry))) (row trial q (now (m .entry))) point) n q xbeta trial (now (r .entry)) (now (r .exit)) (now (m .entry)) (now (m .exit)) dd ⌝ }
+    ensures { λ dd. ⌜
+        TrialIn
+        (gainIn family link shape (now (theta .entry)) (sparse (now (starts .entry)) (now (columns .entry)) (now (values .entry))) (now (y .entry))
+        (now (weights .entry)) (now (offset .entry)) n q xbeta (now (r .entry)))
+        (groupEffects s k (now (nodes .entry)) size (row l (k * k) (now (m .entry))) (row u q (now (m .entry))) (row trial q (now (m .entry))) point) n q xbeta
+        trial (now (r .entry)) (now (r .exit)) (now (m .entry)) (now (m .exit)) dd ⌝ }
 {
     let z = trial + q + q;
     let hat = u + s;

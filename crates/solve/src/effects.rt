@@ -24,7 +24,9 @@ pub fn solve_u(
     t: &mut [f64],
 )
     requires { ⌜ (wy + q ≤ length (now m)) × (solved + p * q ≤ length (now m)) × (beta + p ≤ length (now m)) × (spare + q ≤ length (now t)) ⌝ }
-    ensures { λ _. ⌜ Wrote spare q (build (effectAt (row wy q (now (m .entry))) (row solved (p * q) (now (m .entry))) q p (row beta p (now (m .entry)))) q) (now (t .entry)) (now (t .exit)) ⌝ }
+    ensures { λ _. ⌜
+        Wrote spare q (build (effectAt (row wy q (now (m .entry))) (row solved (p * q) (now (m .entry))) q p (row beta p (now (m .entry)))) q) (now (t .entry))
+        (now (t .exit)) ⌝ }
 {
     let ye = wy + q;
     let se = solved + p * q;
@@ -75,7 +77,9 @@ pub fn zb_into(
 )
     requires { ⌜ Rows (now starts) (now columns) (now values) q n ⌝ }
     requires { ⌜ (b + q ≤ length (now m)) × (raw + n ≤ length (now r)) ⌝ }
-    ensures { λ _. ⌜ Wrote raw n (build (zTimesAt (sparse (now (starts .entry)) (now (columns .entry)) (now (values .entry))) q (row b q (now (m .entry)))) n) (now (r .entry)) (now (r .exit)) ⌝ }
+    ensures { λ _. ⌜
+        Wrote raw n (build (zTimesAt (sparse (now (starts .entry)) (now (columns .entry)) (now (values .entry))) q (row b q (now (m .entry)))) n) (now (r .entry))
+        (now (r .exit)) ⌝ }
 {
     let e = b + q;
     let end = raw + n;

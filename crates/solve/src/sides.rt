@@ -20,7 +20,9 @@ pub fn side(
 )
     requires { ⌜ Ready shape (now theta) (now starts) (now columns) (now values) q n ⌝ }
     requires { ⌜ (n ≤ length (now v)) × (length (now out) ≡ q) ⌝ }
-    ensures { λ _. ⌜ Whatever n shape (now (theta .entry)) (sparse (now (starts .entry)) (now (columns .entry)) (now (values .entry))) (IsSide (now (v .entry)) (now (out .exit))) ⌝ }
+    ensures { λ _. ⌜
+        Whatever n shape (now (theta .entry)) (sparse (now (starts .entry)) (now (columns .entry)) (now (values .entry)))
+        (IsSide (now (v .entry)) (now (out .exit))) ⌝ }
 {
     stored::zt_times(starts, columns, values, q, n, v, out);
     lambda::lambda_transposed(shape, theta, q, out);
@@ -42,7 +44,9 @@ pub fn solve_side(
 )
     requires { ⌜ Ready shape (now theta) (now starts) (now columns) (now values) q n ⌝ }
     requires { ⌜ (n ≤ length (now v)) × (q * q ≤ length (now l)) × (wy + q ≤ length (now m)) ⌝ }
-    ensures { λ _. ⌜ Whatever n shape (now (theta .entry)) (sparse (now (starts .entry)) (now (columns .entry)) (now (values .entry))) (SolvedSide (now (v .entry)) (now (l .entry)) wy (now (m .entry)) (now (m .exit))) ⌝ }
+    ensures { λ _. ⌜
+        Whatever n shape (now (theta .entry)) (sparse (now (starts .entry)) (now (columns .entry)) (now (values .entry)))
+        (SolvedSide (now (v .entry)) (now (l .entry)) wy (now (m .entry)) (now (m .exit))) ⌝ }
 {
     let e = wy + q;
     side(

@@ -23,7 +23,9 @@ pub fn factor_system(
 ) -> Factored
     requires { ⌜ Ready shape (now theta) (now starts) (now columns) (now values) q n ⌝ }
     requires { ⌜ (q * q ≤ w) × (w + n ≤ length (now t)) × (q * q ≤ length (now m)) ⌝ }
-    ensures { λ r. ⌜ Whatever n shape (now (theta .entry)) (sparse (now (starts .entry)) (now (columns .entry)) (now (values .entry))) (SystemLeaves (row w n (now (t .entry))) (now (t .entry)) (now (t .exit)) (now (m .entry)) (now (m .exit)) r) ⌝ }
+    ensures { λ r. ⌜
+        Whatever n shape (now (theta .entry)) (sparse (now (starts .entry)) (now (columns .entry)) (now (values .entry)))
+        (SystemLeaves (row w n (now (t .entry))) (now (t .entry)) (now (t .exit)) (now (m .entry)) (now (m .exit)) r) ⌝ }
 {
     let e = w + n;
     let square = q * q;

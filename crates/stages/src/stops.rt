@@ -50,7 +50,8 @@ fn fit_at(family: CarriedFamily, y: &[f64], weights: &[f64], n: usize, sum: f64,
 // The Laplace deviance: the factor of A stands in t, u in m.
 fn laplace_at(p: usize, q: usize, fit: f64, m: &[f64], t: &[f64]) -> f64
     requires { ⌜ (p ≤ 16) × (q ≤ 32) × (matricesLength p q ≤ length (now m)) × (termsLength ≤ length (now t)) ⌝ }
-    ensures { λ l. ⌜ l ≡ (fit ⊕ logPivots q (row factorPlace (q * q) (now (t .entry)))) ⊕ dotOf q (row (uPlace p q) q (now (m .entry))) (row (uPlace p q) q (now (m .entry))) ⌝ }
+    ensures { λ l. ⌜
+        l ≡ (fit ⊕ logPivots q (row factorPlace (q * q) (now (t .entry)))) ⊕ dotOf q (row (uPlace p q) q (now (m .entry))) (row (uPlace p q) q (now (m .entry))) ⌝ }
 {
     let factor = layout::factor_at();
     let w = layout::w_at(q);
@@ -64,7 +65,8 @@ fn laplace_at(p: usize, q: usize, fit: f64, m: &[f64], t: &[f64]) -> f64
 // The inverse of the normal matrix's factor, which stands in t, into its place in m.
 fn root_inverse(n: usize, p: usize, q: usize, t: &[f64], m: &mut [f64])
     requires { ⌜ (n ≤ 512) × (p ≤ 16) × (q ≤ 32) × (matricesLength p q ≤ length (now m)) × (termsLength ≤ length (now t)) ⌝ }
-    ensures { λ _. ⌜ Wrote (rootInversePlace p q) (p * p) (choleskyInverse p (row (normalPlace n p q) (p * p) (now (t .entry)))) (now (m .entry)) (now (m .exit)) ⌝ }
+    ensures { λ _. ⌜
+        Wrote (rootInversePlace p q) (p * p) (choleskyInverse p (row (normalPlace n p q) (p * p) (now (t .entry)))) (now (m .entry)) (now (m .exit)) ⌝ }
 {
     let normal = layout::normal_at(n, p, q);
     let spare = layout::spare_at(n, p, q);
@@ -86,7 +88,9 @@ pub fn stop(
     t: &[f64],
 ) -> AtStop
     requires { ⌜ (WorkRoom n p q (now r) (now m) (now t)) × (n ≤ length (now y)) ⌝ }
-    ensures { λ a. ⌜ Stops family (now (y .entry)) (now (weights .entry)) n p q (row (muRow n) n (now (r .entry))) (now (t .entry)) (now (r .entry)) (now (r .exit)) (now (m .entry)) (now (m .exit)) a ⌝ }
+    ensures { λ a. ⌜
+        Stops family (now (y .entry)) (now (weights .entry)) n p q (row (muRow n) n (now (r .entry))) (now (t .entry)) (now (r .entry)) (now (r .exit))
+        (now (m .entry)) (now (m .exit)) a ⌝ }
 {
     let deviance_sum = deviances_into(family, y, weights, n, r);
     let fit = fit_at(family, y, weights, n, deviance_sum, r);

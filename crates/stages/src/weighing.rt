@@ -27,7 +27,10 @@ pub fn targets_into(
     r: &mut [f64],
 )
     requires { ⌜ (Optional n (now offset)) × (n ≤ length (now w)) × (n ≤ length (now z)) × (weighted + n ≤ working) × (working + n ≤ length (now r)) ⌝ }
-    ensures { λ _. ⌜ now (r .exit) ≡ fillAt working n (targetAt (now (offset .entry)) (now (z .entry))) (fillAt weighted n (productAt (now (w .entry)) (build (targetAt (now (offset .entry)) (now (z .entry))) n)) (now (r .entry))) ⌝ }
+    ensures { λ _. ⌜
+        now (r .exit)
+        ≡ fillAt working n (targetAt (now (offset .entry)) (now (z .entry)))
+        (fillAt weighted n (productAt (now (w .entry)) (build (targetAt (now (offset .entry)) (now (z .entry))) n)) (now (r .entry))) ⌝ }
 {
     let mut i = 0;
     while i < n {
@@ -53,7 +56,9 @@ pub fn weigh(
     t: &mut [f64],
 )
     requires { ⌜ WeighRoom n q (now y) (now offset) (now r) (now t) ⌝ }
-    ensures { λ _. ⌜ Weighs family link phi (now (y .entry)) (now (weights .entry)) (now (offset .entry)) n q (row (etaRow n in_second) n (now (r .entry))) (row (muRow n) n (now (r .entry))) (now (r .entry)) (now (r .exit)) (now (t .entry)) (now (t .exit)) ⌝ }
+    ensures { λ _. ⌜
+        Weighs family link phi (now (y .entry)) (now (weights .entry)) (now (offset .entry)) n q (row (etaRow n in_second) n (now (r .entry)))
+        (row (muRow n) n (now (r .entry))) (now (r .entry)) (now (r .exit)) (now (t .entry)) (now (t .exit)) ⌝ }
 {
     let second = layout::second_eta_row(n);
     let mu = layout::mu_row(n);

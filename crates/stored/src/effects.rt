@@ -19,7 +19,9 @@ fn add_row(
 )
     requires { ⌜ Rows (now starts) (now columns) (now values) rows n ⌝ }
     requires { ⌜ (a < rows) × (rows ≤ length (now b)) × (n ≤ length (now out)) ⌝ }
-    ensures { λ _. ⌜ now (out .exit) ≡ fillTo n (addedAt (sparse (now (starts .entry)) (now (columns .entry)) (now (values .entry))) (now (b .entry)) a (now (out .entry))) (now (out .entry)) ⌝ }
+    ensures { λ _. ⌜
+        now (out .exit)
+        ≡ fillTo n (addedAt (sparse (now (starts .entry)) (now (columns .entry)) (now (values .entry))) (now (b .entry)) a (now (out .entry))) (now (out .entry)) ⌝ }
 {
     let end = starts[a + 1];
     let mut k = starts[a];
@@ -42,7 +44,8 @@ pub fn z_times(
 )
     requires { ⌜ Rows (now starts) (now columns) (now values) rows n ⌝ }
     requires { ⌜ (rows ≤ length (now b)) × (n ≤ length (now out)) ⌝ }
-    ensures { λ _. ⌜ now (out .exit) ≡ fillTo n (zTimesAt (sparse (now (starts .entry)) (now (columns .entry)) (now (values .entry))) rows (now (b .entry))) (now (out .entry)) ⌝ }
+    ensures { λ _. ⌜
+        now (out .exit) ≡ fillTo n (zTimesAt (sparse (now (starts .entry)) (now (columns .entry)) (now (values .entry))) rows (now (b .entry))) (now (out .entry)) ⌝ }
 {
     base::wipe(out, n);
     let mut a = 0;

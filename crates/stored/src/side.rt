@@ -43,7 +43,9 @@ pub fn zt_times(
 )
     requires { ⌜ Rows (now starts) (now columns) (now values) rows n ⌝ }
     requires { ⌜ (n ≤ length (now v)) × (rows ≤ length (now out)) ⌝ }
-    ensures { λ _. ⌜ now (out .exit) ≡ fillTo rows (ztTimesAt (sparse (now (starts .entry)) (now (columns .entry)) (now (values .entry))) n (now (v .entry))) (now (out .entry)) ⌝ }
+    ensures { λ _. ⌜
+        now (out .exit)
+        ≡ fillTo rows (ztTimesAt (sparse (now (starts .entry)) (now (columns .entry)) (now (values .entry))) n (now (v .entry))) (now (out .entry)) ⌝ }
 {
     let mut a = 0;
     while a < rows {

@@ -56,7 +56,9 @@ fn ztwz_row(
 )
     requires { ⌜ Rows (now starts) (now columns) (now values) rows n ⌝ }
     requires { ⌜ (a < rows) × (n ≤ length (now w)) × (rows * rows ≤ length (now out)) ⌝ }
-    ensures { λ _. ⌜ Bordered rows a (a + 1) (ztwzAt (sparse (now (starts .entry)) (now (columns .entry)) (now (values .entry))) n (now (w .entry))) (now (out .entry)) (now (out .exit)) ⌝ }
+    ensures { λ _. ⌜
+        Bordered rows a (a + 1) (ztwzAt (sparse (now (starts .entry)) (now (columns .entry)) (now (values .entry))) n (now (w .entry))) (now (out .entry))
+        (now (out .exit)) ⌝ }
 {
     let ao = base::offset(a, rows, rows);
     let mut b = 0;
@@ -81,7 +83,9 @@ pub fn ztwz(
 )
     requires { ⌜ Rows (now starts) (now columns) (now values) rows n ⌝ }
     requires { ⌜ (n ≤ length (now w)) × (rows * rows ≤ length (now out)) ⌝ }
-    ensures { λ _. ⌜ now (out .exit) ≡ gridTo rows rows (ztwzAt (sparse (now (starts .entry)) (now (columns .entry)) (now (values .entry))) n (now (w .entry))) (now (out .entry)) ⌝ }
+    ensures { λ _. ⌜
+        now (out .exit)
+        ≡ gridTo rows rows (ztwzAt (sparse (now (starts .entry)) (now (columns .entry)) (now (values .entry))) n (now (w .entry))) (now (out .entry)) ⌝ }
 {
     let mut a = 0;
     while a < rows {

@@ -49,7 +49,11 @@ fn one_sums(
 ) -> GroupSum
     requires { ⌜ Roomy n p q shape (now theta) (now starts) (now columns) (now values) (now offset) (now y) (now r) (now m) (now t) ⌝ }
     requires { ⌜ g < q ⌝ }
-    ensures { λ a. ⌜ SumLeft (givenWith family link shape (now (theta .entry)) (sparse (now (starts .entry)) (now (columns .entry)) (now (values .entry))) (now (y .entry)) (now (weights .entry)) (now (offset .entry)) n p) (oneTerms phi order g sigma) n p q (sizeOf order) (now (r .entry)) (now (r .exit)) (now (m .entry)) (now (m .exit)) (now (t .entry)) (now (t .exit)) a ⌝ }
+    ensures { λ a. ⌜
+        SumLeft
+        (givenWith family link shape (now (theta .entry)) (sparse (now (starts .entry)) (now (columns .entry)) (now (values .entry))) (now (y .entry))
+        (now (weights .entry)) (now (offset .entry)) n p) (oneTerms phi order g sigma) n p q (sizeOf order) (now (r .entry)) (now (r .exit)) (now (m .entry))
+        (now (m .exit)) (now (t .entry)) (now (t .exit)) a ⌝ }
 {
     let mark = mark_row(n);
     mark_group(starts, columns, values, q, n, g, 1, mark, r);
@@ -115,7 +119,11 @@ pub fn one_group(
 ) -> GroupSum
     requires { ⌜ Roomy n p q shape (now theta) (now starts) (now columns) (now values) (now offset) (now y) (now r) (now m) (now t) ⌝ }
     requires { ⌜ g < q ⌝ }
-    ensures { λ a. ⌜ GroupLeft (givenWith family link shape (now (theta .entry)) (sparse (now (starts .entry)) (now (columns .entry)) (now (values .entry))) (now (y .entry)) (now (weights .entry)) (now (offset .entry)) n p) (oneRule phi order g) n p q (sizeOf order) (now (r .entry)) (now (r .exit)) (now (m .entry)) (now (m .exit)) (now (t .entry)) (now (t .exit)) a ⌝ }
+    ensures { λ a. ⌜
+        GroupLeft
+        (givenWith family link shape (now (theta .entry)) (sparse (now (starts .entry)) (now (columns .entry)) (now (values .entry))) (now (y .entry))
+        (now (weights .entry)) (now (offset .entry)) n p) (oneRule phi order g) n p q (sizeOf order) (now (r .entry)) (now (r .exit)) (now (m .entry))
+        (now (m .exit)) (now (t .entry)) (now (t .exit)) a ⌝ }
 {
     match one_sigma(q, g, m) {
         OneScale::NoSigma(d) => GroupSum {

@@ -34,7 +34,11 @@ pub fn inputs_ok(
     values: &[f64],
 ) -> bool
     requires { ⌜ (goodSizes settings shape ≡ true) × (responses ≤ 64) ⌝ }
-    ensures { λ r. ⌜ r ≡ goodInputs responses settings shape (inputs (now (theta .entry)) (now (y .entry)) (now (weights .entry)) (now (offset .entry)) (now (x .entry)) (now (starts .entry)) (now (columns .entry)) (now (values .entry))) ⌝ }
+    ensures { λ r. ⌜
+        r
+        ≡ goodInputs responses settings shape
+        (inputs (now (theta .entry)) (now (y .entry)) (now (weights .entry)) (now (offset .entry)) (now (x .entry)) (now (starts .entry)) (now (columns .entry))
+        (now (values .entry))) ⌝ }
 {
     if theta.len() != model::theta_length(shape) {
         return false;

@@ -19,7 +19,8 @@ pub fn numbers_ok(
     x: &[f64],
     values: &[f64],
 ) -> bool
-    ensures { λ r. ⌜ r ≡ finiteNumbers (now (theta .entry)) (now (y .entry)) (now (weights .entry)) (now (offset .entry)) (now (x .entry)) (now (values .entry)) ⌝ }
+    ensures { λ r. ⌜
+        r ≡ finiteNumbers (now (theta .entry)) (now (y .entry)) (now (weights .entry)) (now (offset .entry)) (now (x .entry)) (now (values .entry)) ⌝ }
 {
     if !list_ok(theta) {
         return false;

@@ -65,7 +65,11 @@ pub fn verdict_of(
     values: &[f64],
     lent: LentLengths,
 ) -> Verdict
-    ensures { λ r. ⌜ r ≡ tableOf 1 settings shape (inputs (now (theta .entry)) (now (y .entry)) (now (weights .entry)) (now (offset .entry)) (now (x .entry)) (now (starts .entry)) (now (columns .entry)) (now (values .entry))) lent ⌝ }
+    ensures { λ r. ⌜
+        r
+        ≡ tableOf 1 settings shape
+        (inputs (now (theta .entry)) (now (y .entry)) (now (weights .entry)) (now (offset .entry)) (now (x .entry)) (now (starts .entry)) (now (columns .entry))
+        (now (values .entry))) lent ⌝ }
 {
     if !model::sizes_ok(settings, shape) {
         return Verdict::Refused(Refusal::OutOfRange);

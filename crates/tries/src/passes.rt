@@ -13,7 +13,8 @@ ghost use Rattle.rule.specs.Try.{candidateAt, fineEtaAt, meanAt, squareAt, addT
 // The candidate of a step into the row at next, from the previous predictor and the raw one.
 pub fn candidate(n: usize, prev: usize, next: usize, raw: usize, step: f64, rows: &mut [f64])
     requires { ⌜ (prev + n ≤ length (now rows)) × (next + n ≤ length (now rows)) × (raw + n ≤ length (now rows)) × Apart prev n next n × Apart raw n next n ⌝ }
-    ensures { λ _. ⌜ Wrote next n (build (candidateAt (row prev n (now (rows .entry))) (row raw n (now (rows .entry))) step) n) (now (rows .entry)) (now (rows .exit)) ⌝ }
+    ensures { λ _. ⌜
+        Wrote next n (build (candidateAt (row prev n (now (rows .entry))) (row raw n (now (rows .entry))) step) n) (now (rows .entry)) (now (rows .exit)) ⌝ }
 {
     let mut i = 0;
     while i < n {

@@ -43,7 +43,9 @@ pub fn one_try(
     rows: &mut [f64],
 ) -> Try
     requires { ⌜ Room n q prev next raw mu (now u) (now w) (now z) (now rows) ⌝ }
-    ensures { λ r. ⌜ TryDone (trialIn link n q prev raw (now (u .entry)) (now (w .entry)) (now (z .entry)) (now (rows .entry))) next mu step (now (rows .entry)) (now (rows .exit)) r ⌝ }
+    ensures { λ r. ⌜
+        TryDone (trialIn link n q prev raw (now (u .entry)) (now (w .entry)) (now (z .entry)) (now (rows .entry))) next mu step (now (rows .entry))
+        (now (rows .exit)) r ⌝ }
 {
     candidate(n, prev, next, raw, step, rows);
     if !fine_etas(link, n, next, rows) {
@@ -86,7 +88,9 @@ pub fn tries(
     rows: &mut [f64],
 ) -> TriesEnd
     requires { ⌜ Room n q prev next raw mu (now u) (now w) (now z) (now rows) ⌝ }
-    ensures { λ r. ⌜ TriesDone (trialIn link n q prev raw (now (u .entry)) (now (w .entry)) (now (z .entry)) (now (rows .entry))) next mu (now (rows .entry)) (now (rows .exit)) r ⌝ }
+    ensures { λ r. ⌜
+        TriesDone (trialIn link n q prev raw (now (u .entry)) (now (w .entry)) (now (z .entry)) (now (rows .entry))) next mu (now (rows .entry))
+        (now (rows .exit)) r ⌝ }
 {
     let cap = tries_cap(link);
     let mut step = 1.0;

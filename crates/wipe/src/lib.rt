@@ -17,7 +17,8 @@ pub fn wipe_work(
 )
     requires { ⌜ (n ≤ 512) × (p ≤ 16) × (q ≤ 32) ⌝ }
     requires { ⌜ (rowsLength n ≤ length (now rows)) × (matricesLength p q ≤ length (now matrices)) × (termsLength ≤ length (now terms)) ⌝ }
-    ensures { λ _. ⌜ Wiped n p q (now (rows .entry)) (now (rows .exit)) (now (matrices .entry)) (now (matrices .exit)) (now (terms .entry)) (now (terms .exit)) ⌝ }
+    ensures { λ _. ⌜
+        Wiped n p q (now (rows .entry)) (now (rows .exit)) (now (matrices .entry)) (now (matrices .exit)) (now (terms .entry)) (now (terms .exit)) ⌝ }
 {
     base::wipe(rows, layout::rows_length(n));
     base::wipe(matrices, layout::matrices_length(p, q));

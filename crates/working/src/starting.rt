@@ -34,7 +34,8 @@ pub fn start_eta(
     rows: &mut [f64],
 )
     requires { ⌜ (Optional n (now offset)) × (Apart «mu_at» n «eta_at» n) × («mu_at» + n ≤ length (now rows)) × («eta_at» + n ≤ length (now rows)) ⌝ }
-    ensures { λ _. ⌜ Wrote «eta_at» n (build (startEtaAt link (now (offset .entry)) (row «mu_at» n (now (rows .entry)))) n) (now (rows .entry)) (now (rows .exit)) ⌝ }
+    ensures { λ _. ⌜
+        Wrote «eta_at» n (build (startEtaAt link (now (offset .entry)) (row «mu_at» n (now (rows .entry)))) n) (now (rows .entry)) (now (rows .exit)) ⌝ }
 {
     let mut i = 0;
     while i < n {

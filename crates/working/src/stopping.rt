@@ -25,7 +25,9 @@ pub fn mode_deviances(
     rows: &mut [f64],
 )
     requires { ⌜ (n ≤ length (now y)) × (Apart «mu_at» n «dev_at» n) × («mu_at» + n ≤ length (now rows)) × («dev_at» + n ≤ length (now rows)) ⌝ }
-    ensures { λ _. ⌜ Wrote «dev_at» n (build (devAt family (now (y .entry)) (row «mu_at» n (now (rows .entry))) (now (weights .entry))) n) (now (rows .entry)) (now (rows .exit)) ⌝ }
+    ensures { λ _. ⌜
+        Wrote «dev_at» n (build (devAt family (now (y .entry)) (row «mu_at» n (now (rows .entry))) (now (weights .entry))) n) (now (rows .entry))
+        (now (rows .exit)) ⌝ }
 {
     let mut i = 0;
     while i < n {

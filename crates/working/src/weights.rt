@@ -27,7 +27,10 @@ pub fn working_rows(
     t: &mut [f64],
 )
     requires { ⌜ (n ≤ length (now y)) × (n ≤ length (now eta)) × (n ≤ length (now mu)) × («w_at» + n ≤ «z_at») × («z_at» + n ≤ length (now t)) ⌝ }
-    ensures { λ _. ⌜ now (t .exit) ≡ fillAt «z_at» n (workingResponseAt link (now (y .entry)) (now (eta .entry)) (now (mu .entry))) (fillAt «w_at» n (workingWeightAt family link (now (weights .entry)) phi (now (eta .entry)) (now (mu .entry))) (now (t .entry))) ⌝ }
+    ensures { λ _. ⌜
+        now (t .exit)
+        ≡ fillAt «z_at» n (workingResponseAt link (now (y .entry)) (now (eta .entry)) (now (mu .entry)))
+        (fillAt «w_at» n (workingWeightAt family link (now (weights .entry)) phi (now (eta .entry)) (now (mu .entry))) (now (t .entry))) ⌝ }
 {
     let mut i = 0;
     while i < n {
