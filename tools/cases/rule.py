@@ -10,7 +10,7 @@ ROOT = Path(__file__).resolve().parents[2]
 sys.path.insert(0, str(ROOT / "tools" / "glmm"))
 from form import from_groups, job_bytes
 
-CRATES = ["base", "root", "elementary", "model", "family", "family_lists", "factor", "lambda", "linear", "stored", "rule"]
+CRATES = ["base", "root", "tabulated", "elementary", "model", "family", "family_lists", "factor", "lambda", "linear", "stored", "rule"]
 IEEE = "add sub mul div neg lt le eq ne isNan ofBits toBits ofInt toUnsigned round".split()
 VECTORS = "beta se z u b mu eta residual v".split()
 JOBS = json.loads((ROOT / "crates" / "rule_cases" / "jobs.json").read_text())
@@ -20,7 +20,7 @@ def definitions(crates=CRATES):
     """The definitions that a computation opens: (module, names)."""
     for crate in crates:
         for path in sorted(glob.glob(str(ROOT / "crates" / crate / "specs" / "*.antt"))):
-            names = re.findall(r"(?m)^unfoldable pub (\S+) :", Path(path).read_text())
+            names = re.findall(r"(?m)^ *unfoldable pub (\S+) :", Path(path).read_text())
             if names:
                 yield f"Rattle.{crate}.specs.{Path(path).stem}", names
 

@@ -1,0 +1,2 @@
+-- What a call tells, for the closed cases. Assumes nothing.
+pub mod Told
