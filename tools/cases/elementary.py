@@ -1,10 +1,14 @@
 #!/usr/bin/env python3
 """usage: elementary.py > crates/cases_elementary/stdout
-What `cases_elementary` must print, worked out apart from the Rattle code. The square root is the nearest double, by Python's whole
+       elementary.py --stdin > crates/cases_elementary/stdin
+What `cases_elementary` must print, worked out apart from the Rattle code, and the arguments that it is fed, which meet every row of both tables (rows.py). The square root is the nearest double, by Python's whole
 numbers. The other four are the published algorithms (musl's exp.c, log.c, log1p.c and expm1.c, with their tests on the bits of the
 argument) in Python's own doubles; the two tables are read from the definitions, the arguments from the programs."""
-import math, re, struct
+import math, re, struct, sys
 from pathlib import Path
+
+sys.dont_write_bytecode = True
+from rows import arguments
 
 ROOT = Path(__file__).resolve().parents[2]
 NAN = 0x7FF8000000000000
@@ -193,11 +197,35 @@ def line(x):
 
 EXP_TABLE, LN_TABLE = numbers("crates/tabulated/specs/ExpTable.antt"), numbers("crates/tabulated/specs/LogTable.antt")
 SPECIAL = numbers("crates/text/src/specials.rt")
-if __name__ == "__main__":
-    for entry in SPECIAL + numbers("crates/cases_elementary/src/main.rt"):
-        line(double(entry))
+
+
+def fed():
+    """The arguments of standard input."""
+    chosen, untold = arguments(exp, EXP_TABLE, ln, LN_TABLE)
+    if any(untold):
+        sys.exit(f"wrong entries that no argument tells: {untold}")
+    return chosen
+
+
+def printed():
+    """All the arguments, in their order."""
+    yield from map(double, SPECIAL + numbers("crates/cases_elementary/src/main.rt"))
     for low, count in [(0, 2047), (963, 121), (1013, 20)]:
         for i in range(1, 201):
             w = i * 0x9E3779B97F4A7C15 & MASK
             field = low + (w >> 52) % 2048 % count
-            line(double(w >> 63 << 63 | field << 52 | w & (1 << 52) - 1))
+            yield double(w >> 63 << 63 | field << 52 | w & (1 << 52) - 1)
+    yield from fed()
+
+
+def main():
+    if sys.argv[1:2] == ["--stdin"]:
+        for x in [*fed(), 0.0]:
+            sys.stdout.buffer.write(struct.pack(">d", x))
+        return
+    for x in printed():
+        line(x)
+
+
+if __name__ == "__main__":
+    main()

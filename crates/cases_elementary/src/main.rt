@@ -1,4 +1,4 @@
-// Runs the elementary functions on special arguments and on drawn ones, and prints every bit: the argument, sqrt, exp, ln, ln_1p, exp_m1.
+// Runs the elementary functions on special arguments, on drawn ones and on fed ones, and prints every bit: the argument, sqrt, exp, ln, ln_1p, exp_m1.
 ghost use Prim.Native.Nat.{_+_, _<_, _≤_};
 
 // Subnormals; the neighbours of -1, 1 and 2; then where the algorithms' branches begin, with their neighbours.
@@ -114,11 +114,25 @@ fn draw(low: u64, count: u64)
     }
 }
 
-// All sizes; 2^-60 to 2^60; 2^-10 to 2^10.
+// The fed arguments, of which some meet each row of the two tables so that a wrong entry is seen (tools/cases/rows.py); an empty word is their end.
+fn rows() {
+    let mut i: usize = 0;
+    while i < 1000 {
+        let w = fed::word();
+        if w == 0 {
+            return;
+        }
+        line(base::double(w));
+        i += 1;
+    }
+}
+
+// All sizes; 2^-60 to 2^60; 2^-10 to 2^10; every row.
 fn main() {
     specials();
     branches();
     draw(0, 2047);
     draw(963, 121);
     draw(1013, 20);
+    rows();
 }
