@@ -1,4 +1,4 @@
-// Runs the elementary functions on special arguments, on drawn ones and on fed ones, and prints every bit: the argument, sqrt, exp, ln, ln_1p, exp_m1.
+// Runs the elementary functions, as elementary_c hands them to C, on special arguments, on drawn ones and on fed ones, and prints every bit: the argument, sqrt, exp, ln, ln_1p, exp_m1.
 ghost use Prim.Native.Nat.{_+_, _<_, _≤_};
 
 // Subnormals; the neighbours of -1, 1 and 2; then where the algorithms' branches begin, with their neighbours.
@@ -68,11 +68,11 @@ const BRANCHES: [u64; 60] = [
 fn line(x: f64) {
     text::put_word(b"at");
     text::put_double(x);
-    text::put_double(root::sqrt(x));
-    text::put_double(elementary::exp(x));
-    text::put_double(elementary::ln(x));
-    text::put_double(elementary::ln_1p(x));
-    text::put_double(elementary::exp_m1(x));
+    text::put_double(elementary_c::glmm_sqrt(x));
+    text::put_double(elementary_c::glmm_exp(x));
+    text::put_double(elementary_c::glmm_ln(x));
+    text::put_double(elementary_c::glmm_ln_1p(x));
+    text::put_double(elementary_c::glmm_exp_m1(x));
     text::end_line();
 }
 
