@@ -86,7 +86,8 @@ struct glmm_block {
     size_t m, k;
 };
 
-/* Families and links that can be named; Gamma and probit are refused with 5, a link that does not go with its family with 4. */
+/* Families and links that can be named; Gamma and probit are refused with 5, a link that does not go with its family with 4, and so is a number that names
+ * none. */
 enum { GLMM_BINOMIAL = 0, GLMM_POISSON = 1, GLMM_GAUSSIAN = 2, GLMM_GAMMA = 3 };
 enum { GLMM_LOGIT = 0, GLMM_PROBIT = 1, GLMM_CLOGLOG = 2, GLMM_LOG = 3, GLMM_IDENTITY = 4, GLMM_INVERSE = 5, GLMM_SQRT = 6 };
 
@@ -94,7 +95,7 @@ enum { GLMM_LOGIT = 0, GLMM_PROBIT = 1, GLMM_CLOGLOG = 2, GLMM_LOG = 3, GLMM_IDE
 #define GLMM_NO_LIMIT 1023
 
 struct glmm_settings {
-    size_t family, link; /* as named above; another number is refused with 1 */
+    size_t family, link; /* as named above; another number is refused with 4, where that stands in the order of the tests */
     size_t n_agq;        /* the quadrature's order that is wished for; 0 or 1 for the Laplace deviance */
     size_t limit;        /* of iterations, 0 to 1000, or GLMM_NO_LIMIT */
     size_t n, p;         /* observations, 1 to 512, and columns of X, 1 to 16 */

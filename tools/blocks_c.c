@@ -133,6 +133,7 @@ static void changed(const char *name, size_t *number, size_t to)
 static void edges(void)
 {
     double was;
+    size_t link;
     int i;
     read_job();
     for (i = 0; i < SLICES; i++)
@@ -141,10 +142,12 @@ static void edges(void)
     changed("no block", &blocks_length, 0), changed("nine blocks", &blocks_length, 9);
     changed("no group", &blocks[0].m, 0), changed("a group more", &blocks[0].m, blocks[0].m + 1), changed("countless groups", &blocks[0].m, SIZE_MAX);
     changed("no effect", &blocks[0].k, 0), changed("nine effects", &blocks[0].k, 9), changed("countless effects", &blocks[0].k, SIZE_MAX);
-    changed("no family", &settings.family, 4), changed("no link", &settings.link, 7), changed("limit", &settings.limit, 1001);
+    changed("no family", &settings.family, 4), changed("no link", &settings.link, 7), changed("countless links", &settings.link, SIZE_MAX);
+    changed("limit", &settings.limit, 1001), changed("limit of a job", &settings.limit, 1022);
     changed("many observations", &settings.n, 513), changed("many columns", &settings.p, 17), changed("many entries", &settings.entries, 8193);
     changed("a late start", &starts[0], 1), changed("a start past the end", &starts[1], SIZE_MAX), changed("no such observation", &columns[0], settings.n);
-    was = numbers[Y][0], numbers[Y][0] = -1.0 / 0.0, edge("an infinite response"), numbers[Y][0] = was;
+    was = numbers[Y][0], numbers[Y][0] = -1.0 / 0.0, edge("an infinite response"), changed("no link, an infinite response", &settings.link, 7);
+    numbers[Y][0] = was, link = settings.link, settings.link = 7, changed("no link, no block", &blocks_length, 0), settings.link = link;
     settings.family = GLMM_BINOMIAL, settings.link = GLMM_SQRT, edge("another family's link");
     settings.link = GLMM_PROBIT, edge("a link not carried"), settings.family = GLMM_GAMMA, settings.link = GLMM_INVERSE, edge("a family not carried");
 }

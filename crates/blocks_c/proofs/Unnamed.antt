@@ -1,46 +1,73 @@
--- A code that names no family or no link is refused with number 1, and every slice stays as it was lent. Assumes nothing.
-use mathlib.Core.Path.{_≡_, refl, sym}
+-- A code that names no family or no link is refused: with 4 where every test that stands before it in the table passes, and every slice stays as it was lent. Assumes nothing.
+use mathlib.Core.Path.{_≡_, refl, sym, _∙_}
+use mathlib.Core.Bool.{true, false}
 use mathlib.Core.List.{List}
-use native.Mathlib.Omega.{arith}
+use mathlib.Core.Logic.{_⊎_, inl, inr}
+use Rattle.base.specs.Sparse.{goodRows}
+use Rattle.base.proofs.Doubles.{ff}
 use Rattle.model.specs.Account.{noCounts}
-use Rattle.model.specs.Answer.{blankAnswer}
+use Rattle.model.specs.Answer.{refusalNumber, blankAnswer}
+use Rattle.model.specs.Inputs.{Inputs}
 use Rattle.model.specs.Names.{familyCoded, linkCoded}
-use Rattle.model.specs.declared.ends.Refusal.the-variants.{OutOfRange}
+use Rattle.model.specs.Settings.{goodSizes}
+use Rattle.model.specs.declared.ends.Refusal.{Refusal}
+use Rattle.model.specs.declared.ends.Refusal.the-variants.{LinkForFamily}
 use Rattle.model.specs.declared.names.FamilyFound.{FamilyFound}
 use Rattle.model.specs.declared.names.FamilyFound.the-variants as familyFound
 use Rattle.model.specs.declared.names.LinkFound.the-variants as linkFound
-use Rattle.model.specs.declared.sizes.Shape.{Shape}
-use Rattle.model.proofs.Sized.{not-sized}
-use Rattle.model.specs.Inputs.{Inputs}
-use Rattle.table.specs.Table.{refuseUnless, tableOf}
-use Rattle.table.specs.declared.verdicts.Verdict.the-variants.{Refused}
+use Rattle.family.specs.Carried.{among, linksFor, validFor}
+use Rattle.table.specs.Table.{tableOf}
+use Rattle.table.specs.Tests.{goodInputs, goodResults, goodWork, goodNumbers}
+use Rattle.table.specs.declared.verdicts.Verdict.{Verdict}
+use Rattle.table.specs.declared.verdicts.Verdict.the-variants.{Accepted, Refused}
+use Rattle.table.proofs.Accepting.{line-4, accepted-sound}
 use Rattle.call.specs.Call.{Lent, lengthsOf}
 use Rattle.call.proofs.Leaves.{refused-left}
 use Rattle.blocks.specs.Blocks.{shapeOf}
 use Rattle.blocks.specs.declared.Block.{Block}
-use Rattle.blocks_c.specs.Coded.{noSettings, withLink, withFamily, settingsOf}
+use Rattle.blocks_c.specs.Coded.{named, unnamed, withLink, withFamily, settingsOf}
 use Rattle.blocks_c.specs.Plain.{plainOf, shown, shownBy, fitBlocksOf}
 use Rattle.blocks_c.specs.declared.CodedSettings.{CodedSettings}
 
--- a family without a link has no settings, nor has a link alone
-no-link : (c : CodedSettings) (F : FamilyFound) → linkCoded (c .link) ≡ linkFound.NoSuch → withFamily c F ≡ noSettings
+-- the code of the family or that of the link names nothing
+abbrev pub NamesNothing : CodedSettings → Type 0
+NamesNothing c = (familyCoded (c .family) ≡ familyFound.NoSuch) ⊎ (linkCoded (c .link) ≡ linkFound.NoSuch)
+
+-- a family without a link has these settings, and a link without a family
+no-link : (c : CodedSettings) (F : FamilyFound) → linkCoded (c .link) ≡ linkFound.NoSuch → withFamily c F ≡ unnamed c
 unfolding withFamily withLink
 no-link c (familyFound.Found f) e = rw e refl
 no-link c familyFound.NoSuch e = refl
 
-verdict : (s : Shape) (I : Inputs) (L : Lent) → tableOf 1 noSettings s I (lengthsOf L) ≡ Refused OutOfRange
-unfolding tableOf refuseUnless
-verdict s I L = rw (sym (not-sized noSettings s (λ z. let l = z .sizes .n-some in omega (arith, l)))) refl
+settings : (c : CodedSettings) → NamesNothing c → settingsOf c ≡ unnamed c
+unfolding settingsOf withFamily
+settings c (inl e) = rw e refl
+settings c (inr e) = no-link c (familyCoded (c .family)) e
+
+not-valid : (c : CodedSettings) → validFor (unnamed c .link) (unnamed c .family) ≡ false
+unfolding named validFor linksFor among
+not-valid c = refl
 
 module _ (c : CodedSettings) (bs : List Block) (I : Inputs) (L : Lent) where
-  refused : settingsOf c ≡ noSettings → fitBlocksOf c bs I L ≡ shown (plainOf (blankAnswer 1 noCounts)) L
-  unfolding fitBlocksOf shownBy
-  refused e = rw (e, refused-left noSettings (shapeOf bs) I L OutOfRange (verdict (shapeOf bs) I L)) refl
+  -- what a refusal shows
+  abbrev Refuses : Refusal → Type 0
+  Refuses r = fitBlocksOf c bs I L ≡ shown (plainOf (blankAnswer (refusalNumber r) noCounts)) L
 
-  pub family-refused : familyCoded (c .family) ≡ familyFound.NoSuch → fitBlocksOf c bs I L ≡ shown (plainOf (blankAnswer 1 noCounts)) L
-  unfolding settingsOf withFamily
-  family-refused e = refused (rw e refl)
+  module _ (e : NamesNothing c) where
+    refuses : (r : Refusal) → tableOf 1 (unnamed c) (shapeOf bs) I (lengthsOf L) ≡ Refused r → Refuses r
+    unfolding fitBlocksOf shownBy
+    refuses r q = rw (settings c e, refused-left (unnamed c) (shapeOf bs) I L r q) refl
 
-  pub link-refused : linkCoded (c .link) ≡ linkFound.NoSuch → fitBlocksOf c bs I L ≡ shown (plainOf (blankAnswer 1 noCounts)) L
-  unfolding settingsOf
-  link-refused e = refused (no-link c (familyCoded (c .family)) e)
+    by-verdict : (x : Verdict) → tableOf 1 (unnamed c) (shapeOf bs) I (lengthsOf L) ≡ x → (r : Refusal) × Refuses r
+    by-verdict (Refused r) q = (r, refuses r q)
+    by-verdict (Accepted f l) q = absurd (ff (sym (not-valid c) ∙ accepted-sound 1 (unnamed c) (shapeOf bs) I (lengthsOf L) f l q .valid))
+
+    -- whatever else is lent, with a number of the table
+    pub unnamed-refused : (r : Refusal) × Refuses r
+    unnamed-refused = by-verdict (tableOf 1 (unnamed c) (shapeOf bs) I (lengthsOf L)) refl
+
+    -- and with 4, where sizes, lengths, work, rows and numbers are good
+    pub unnamed-four : goodSizes (settingsOf c) (shapeOf bs) ≡ true → goodInputs 1 (settingsOf c) (shapeOf bs) I ≡ true → goodResults 1 (settingsOf c) (lengthsOf L) ≡ true
+        → goodWork (settingsOf c) (lengthsOf L) ≡ true → goodRows (I .starts) (I .columns) (settingsOf c .rows) (settingsOf c .n) ≡ true → goodNumbers I ≡ true → Refuses LinkForFamily
+    unnamed-four = rw (settings c e) (λ sizes lent results work rows numbers.
+        refuses LinkForFamily (line-4 1 (unnamed c) (shapeOf bs) I (lengthsOf L) sizes lent results work rows numbers (not-valid c)))

@@ -14,7 +14,7 @@ ghost use Rattle.model.specs.Names.{linkCoded};
 ghost use Rattle.job.specs.Job.{limitFrom};
 ghost use Rattle.model.specs.Inputs.{inputs};
 ghost use Rattle.call.specs.Call.{lent};
-ghost use Rattle.blocks_c.specs.Coded.{noSettings, named, withLink, settingsOf};
+ghost use Rattle.blocks_c.specs.Coded.{named, unnamed, withLink, settingsOf};
 ghost use Rattle.blocks_c.specs.Plain.{plainOf, shown, fitBlocksOf};
 
 // The settings of a call with the family, the link and the limit as a job has them: by their codes, and 1023 for a limit that is not given.
@@ -54,22 +54,6 @@ fn limit_in(code: usize) -> Limit
     Limit::Given(code)
 }
 
-// Without a size: refused with 1, whatever else is lent.
-fn none() -> Settings
-    ensures { λ r. ⌜ r ≡ noSettings ⌝ }
-{
-    Settings {
-        family: Family::Binomial,
-        link: Link::Logit,
-        n_agq: 0,
-        limit: Limit::NotGiven,
-        n: 0,
-        p: 0,
-        rows: 0,
-        entries: 0,
-    }
-}
-
 fn with_names(coded: CodedSettings, family: Family, link: Link) -> Settings
     ensures { λ r. ⌜ r ≡ named coded family link ⌝ }
 {
@@ -86,22 +70,28 @@ fn with_names(coded: CodedSettings, family: Family, link: Link) -> Settings
     }
 }
 
+// A code that names nothing is a link that is not valid for its family: 4.
+fn without_name(coded: CodedSettings) -> Settings
+    ensures { λ r. ⌜ r ≡ unnamed coded ⌝ }
+{
+    with_names(coded, Family::Poisson, Link::Logit)
+}
+
 fn with_link(coded: CodedSettings, family: Family) -> Settings
     ensures { λ r. ⌜ r ≡ withLink coded family (linkCoded (coded .link)) ⌝ }
 {
     match model::link_coded(coded.link) {
         LinkFound::Found(link) => with_names(coded, family, link),
-        LinkFound::NoSuch => none(),
+        LinkFound::NoSuch => without_name(coded),
     }
 }
 
-// A code that names no family or no link has no settings.
 fn settings_of(coded: CodedSettings) -> Settings
     ensures { λ r. ⌜ r ≡ settingsOf coded ⌝ }
 {
     match model::family_coded(coded.family) {
         FamilyFound::Found(family) => with_link(coded, family),
-        FamilyFound::NoSuch => none(),
+        FamilyFound::NoSuch => without_name(coded),
     }
 }
 

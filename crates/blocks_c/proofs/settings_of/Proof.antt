@@ -17,8 +17,8 @@ with-link-requires c κs = search needs
 enum-told : tie.Need-enum-told
 enum-told c = search needs
 
-none-requires : tie.Need-none-requires
-none-requires c κs = search needs
+without-name-requires : tie.Need-without-name-requires
+without-name-requires c κs = search needs
 
 returns : tie.Need-returns
 unfolding settingsOf withFamily
@@ -26,7 +26,7 @@ returns c = rw (sym (c .before .before .before .before .family-coded .ensures) �
 
 returns-2 : tie.Need-returns-2
 unfolding settingsOf withFamily
-returns-2 c = rw (sym (c .before .before .before .family-coded .ensures) ∙ c .before .enum-told .given .1) (c .none .ensures)
+returns-2 c = rw (sym (c .before .before .before .family-coded .ensures) ∙ c .before .enum-told .given .1) (c .without-name .ensures)
 
 pub settings-of-spec : {M : Type 1} → statement M
-settings-of-spec = tie.close (tie.spec family-coded-requires enum-known-family with-link-requires enum-told none-requires returns returns-2)
+settings-of-spec = tie.close (tie.spec family-coded-requires enum-known-family with-link-requires enum-told without-name-requires returns returns-2)

@@ -17,8 +17,8 @@ with-names-requires c κs = search needs
 enum-told : tie.Need-enum-told
 enum-told c = search needs
 
-none-requires : tie.Need-none-requires
-none-requires c κs = search needs
+without-name-requires : tie.Need-without-name-requires
+without-name-requires c κs = search needs
 
 returns : tie.Need-returns
 unfolding withLink
@@ -26,7 +26,7 @@ returns c = rw (sym (c .before .before .before .before .link-coded .ensures) ∙
 
 returns-2 : tie.Need-returns-2
 unfolding withLink
-returns-2 c = rw (sym (c .before .before .before .link-coded .ensures) ∙ c .before .enum-told .given .1) (c .none .ensures)
+returns-2 c = rw (sym (c .before .before .before .link-coded .ensures) ∙ c .before .enum-told .given .1) (c .without-name .ensures)
 
 pub with-link-spec : {M : Type 1} → statement M
-with-link-spec = tie.close (tie.spec link-coded-requires enum-known-link with-names-requires enum-told none-requires returns returns-2)
+with-link-spec = tie.close (tie.spec link-coded-requires enum-known-link with-names-requires enum-told without-name-requires returns returns-2)
