@@ -1,6 +1,7 @@
 -- What a call leaves, by its verdict and by what its fit comes to. Assumes nothing.
 use mathlib.Core.Path.{_≡_, refl}
 use Prim.Native.Nat.{ℕ}
+use native.Mathlib.Omega.{arith}
 use Rattle.base.specs.List.{zeroAt, fillTo}
 use Rattle.model.specs.Account.{noCounts}
 use Rattle.model.specs.Answer.{endNumber, refusalNumber, blankAnswer, refusedAnswer, unfittedAnswer, fittedAnswer}
@@ -11,6 +12,7 @@ use Rattle.model.specs.declared.ends.End.{End}
 use Rattle.model.specs.declared.ends.Refusal.{Refusal}
 use Rattle.model.specs.declared.sizes.Shape.{Shape}
 use Rattle.model.specs.declared.sizes.Settings.{Settings}
+use Rattle.model.proofs.Answers.{end-range}
 use Rattle.layout.specs.WorkRows.{rowsLength}
 use Rattle.layout.specs.WorkMatrices.{matricesLength}
 use Rattle.layout.specs.WorkTerms.{termsLength}
@@ -45,6 +47,11 @@ unfolding resultAnswer unfittedAnswer fittedAnswer
 answer-account (noResult e) a = refl
 answer-account (result d) a = refl
 
+zero-result : (x : Result (Dispersed Fitted)) (a : Account) → resultAnswer x a .number ≡ 0 → (d : Dispersed Fitted) × (x ≡ result d)
+unfolding resultAnswer unfittedAnswer
+zero-result (result d) a h = (d, refl)
+zero-result (noResult e) a h = absurd (omega (arith, h, end-range e))
+
 -- whatever it came to, the named lengths of the work slices are +0.0, their rest as it was
 pub record WorkLeft (n p q : ℕ) (L M : Lent) : Type 0 where
   pub rows : M .rows ≡ fillTo (rowsLength n) zeroAt (L .rows)
@@ -77,3 +84,10 @@ module _ (t : Settings) (s : Shape) (I : Inputs) (L : Lent) (f : CarriedFamily) 
   pub fitted-number : (d : Dispersed Fitted) → askedFit f l t s I .outcome ≡ result d → callOf t s I L .answer .number ≡ 0
   unfolding fitLeft answerOf resultAnswer fittedAnswer
   fitted-number d q = rw (accepted-left t s I L f l e, q) refl
+
+  -- and only a result is told under it
+  pub zero-fitted : callOf t s I L .answer .number ≡ 0 → (d : Dispersed Fitted) × (askedFit f l t s I .outcome ≡ result d)
+  unfolding fitLeft answerOf
+  zero-fitted h =
+      let fit = askedFit f l t s I in
+      zero-result (fit .outcome) (tally (fit .items)) (rw (accepted-left t s I L f l e) at h)

@@ -3,18 +3,15 @@ use mathlib.Core.Path.{_≡_, refl, ap}
 use mathlib.Core.Bool.{true, false}
 use mathlib.Core.List.{List}
 use Prim.Native.Nat.{ℕ, _≤_}
-use native.Mathlib.Omega.{arith}
 use lib.Ieee.{Float}
 use Rattle.base.specs.Number.{oneF}
 use Rattle.base.proofs.Doubles.{ff}
-use Rattle.model.specs.Answer.{unfittedAnswer, fittedAnswer}
-use Rattle.model.specs.Items.{Item, tally}
+use Rattle.model.specs.Answer.{fittedAnswer}
+use Rattle.model.specs.Items.{Item}
 use Rattle.model.specs.Names.{limitOf}
-use Rattle.model.specs.declared.counts.Account.{Account}
 use Rattle.model.specs.declared.sizes.Shape.{Shape}
 use Rattle.model.specs.declared.sizes.Settings.{Settings}
 use Rattle.model.specs.Inputs.{Inputs}
-use Rattle.model.proofs.Answers.{end-range}
 use Rattle.family.specs.Family.{usesDispersion}
 use Rattle.family.specs.declared.carried.CarriedFamily.{CarriedFamily}
 use Rattle.family.specs.declared.carried.CarriedLink.{CarriedLink}
@@ -30,7 +27,7 @@ use Rattle.dispersion.specs.Rounds.{Result, result, noResult, Dispersed, withFl
 use Rattle.dispersion.proofs.Turns.{isResult}
 use Rattle.call.specs.Fit.{Fitted, resultBy, totalOf, innerAt, fitBy, fitOf, resultAnswer, answerOf}
 use Rattle.call.specs.Call.{Lent, lengthsOf, callGiven, resultsAfter, fitLeft, callOf, Taken}
-use Rattle.call.proofs.Leaves.{askedFit, accepted-left, fitted-number}
+use Rattle.call.proofs.Leaves.{askedFit, accepted-left, fitted-number, zero-fitted}
 use Rattle.call.proofs.Told.{fit-ran}
 
 -- the fit of a result, g where there is none
@@ -55,12 +52,6 @@ module _ (G : Given) (wish : ℕ) (phi : Float) (g : Fitted) where
   unfolding innerAt totalOf innerOf innerWith
   stood L h = let o = runOf G phi L (startMeans G) in by-ending (o .ending) (o .items) h
 
--- ---- only a result is told under number 0
-zero-fitted : (x : Result (Dispersed Fitted)) (a : Account) → resultAnswer x a .number ≡ 0 → (d : Dispersed Fitted) × (x ≡ result d)
-unfolding resultAnswer unfittedAnswer
-zero-fitted (result d) a h = (d, refl)
-zero-fitted (noResult e) a h = absurd (omega (arith, h, end-range e))
-
 -- ---- the call
 module _ (t : Settings) (s : Shape) (I : Inputs) (L : Lent) (f : CarriedFamily) (l : CarriedLink) (e : tableOf 1 t s I (lengthsOf L) ≡ Accepted f l) where
   abbrev given : Given
@@ -77,10 +68,7 @@ module _ (t : Settings) (s : Shape) (I : Inputs) (L : Lent) (f : CarriedFamily) 
       rw (accepted-left t s I L f l e, q) (record { first = r .0; within = r .1; iterations = refl; deviance = rw (w .integral) refl; order = rw (w .integral) refl; results = refl })
 
   pub call-first-stop : callOf t s I L .answer .number ≡ 0 → (k : Mode) × Taken given (t .«n_agq») limit (callOf t s I L .answer) (callOf t s I L .lent .results) k
-  unfolding fitLeft answerOf
-  call-first-stop h =
-      let z = zero-fitted (askedFit f l t s I .outcome) (tally (askedFit f l t s I .items)) (rw (accepted-left t s I L f l e) at h) in
-      (z .0 .last .mode, taken (z .0) (z .1))
+  call-first-stop h = let z = zero-fitted t s I L f l e h in (z .0 .last .mode, taken (z .0) (z .1))
 
   -- ---- and back, without a free dispersion: where the run at phi 1 has a first stop within the limit, the number is 0
   pub call-stop-taken : (k : Mode) → usesDispersion f ≡ false → FirstStop given oneF (startAt given (startMeans given)) k → k .iterations ≤ limit → callOf t s I L .answer .number ≡ 0

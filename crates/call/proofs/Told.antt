@@ -7,6 +7,7 @@ use native.Mathlib.Omega.{arith}
 use lib.Ieee.{Float}
 use Rattle.base.specs.Number.{oneF}
 use Rattle.base.proofs.Doubles.{ff}
+use Rattle.model.specs.Answer.{fittedAnswer}
 use Rattle.model.specs.Caps.{innerCapOf}
 use Rattle.model.specs.Items.{Item, isFit, countOf, tally}
 use Rattle.model.specs.Inputs.{Inputs}
@@ -27,9 +28,9 @@ use Rattle.table.specs.declared.verdicts.Verdict.the-variants.{Accepted}
 use Rattle.dispersion.specs.Phi.{effectiveN}
 use Rattle.dispersion.specs.Rounds.{Result, result, noResult, Dispersed, withFlag, lastFit, dispersionOf, fixedOf}
 use Rattle.dispersion.proofs.Reported.{last-ran, phi-ran, unsettled-241}
-use Rattle.call.specs.Fit.{Fitted, sumOf, totalOf, innerAt, fitBy, fitOf}
-use Rattle.call.specs.Call.{Lent, lengthsOf, callGiven, callOf}
-use Rattle.call.proofs.Leaves.{accepted-account}
+use Rattle.call.specs.Fit.{Fitted, sumOf, totalOf, innerAt, fitBy, fitOf, resultAnswer, answerOf}
+use Rattle.call.specs.Call.{Lent, lengthsOf, callGiven, fitLeft, callOf}
+use Rattle.call.proofs.Leaves.{accepted-left, accepted-account, zero-fitted}
 
 -- ---- an inner fit counts itself once
 run-counts : (G : Given) (phi : Float) (L : ℕ) (mu : List Float) → 1 ≤ countOf isFit (runOf G phi L mu .items)
@@ -78,6 +79,15 @@ module _ (G : Given) (wish L : ℕ) (d : Dispersed Fitted) where
   pub flag-all : fitOf G wish L .outcome ≡ result d → d .converged ≡ false → tally (fitOf G wish L .items) .fits ≡ 241
   unfolding fitOf tally
   flag-all e u = by-all (usesDispersion (G .family)) e u
+
+-- ---- a call with number 0 whose flag is false made 241 inner fits
+module _ (t : Settings) (s : Shape) (I : Inputs) (A : Lent) (f : CarriedFamily) (l : CarriedLink) (e : tableOf 1 t s I (lengthsOf A) ≡ Accepted f l) where
+  pub call-flag-all : callOf t s I A .answer .number ≡ 0 → callOf t s I A .answer .converged ≡ false → callOf t s I A .answer .account .fits ≡ 241
+  unfolding fitLeft answerOf resultAnswer fittedAnswer
+  call-flag-all h u =
+      let z = zero-fitted t s I A f l e h in
+      let flag : z .0 .converged ≡ false = rw (accepted-left t s I A f l e, z .1) at u in
+      rw (accepted-account t s I A f l e) (flag-all (callGiven f l t s I) (t .«n_agq») (limitOf (t .limit) (t .link)) (z .0) (z .1) flag)
 
 -- ---- without a free dispersion: one inner fit, whatever it comes to
 pub one-fit : (G : Given) (wish L : ℕ) → usesDispersion (G .family) ≡ false → tally (fitOf G wish L .items) .fits ≡ 1
