@@ -13,7 +13,6 @@ use Rattle.model.specs.Settings.{goodLimit, goodSizes, Sized}
 use Rattle.model.specs.declared.names.Limit.the-variants.{Given}
 use Rattle.model.specs.declared.sizes.Shape.{Shape}
 use Rattle.model.specs.declared.sizes.Settings.{Settings}
-use Rattle.model.proofs.Sized.{sized-when}
 use Rattle.family.specs.Family.{usesDispersion}
 use Rattle.family.specs.declared.carried.CarriedFamily.{CarriedFamily}
 use Rattle.family.specs.declared.carried.CarriedLink.{CarriedLink}
@@ -26,6 +25,7 @@ use Rattle.table.specs.Table.{refuseUnless, tableOf}
 use Rattle.table.specs.declared.verdicts.LentLengths.{LentLengths}
 use Rattle.table.specs.declared.verdicts.Verdict.the-variants.{Accepted}
 use Rattle.table.proofs.Accepting.{accepted-sound}
+use Rattle.table.proofs.Exactly.{sizes-exactly}
 use Rattle.dispersion.specs.Phi.{effectiveN}
 use Rattle.dispersion.proofs.Higher.{Stopped, dispersion-same, dispersion-grows, fixed-same, fixed-grows}
 use Rattle.call.specs.Fit.{sumOf, resultBy, totalOf, innerAt, fitBy, fitOf, resultAnswer, answerOf}
@@ -74,10 +74,6 @@ abbrev pub limited : ℕ → Settings → Settings
 limited M t =
     record { family = t .family; link = t .link; «n_agq» = t .«n_agq»; limit = Given M; n = t .n; p = t .p; rows = t .rows; entries = t .entries }
 
-good-sizes : (t : Settings) (s : Shape) → Sized t s → goodSizes t s ≡ true
-good-sizes t s z =
-    sym (sized-when t s (z .sizes .n-some, z .sizes .n-few) (z .sizes .p-some, z .sizes .p-few) (z .shape) (z .effects) (z .entries-few)) ∙ z .limit
-
 limited-sized : (M : ℕ) (t : Settings) (s : Shape) → M ≤ 1000 → Sized t s → Sized (limited M t) s
 unfolding goodLimit
 limited-sized M t s m z = record { sizes = z .sizes; shape = z .shape; effects = z .effects; entries-few = z .entries-few; limit = le-leb M 1000 m }
@@ -88,8 +84,8 @@ pub limited-accepted : (M : ℕ) (t : Settings) (s : Shape) (I : Inputs) (L : Le
 unfolding tableOf refuseUnless goodInputs goodResults goodWork
 limited-accepted M t s I L f l m e =
     let z : Sized t s = accepted-sound 1 t s I L f l e .sized in
-    let a : goodSizes t s ≡ true = good-sizes t s z in
-    let b : goodSizes (limited M t) s ≡ true = good-sizes (limited M t) s (limited-sized M t s m z) in
+    let a : goodSizes t s ≡ true = sizes-exactly t s .1 z in
+    let b : goodSizes (limited M t) s ≡ true = sizes-exactly (limited M t) s .1 (limited-sized M t s m z) in
     rw b (rw a at e)
 
 module _ (t : Settings) (s : Shape) (I : Inputs) (L : Lent) (f : CarriedFamily) (l : CarriedLink) (e : tableOf 1 t s I (lengthsOf L) ≡ Accepted f l) (M : ℕ)
