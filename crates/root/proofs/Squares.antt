@@ -121,8 +121,50 @@ room-below s q h a b =
     let z : q - 1 ≡ 0xf_ffff_ffff_ffff = omega arith in
     omega (arith, ap (λ (k : ℕ). k * (k + 1)) z))
 
+-- whether q - 1/2 lies below the root, by the square that the code compares
+half-below : (s q : ℕ) → 1 ≤ q → (q - 1) * (q - 1 + 1) / 0x10_0000_0000_0000 < s → halfBelow q (s * 0x10_0000_0000_0000) ≡ true
+half-below s q h a = lt-ltb ((2 * q - 1) * (2 * q - 1)) (4 * (s * 0x10_0000_0000_0000)) (omega (arith, under-square q h))
+
+half-past : (s q : ℕ) → 1 ≤ q → s ≤ (q - 1) * (q - 1 + 1) / 0x10_0000_0000_0000 → halfBelow q (s * 0x10_0000_0000_0000) ≡ false
+half-past s q h a = le-ltb ((2 * q - 1) * (2 * q - 1)) (4 * (s * 0x10_0000_0000_0000)) (omega (arith, under-square q h))
+
+pub digit-taken : (s q b : ℕ) → 0 < b → (q + b - 1) * (q + b - 1 + 1) / 0x10_0000_0000_0000 < s → q + b ≡ withDigit (halfBelow (q + b) (s * 0x10_0000_0000_0000)) q b
+unfolding withDigit
+digit-taken s q b h a = rw (half-below s (q + b) (omega arith) a) refl
+
+pub digit-left : (s q b : ℕ) → 0 < b → s ≤ (q + b - 1) * (q + b - 1 + 1) / 0x10_0000_0000_0000 → q ≡ withDigit (halfBelow (q + b) (s * 0x10_0000_0000_0000)) q b
+unfolding withDigit
+digit-left s q b h a = rw (half-past s (q + b) (omega arith) a) refl
+
+-- ---- one of the 53 turns of the search by digits
+pub digit-halved : (k b : ℕ) → k < 53 → b ≡ 2 ^ (53 - k) → b / 2 ≡ 2 ^ (53 - (k + 1))
+digit-halved k b h e =
+    let z : 53 - k ≡ suc (53 - (k + 1)) = omega arith in
+    omega (arith, ap (λ (d : ℕ). 2 ^ d) z, pow-suc 2 (53 - (k + 1)))
+
+pub digit-turn : (k q c y : ℕ) → k < 53 → c ≡ 2 ^ (53 - (k + 1)) → nearestFrom (53 - (k + 1)) (withDigit (halfBelow (q + c) y) q c) y ≡ nearestFrom (53 - k) q y
+unfolding nearestFrom
+digit-turn k q c y h e =
+    let z : 53 - k ≡ suc (53 - (k + 1)) = omega arith in
+    rw (e, z) refl
+
+pub digit-room : (t : Bool) (q c : ℕ) → withDigit t q c + c ≤ q + (c + c)
+unfolding withDigit
+digit-room true q c = omega arith
+digit-room false q c = omega arith
+
+pub digits-done : (k q y : ℕ) → k ≤ 53 → 53 ≤ k → nearestFrom (53 - k) q y ≡ q
+unfolding nearestFrom
+digits-done k q y a b = let z : 53 - k ≡ 0 = omega arith in rw z refl
+
 pub near-found : (s q : ℕ) → 1 ≤ q → s ≤ q * (q + 1) / 0x10_0000_0000_0000 → (q - 1) * (q - 1 + 1) / 0x10_0000_0000_0000 < s → Near (s * 0x10_0000_0000_0000) q
 near-found s q h a b = record {
   above = omega (arith, under-square q h);
   below = omega (arith, odd-square q);
 }
+
+-- the number after one whose half more is not past the root
+pub near-next : (s q : ℕ) → q * (q + 1) / 0x10_0000_0000_0000 < s → s ≤ (q + 1) * (q + 1 + 1) / 0x10_0000_0000_0000 → Near (s * 0x10_0000_0000_0000) (q + 1)
+near-next s q a b =
+    let z : q + 1 - 1 ≡ q = omega arith in
+    near-found s (q + 1) (omega arith) b (rw z a)

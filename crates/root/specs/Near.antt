@@ -33,6 +33,11 @@ pub record Past (s q : ℕ) : Type 0 where
   pub digits : Digits53 q
   pub reached : s ≤ q * (q + 1) / 0x10_0000_0000_0000
 
+-- q has 53 binary digits, and q + 1/2 is not past it
+pub record Short (s q : ℕ) : Type 0 where
+  pub digits : Digits53 q
+  pub missed : q * (q + 1) / 0x10_0000_0000_0000 < s
+
 -- b is the bit pattern of a number above zero and below +infinity
 pub record AboveZero (b : ℕ) : Type 0 where
   pub some : 0 < b
