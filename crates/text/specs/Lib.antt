@@ -1,2 +1,3 @@
 -- What the programs' text is made of. Assumes nothing.
 pub mod Hex
+pub mod Specials

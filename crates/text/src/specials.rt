@@ -1,5 +1,6 @@
 // The doubles that the test programs try before any other.
-ghost use Prim.Native.Nat.{_<_};
+ghost use mathlib.Core.Path.{_≡_};
+ghost use Rattle.text.specs.Specials.{specialOf};
 
 // How many they are.
 pub const SPECIALS: usize = 24;
@@ -33,9 +34,12 @@ const PATTERNS: [u64; 24] = [
     0xffff_ffff_ffff_ffff,
 ];
 
-// The i-th of them.
+// The i-th of them; +0.0 past the last.
 pub fn special(i: usize) -> f64
-    requires { ⌜ i < 24 ⌝ }
+    ensures { λ r. ⌜ r ≡ specialOf i ⌝ }
 {
-    base::double(PATTERNS[i])
+    if i < 24 {
+        return base::double(PATTERNS[i]);
+    }
+    0.0
 }
