@@ -4,7 +4,7 @@
        fitjob.py --into FOLDER
 What `cases_fitjob` must print, by the oracle, and the jobs that it is given, each behind its length in three bytes; or the jobs as files, named by their numbers.
 Job 0 is one byte too long and stands in the program. Then: case J, L 1000 and 1001, every refusal that a job can meet with its byte, the closed fits of
-rule_cases and agq_cases (every end), the fits of crates/cases_fitjob/jobs.json, and random jobs of every kind (tools/glmm/kinds.py), the largest of them of 65,536 bytes."""
+rule_cases, agq_cases and call_cases (every end), the fits of crates/cases_fitjob/jobs.json, and random jobs of every kind (tools/glmm/kinds.py), the largest of them of 65,536 bytes."""
 import json, random, subprocess, sys, tempfile
 from pathlib import Path
 
@@ -42,9 +42,13 @@ def table_refusals():
     for name, value in (("theta", [inf]), ("y", [-inf]), ("weights", [float("nan")]), ("offset", [inf]), ("x", [[float("nan")]]), ("zt", [[[0, -inf]]])):
         yield {**fair, name: value}  # 3
     yield {**fair, "y": [inf], "zt": [[[1, 1]]]}  # 6 before 3
+    yield {**TWO_BLOCKS, "x": [[1.0, inf]] + TWO_BLOCKS["x"][1:], "zt": [[[0, 1.0], [3, 1.0]]] + TWO_BLOCKS["zt"][1:]}  # 6 before 3
+    yield {**fair, "link": "logit", "zt": [[[1, 1]]]}  # 6 before 4
     yield {**fair, "link": "logit"}  # 4
     yield {**fair, "family": "gamma", "link": "sqrt"}  # 4
     yield {**fair, "y": [inf], "link": "cloglog"}  # 3 before 4
+    yield {**fair, "link": "probit"}  # 4 before 5
+    yield {**fair, "family": "gamma", "link": "inverse", "theta": [inf]}  # 3 before 5
     yield {**fair, "family": "gamma", "link": "inverse"}  # 5
     yield {**fair, "family": "binomial", "link": "probit", "y": [1]}  # 5
 
@@ -65,7 +69,7 @@ def jobs():
     """The jobs of standard input, in this order."""
     one = job_bytes(CASE_J)
     found = [one, with_field(one, 38, 10, 1000), with_field(one, 38, 10, 1001), *job_refusals(), *map(job_bytes, table_refusals())]
-    for crate in ("rule_cases", "agq_cases", "cases_fitjob"):
+    for crate in ("rule_cases", "agq_cases", "call_cases", "cases_fitjob"):
         found += [job_bytes(about) for about in json.loads((ROOT / "crates" / crate / "jobs.json").read_text()).values()]
     found += map(job_bytes, pairs())
     for kind, share in SHARES.items():

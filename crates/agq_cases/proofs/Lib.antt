@@ -9,3 +9,7 @@ pub mod BadSum
 pub mod NoInverse
 pub mod NoFactor
 pub mod NoStop
+pub mod OneSquare
+pub mod Squares
+pub mod Sigma
+pub mod JointSum
