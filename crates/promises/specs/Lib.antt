@@ -1,0 +1,2 @@
+-- What a contract without a `requires` promises. Assumes nothing.
+pub mod Promise
