@@ -23,7 +23,17 @@ same-length-3 : tie.Need-same-length-3
 same-length-3 c = search needs
 
 returns : tie.Need-returns
-returns c = free-left (givenOf (c .before .before .before .before .before .before .before .before .before .before .before .before .before .before .before .before .before .before .before .before .before .before .before .args .family) (c .before .before .before .before .before .before .before .before .before .before .before .before .before .before .before .before .before .before .before .before .before .before .before .args .link) (c .before .before .before .before .before .before .before .before .before .before .before .before .before .before .before .before .before .before .before .before .before .before .before .args .y .now) (c .before .before .before .before .before .before .before .before .before .before .before .before .before .before .before .before .before .before .before .before .before .before .before .args .weights .now) (designOf (c .before .before .before .before .before .before .before .before .before .before .before .before .before .before .before .before .before .before .before .before .before .before .before .args .n) (c .before .before .before .before .before .before .before .before .before .before .before .before .before .before .before .before .before .before .before .before .before .before .before .args .p) (c .before .before .before .before .before .before .before .before .before .before .before .before .before .before .before .before .before .before .before .before .before .before .before .args .shape) (c .before .before .before .before .before .before .before .before .before .before .before .before .before .before .before .before .before .before .before .before .before .before .before .args .theta .now) (c .before .before .before .before .before .before .before .before .before .before .before .before .before .before .before .before .before .before .before .before .before .before .before .args .offset .now) (c .before .before .before .before .before .before .before .before .before .before .before .before .before .before .before .before .before .before .before .before .before .before .before .args .x .now) (sparse (c .before .before .before .before .before .before .before .before .before .before .before .before .before .before .before .before .before .before .before .before .before .before .before .args .starts .now) (c .before .before .before .before .before .before .before .before .before .before .before .before .before .before .before .before .before .before .before .before .before .before .before .args .columns .now) (c .before .before .before .before .before .before .before .before .before .before .before .before .before .before .before .before .before .before .before .before .before .before .before .args .values .now)))) (c .before .before .before .before .before .before .before .before .before .before .before .before .before .before .before .before .before .before .before .before .before .before .before .args .wish) (c .before .before .before .before .before .before .before .before .before .before .before .before .before .before .before .before .before .before .before .before .before .before .before .args .limit) _ _ _ _ _ _ _ (sym (c .before .before .before .before .before .before .before .before .before .before .before .uses-dispersion .ensures) ∙ c .before .before .before .before .before .before .before .before .before .before .if1 .taken) (c .before .before .before .before .before .before .dispersed-fit .ensures)
+returns c =
+    let dispersed-fit = c .before .before .before .before .before .before in
+    let if1 = dispersed-fit .before .before .before .before in
+    let uses-dispersion = if1 .before in
+    let start = uses-dispersion .before .before .before .before .before .before .before .before .before .before .before .before in
+    let args = start .args in
+    free-left
+    (givenOf (args .family) (args .link) (args .y .now) (args .weights .now)
+    (designOf (args .n) (args .p) (args .shape) (args .theta .now) (args .offset .now) (args .x .now)
+    (sparse (args .starts .now) (args .columns .now) (args .values .now)))) (args .wish) (args .limit) _ _ _ _ _ _ _
+    (sym (uses-dispersion .uses-dispersion .ensures) ∙ if1 .if1 .taken) (dispersed-fit .dispersed-fit .ensures)
 
 fixed-fit-requires : tie.Need-fixed-fit-requires
 fixed-fit-requires c κs = search needs
@@ -38,7 +48,17 @@ same-length-6 : tie.Need-same-length-6
 same-length-6 c = search needs
 
 returns-2 : tie.Need-returns-2
-returns-2 c = fixed-left (givenOf (c .before .before .before .before .before .before .before .before .before .before .before .before .before .before .before .before .before .before .before .before .before .before .before .args .family) (c .before .before .before .before .before .before .before .before .before .before .before .before .before .before .before .before .before .before .before .before .before .before .before .args .link) (c .before .before .before .before .before .before .before .before .before .before .before .before .before .before .before .before .before .before .before .before .before .before .before .args .y .now) (c .before .before .before .before .before .before .before .before .before .before .before .before .before .before .before .before .before .before .before .before .before .before .before .args .weights .now) (designOf (c .before .before .before .before .before .before .before .before .before .before .before .before .before .before .before .before .before .before .before .before .before .before .before .args .n) (c .before .before .before .before .before .before .before .before .before .before .before .before .before .before .before .before .before .before .before .before .before .before .before .args .p) (c .before .before .before .before .before .before .before .before .before .before .before .before .before .before .before .before .before .before .before .before .before .before .before .args .shape) (c .before .before .before .before .before .before .before .before .before .before .before .before .before .before .before .before .before .before .before .before .before .before .before .args .theta .now) (c .before .before .before .before .before .before .before .before .before .before .before .before .before .before .before .before .before .before .before .before .before .before .before .args .offset .now) (c .before .before .before .before .before .before .before .before .before .before .before .before .before .before .before .before .before .before .before .before .before .before .before .args .x .now) (sparse (c .before .before .before .before .before .before .before .before .before .before .before .before .before .before .before .before .before .before .before .before .before .before .before .args .starts .now) (c .before .before .before .before .before .before .before .before .before .before .before .before .before .before .before .before .before .before .before .before .before .before .before .args .columns .now) (c .before .before .before .before .before .before .before .before .before .before .before .before .before .before .before .before .before .before .before .before .before .before .before .args .values .now)))) (c .before .before .before .before .before .before .before .before .before .before .before .before .before .before .before .before .before .before .before .before .before .before .before .args .wish) (c .before .before .before .before .before .before .before .before .before .before .before .before .before .before .before .before .before .before .before .before .before .before .before .args .limit) _ _ _ _ _ _ _ (sym (c .before .before .before .before .before .before .before .before .before .before .before .uses-dispersion .ensures) ∙ c .before .before .before .before .before .before .before .before .before .before .if1 .left) (c .before .before .before .before .before .before .fixed-fit .ensures)
+returns-2 c =
+    let fixed-fit = c .before .before .before .before .before .before in
+    let if1 = fixed-fit .before .before .before .before in
+    let uses-dispersion = if1 .before in
+    let start = uses-dispersion .before .before .before .before .before .before .before .before .before .before .before .before in
+    let args = start .args in
+    fixed-left
+    (givenOf (args .family) (args .link) (args .y .now) (args .weights .now)
+    (designOf (args .n) (args .p) (args .shape) (args .theta .now) (args .offset .now) (args .x .now)
+    (sparse (args .starts .now) (args .columns .now) (args .values .now)))) (args .wish) (args .limit) _ _ _ _ _ _ _
+    (sym (uses-dispersion .uses-dispersion .ensures) ∙ if1 .if1 .left) (fixed-fit .fixed-fit .ensures)
 
 pub fit-in-spec : {M : Type 1} → statement M
 fit-in-spec =

@@ -22,7 +22,15 @@ same-length-3 : tie.Need-same-length-3
 same-length-3 c = search needs
 
 returns : tie.Need-returns
-returns c = fixed-ended (givenOf (c .before .before .before .before .before .before .before .before .before .before .before .before .before .before .before .before .before .before .before .before .before .before .args .family) (c .before .before .before .before .before .before .before .before .before .before .before .before .before .before .before .before .before .before .before .before .before .before .args .link) (c .before .before .before .before .before .before .before .before .before .before .before .before .before .before .before .before .before .before .before .before .before .before .args .y .now) (c .before .before .before .before .before .before .before .before .before .before .before .before .before .before .before .before .before .before .before .before .before .before .args .weights .now) (designOf (c .before .before .before .before .before .before .before .before .before .before .before .before .before .before .before .before .before .before .before .before .before .before .args .n) (c .before .before .before .before .before .before .before .before .before .before .before .before .before .before .before .before .before .before .before .before .before .before .args .p) (c .before .before .before .before .before .before .before .before .before .before .before .before .before .before .before .before .before .before .before .before .before .before .args .shape) (c .before .before .before .before .before .before .before .before .before .before .before .before .before .before .before .before .before .before .before .before .before .before .args .theta .now) (c .before .before .before .before .before .before .before .before .before .before .before .before .before .before .before .before .before .before .before .before .before .before .args .offset .now) (c .before .before .before .before .before .before .before .before .before .before .before .before .before .before .before .before .before .before .before .before .before .before .args .x .now) (sparse (c .before .before .before .before .before .before .before .before .before .before .before .before .before .before .before .before .before .before .before .before .before .before .args .starts .now) (c .before .before .before .before .before .before .before .before .before .before .before .before .before .before .before .before .before .before .before .before .before .before .args .columns .now) (c .before .before .before .before .before .before .before .before .before .before .before .before .before .before .before .before .before .before .before .before .before .before .args .values .now)))) (c .before .before .before .before .before .before .before .before .before .before .before .before .before .before .before .before .before .before .before .before .before .before .args .wish) (c .before .before .before .before .before .before .before .before .before .before .before .before .before .before .before .before .before .before .before .before .before .before .args .limit) _ _ _ _ _ _ _ (c .before .before .before .before .before .before .before .inner-at .ensures) _ (c .fit-from .ensures)
+returns c =
+    let inner-at = c .before .before .before .before .before .before .before in
+    let start = inner-at .before .before .before .before .before .before .before .before .before .before .before .before .before .before .before in
+    let args = start .args in
+    fixed-ended
+    (givenOf (args .family) (args .link) (args .y .now) (args .weights .now)
+    (designOf (args .n) (args .p) (args .shape) (args .theta .now) (args .offset .now) (args .x .now)
+    (sparse (args .starts .now) (args .columns .now) (args .values .now)))) (args .wish) (args .limit) _ _ _ _ _ _ _ (inner-at .inner-at .ensures) _
+    (c .fit-from .ensures)
 
 pub fixed-fit-spec : {M : Type 1} → statement M
 fixed-fit-spec =

@@ -32,7 +32,10 @@ start-means-requires : tie.Need-start-means-requires
 start-means-requires c κs = search needs
 
 inner-answer-requires : tie.Need-inner-answer-requires
-inner-answer-requires c κs = (asked-kept (c .before .before .before .before .before .before .before .before .before .before .before .before .before .before .before .before .before .before .before .before .pre .0) (search needs) refl refl, c .before .before .before .before .before .before .before .before .before .before .before .before .before .before .before .before .before .before .before .before .pre .1)
+inner-answer-requires c κs =
+    let start = c .before .before .before .before .before .before .before .before .before
+    .before .before .before .before .before .before .before .before .before .before .before in
+    (asked-kept (start .pre .0) (search needs) refl refl, start .pre .1)
 
 same-length : tie.Need-same-length
 same-length c = search needs
@@ -44,7 +47,21 @@ same-length-3 : tie.Need-same-length-3
 same-length-3 c = search needs
 
 returns : tie.Need-returns
-returns c = started (givenOf (c .before .before .before .before .before .before .before .before .before .before .before .before .before .before .before .before .before .before .before .before .before .before .before .before .before .before .before .args .family) (c .before .before .before .before .before .before .before .before .before .before .before .before .before .before .before .before .before .before .before .before .before .before .before .before .before .before .before .args .link) (c .before .before .before .before .before .before .before .before .before .before .before .before .before .before .before .before .before .before .before .before .before .before .before .before .before .before .before .args .y .now) (c .before .before .before .before .before .before .before .before .before .before .before .before .before .before .before .before .before .before .before .before .before .before .before .before .before .before .before .args .weights .now) (designOf (c .before .before .before .before .before .before .before .before .before .before .before .before .before .before .before .before .before .before .before .before .before .before .before .before .before .before .before .args .n) (c .before .before .before .before .before .before .before .before .before .before .before .before .before .before .before .before .before .before .before .before .before .before .before .before .before .before .before .args .p) (c .before .before .before .before .before .before .before .before .before .before .before .before .before .before .before .before .before .before .before .before .before .before .before .before .before .before .before .args .shape) (c .before .before .before .before .before .before .before .before .before .before .before .before .before .before .before .before .before .before .before .before .before .before .before .before .before .before .before .args .theta .now) (c .before .before .before .before .before .before .before .before .before .before .before .before .before .before .before .before .before .before .before .before .before .before .before .before .before .before .before .args .offset .now) (c .before .before .before .before .before .before .before .before .before .before .before .before .before .before .before .before .before .before .before .before .before .before .before .before .before .before .before .args .x .now) (sparse (c .before .before .before .before .before .before .before .before .before .before .before .before .before .before .before .before .before .before .before .before .before .before .before .before .before .before .before .args .starts .now) (c .before .before .before .before .before .before .before .before .before .before .before .before .before .before .before .before .before .before .before .before .before .before .before .before .before .before .before .args .columns .now) (c .before .before .before .before .before .before .before .before .before .before .before .before .before .before .before .before .before .before .before .before .before .before .before .before .before .before .before .args .values .now)))) (c .before .before .before .before .before .before .before .before .before .before .before .before .before .before .before .before .before .before .before .before .before .before .before .before .before .before .before .args .wish) (c .before .before .before .before .before .before .before .before .before .before .before .before .before .before .before .before .before .before .before .before .before .before .before .before .before .before .before .args .phi) (c .before .before .before .before .before .before .before .before .before .before .before .before .before .before .before .before .before .before .before .before .before .before .before .before .before .before .before .args .limit) _ (c .before .before .before .before .before .before .before .before .before .before .before .before .before .before .before .before .before .before .before .before .before .before .before .before .before .before .before .args .r .now) _ _ _ _ _ _ _ (c .before .before .before .before .before .before .before .before .before .before .before .before .before .before .before .mu-row .ensures) (filled-part _ (c .before .before .before .before .before .before .before .before .before .before .before .before .before .before .before .before .before .before .before .before .before .before .before .before .before .before .before .args .n) _ _ (c .before .before .before .before .before .before .before .before .before .before .before .before .before .before .before .before .before .before .before .before .before .before .before .before .before .before .before .args .r .now) (c .before .before .before .before .before .before .before .before .before .before .before .before .start-means .last .1 .1 .1 .0) (omega (arith, c .before .before .before .before .before .before .before .before .before .before .before .before .before .before .before .mu-row .ensures, c .before .before .before .before .before .before .before .before .before .before .before .before .before .before .raw-row .ensures)) (omega (arith, c .before .before .before .before .before .before .before .before .before .before .before .before .before .before .raw-row .ensures, c .before .before .before .before .before .before .before .before .before .before .before .before .before .before .before .before .before .before .before .before .before .before .before .before .before .before .before .pre .0 .lent .rows-long)) (c .before .before .before .before .before .before .before .before .before .before .before .before .start-means .kept .1 .1 .1 .0) (c .before .before .before .before .before .before .before .before .before .before .before .before .start-means .ensures)) (c .before .before .before .before .before .before .inner-answer .ensures)
+returns c =
+    let inner-answer = c .before .before .before .before .before .before in
+    let start-means = inner-answer .before .before .before .before .before .before in
+    let raw-row = start-means .before .before in
+    let mu-row = raw-row .before in
+    let start = mu-row .before .before .before .before .before .before .before .before .before .before .before .before in
+    let args = start .args in
+    started
+    (givenOf (args .family) (args .link) (args .y .now) (args .weights .now)
+    (designOf (args .n) (args .p) (args .shape) (args .theta .now) (args .offset .now) (args .x .now)
+    (sparse (args .starts .now) (args .columns .now) (args .values .now)))) (args .wish) (args .phi) (args .limit) _ (args .r .now) _ _ _ _ _ _ _
+    (mu-row .mu-row .ensures)
+    (filled-part _ (args .n) _ _ (args .r .now) (start-means .start-means .last .1 .1 .1 .0) (omega (arith, mu-row .mu-row .ensures, raw-row .raw-row .ensures))
+    (omega (arith, raw-row .raw-row .ensures, start .pre .0 .lent .rows-long)) (start-means .start-means .kept .1 .1 .1 .0)
+    (start-means .start-means .ensures)) (inner-answer .inner-answer .ensures)
 
 pub inner-at-spec : {M : Type 1} → statement M
 inner-at-spec =
