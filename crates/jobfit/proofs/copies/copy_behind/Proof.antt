@@ -42,7 +42,8 @@ loop-less : tie.Need-loop-less Inv-loop μ-loop
 loop-less c = search needs
 
 loop-again : tie.Need-loop-again Inv-loop μ-loop
-loop-again c = let l = c .before .before .loop .inv in (omega arith, l .1, simp length-set (l .2), number-on _ _ _ _ _ _ refl (omega arith) (omega arith) (l .3))
+loop-again c =
+    let l = c .before .before .loop .inv in (omega arith, l .1, simp length-set (l .2), number-on _ _ _ _ _ _ refl (omega arith) (omega arith) (l .3))
 
 add-result : tie.Need-add-result Inv-loop μ-loop
 add-result c = search needs

@@ -7,6 +7,10 @@ use Rattle.jobfit.proofs.Behind.{two-length, fixed-room, effects-room, 
 use Rattle.jobfit.proofs.copies.put_numbers.Statement.{statement}
 use Rattle.jobfit.proofs.copies.put_numbers.Tie as tie
 
+-- the ways back that several answers go
+abbrev start-of : tie.After-copy-three → tie.Start
+start-of c = c .before .before .before .before .before .before .before .before .before .before .before .before
+
 slice-write-out : tie.Need-slice-write-out
 slice-write-out c = omega (arith, c .before .before .before .before .before .before .before .before .before .before .pre)
 
@@ -14,22 +18,62 @@ slice-write-out-2 : tie.Need-slice-write-out-2
 slice-write-out-2 c = simp length-set (omega (arith, c .before .before .before .before .before .before .before .before .before .before .pre))
 
 copy-three-requires : tie.Need-copy-three-requires
-copy-three-requires c κs = let a = c .before .before .before .before .before .before .before .before .before .before .before .args in fixed-room (a .answer) (nine (a .beta .now) (a .se .now) (a .z .now) (a .u .now) (a .b .now) (a .mu .now) (a .eta .now) (a .residual .now) (a .v .now)) (a .out .now) (c .before .before .before .before .before .before .before .before .before .before .before .pre)
+copy-three-requires c κs =
+    let start = c .before .before .before .before .before .before .before .before .before .before .before in
+    let a = start .args in
+    fixed-room (a .answer) (nine (a .beta .now) (a .se .now) (a .z .now) (a .u .now) (a .b .now) (a .mu .now) (a .eta .now) (a .residual .now) (a .v .now))
+    (a .out .now) (start .pre)
 
 copy-two-requires : tie.Need-copy-two-requires
-copy-two-requires c κs = let a = c .before .before .before .before .before .before .before .before .before .before .before .before .before .before .before .args in effects-room (a .answer) (nine (a .beta .now) (a .se .now) (a .z .now) (a .u .now) (a .b .now) (a .mu .now) (a .eta .now) (a .residual .now) (a .v .now)) (a .out .now) (c .before .before .before .before .before .before .before .before .before .before .before .before .before .before .before .pre) _ _ (c .before .before .before .copy-three .ensures) (c .before .before .before .copy-three .kept .1 .1 .1 .1 .0)
+copy-two-requires c κs =
+    let copy-three = c .before .before .before in
+    let start = start-of copy-three in
+    let a = start .args in
+    effects-room (a .answer) (nine (a .beta .now) (a .se .now) (a .z .now) (a .u .now) (a .b .now) (a .mu .now) (a .eta .now) (a .residual .now) (a .v .now))
+    (a .out .now) (start .pre) _ _ (copy-three .copy-three .ensures) (copy-three .copy-three .kept .1 .1 .1 .1 .0)
 
 copy-three-requires-2 : tie.Need-copy-three-requires-2
-copy-three-requires-2 c κs = let a = c .before .before .before .before .before .before .before .before .before .before .before .before .before .before .before .before .before .before .before .args in rows-room (a .answer) (nine (a .beta .now) (a .se .now) (a .z .now) (a .u .now) (a .b .now) (a .mu .now) (a .eta .now) (a .residual .now) (a .v .now)) (a .out .now) (c .before .before .before .before .before .before .before .before .before .before .before .before .before .before .before .before .before .before .before .pre) _ _ (c .before .before .before .before .before .before .before .copy-three .ensures) (c .before .before .before .before .before .before .before .copy-three .kept .1 .1 .1 .1 .0) _ _ (c .before .before .before .copy-two .ensures) (c .before .before .before .copy-two .kept .1 .1 .1 .0)
+copy-three-requires-2 c κs =
+    let copy-two = c .before .before .before in
+    let copy-three = copy-two .before .before .before .before in
+    let start = start-of copy-three in
+    let a = start .args in
+    rows-room (a .answer) (nine (a .beta .now) (a .se .now) (a .z .now) (a .u .now) (a .b .now) (a .mu .now) (a .eta .now) (a .residual .now) (a .v .now))
+    (a .out .now) (start .pre) _ _ (copy-three .copy-three .ensures) (copy-three .copy-three .kept .1 .1 .1 .1 .0) _ _ (copy-two .copy-two .ensures)
+    (copy-two .copy-two .kept .1 .1 .1 .0)
 
 copy-behind-requires : tie.Need-copy-behind-requires
-copy-behind-requires c κs = let a = c .before .before .before .before .before .before .before .before .before .before .before .before .before .before .before .before .before .before .before .before .before .before .before .args in v-room (a .answer) (nine (a .beta .now) (a .se .now) (a .z .now) (a .u .now) (a .b .now) (a .mu .now) (a .eta .now) (a .residual .now) (a .v .now)) (a .out .now) (c .before .before .before .before .before .before .before .before .before .before .before .before .before .before .before .before .before .before .before .before .before .before .before .pre) _ _ (c .before .before .before .before .before .before .before .before .before .before .before .copy-three .ensures) (c .before .before .before .before .before .before .before .before .before .before .before .copy-three .kept .1 .1 .1 .1 .0) _ _ (c .before .before .before .before .before .before .before .copy-two .ensures) (c .before .before .before .before .before .before .before .copy-two .kept .1 .1 .1 .0) _ _ (c .before .before .before .copy-three2 .ensures) (c .before .before .before .copy-three2 .kept .1 .1 .1 .1 .0)
+copy-behind-requires c κs =
+    let copy-three2 = c .before .before .before in
+    let copy-two = copy-three2 .before .before .before .before in
+    let copy-three = copy-two .before .before .before .before in
+    let start = start-of copy-three in
+    let a = start .args in
+    v-room (a .answer) (nine (a .beta .now) (a .se .now) (a .z .now) (a .u .now) (a .b .now) (a .mu .now) (a .eta .now) (a .residual .now) (a .v .now))
+    (a .out .now) (start .pre) _ _ (copy-three .copy-three .ensures) (copy-three .copy-three .kept .1 .1 .1 .1 .0) _ _ (copy-two .copy-two .ensures)
+    (copy-two .copy-two .kept .1 .1 .1 .0) _ _ (copy-three2 .copy-three2 .ensures) (copy-three2 .copy-three2 .kept .1 .1 .1 .1 .0)
 
 same-length : tie.Need-same-length
-same-length c = let a = c .before .before .before .before .before .before .before .before .before .before .before .before .before .before .before .before .before .before .before .before .before .before .before .before .before .before .args in c .before .before .copy-behind .kept .1 .1 .0 ∙ c .before .before .before .before .before .before .copy-three2 .kept .1 .1 .1 .1 .0 ∙ c .before .before .before .before .before .before .before .before .before .before .copy-two .kept .1 .1 .1 .0 ∙ c .before .before .before .before .before .before .before .before .before .before .before .before .before .before .copy-three .kept .1 .1 .1 .1 .0 ∙ two-length (a .out .now) (a .answer .deviance) (a .answer .phi)
+same-length c =
+    let copy-three2 = c .before .before .before .before .before .before in
+    let copy-two = copy-three2 .before .before .before .before in
+    let copy-three = copy-two .before .before .before .before in
+    let start = start-of copy-three in
+    let a = start .args in
+    c .before .before .copy-behind .kept .1 .1 .0 ∙ copy-three2 .copy-three2 .kept .1 .1 .1 .1 .0 ∙ copy-two .copy-two .kept .1 .1 .1 .0
+    ∙ copy-three .copy-three .kept .1 .1 .1 .1 .0 ∙ two-length (a .out .now) (a .answer .deviance) (a .answer .phi)
 
 returns : tie.Need-returns
-returns c = let a = c .before .before .before .before .before .before .before .before .before .before .before .before .before .before .before .before .before .before .before .before .before .before .before .before .before .before .args in numbers-laid (a .answer) (nine (a .beta .now) (a .se .now) (a .z .now) (a .u .now) (a .b .now) (a .mu .now) (a .eta .now) (a .residual .now) (a .v .now)) (a .out .now) (c .before .before .before .before .before .before .before .before .before .before .before .before .before .before .before .before .before .before .before .before .before .before .before .before .before .before .pre) _ _ (c .before .before .before .before .before .before .before .before .before .before .before .before .before .before .copy-three .ensures) (c .before .before .before .before .before .before .before .before .before .before .before .before .before .before .copy-three .kept .1 .1 .1 .1 .0) _ _ (c .before .before .before .before .before .before .before .before .before .before .copy-two .ensures) (c .before .before .before .before .before .before .before .before .before .before .copy-two .kept .1 .1 .1 .0) _ _ (c .before .before .before .before .before .before .copy-three2 .ensures) (c .before .before .before .before .before .before .copy-three2 .kept .1 .1 .1 .1 .0) _ _ (c .before .before .copy-behind .ensures)
+returns c =
+    let copy-three2 = c .before .before .before .before .before .before in
+    let copy-two = copy-three2 .before .before .before .before in
+    let copy-three = copy-two .before .before .before .before in
+    let start = start-of copy-three in
+    let a = start .args in
+    numbers-laid (a .answer) (nine (a .beta .now) (a .se .now) (a .z .now) (a .u .now) (a .b .now) (a .mu .now) (a .eta .now) (a .residual .now) (a .v .now))
+    (a .out .now) (start .pre) _ _ (copy-three .copy-three .ensures) (copy-three .copy-three .kept .1 .1 .1 .1 .0) _ _ (copy-two .copy-two .ensures)
+    (copy-two .copy-two .kept .1 .1 .1 .0) _ _ (copy-three2 .copy-three2 .ensures) (copy-three2 .copy-three2 .kept .1 .1 .1 .1 .0) _ _
+    (c .before .before .copy-behind .ensures)
 
 pub put-numbers-spec : {M : Type 1} → statement M
 put-numbers-spec =

@@ -90,7 +90,14 @@ same-length-4 : tie.Need-same-length-4
 same-length-4 c = c .before .before .before .before .before .before .before .before .fit-results .kept .1 .1 .1 .1 .1 .1 .1 .1 .1 .1 .1 .1 .1 .0
 
 returns : tie.Need-returns
-returns c = let a = c .before .before .before .before .before .before .before .before .before .before .before .before .before .before .before .before .before .before .before .before .before .before .before .before .before .before .before .before .before .before .before .before .before .before .args in c .before .before .before .before .before .before .before .before .fit-results .ensures ∙ done-parts (a .header) (a .shape) (a .theta .now) (a .y .now) (a .weights .now) (a .offset .now) (a .x .now) (a .starts .now) (a .columns .now) (a .values .now) (a .rows .now) (a .matrices .now) (a .terms .now) (a .results .now)
+returns c =
+    let fit-results = c .before .before .before .before .before .before .before .before in
+    let start = fit-results .before .before .before .before .before .before .before .before .before .before .before .before
+    .before .before .before .before .before .before .before .before .before .before .before .before .before .before in
+    let a = start .args in
+    fit-results .fit-results .ensures
+    ∙ done-parts (a .header) (a .shape) (a .theta .now) (a .y .now) (a .weights .now) (a .offset .now) (a .x .now) (a .starts .now) (a .columns .now)
+    (a .values .now) (a .rows .now) (a .matrices .now) (a .terms .now) (a .results .now)
 
 pub fit-fronts-spec : {M : Type 1} → statement M
 fit-fronts-spec =

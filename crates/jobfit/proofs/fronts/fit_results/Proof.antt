@@ -7,8 +7,14 @@ use borrow.Author.Needs.{needs}
 use Rattle.jobfit.proofs.fronts.fit_results.Statement.{statement}
 use Rattle.jobfit.proofs.fronts.fit_results.Tie as tie
 
+-- the ways back that several answers go
+abbrev fit-written-of : tie.After-slice-known8 → tie.After-fit-written
+fit-written-of c = c .before .before .before .before .before .before .before .before .before .before .before .before .before .before .before .before .before
+
 mul-cells : tie.Need-mul-cells
-mul-cells c = let s = c .before .before .before .before .before .before .before .before .before .before .before .before in omega (arith, cells-few (s .args .settings .p) (s .pre .p))
+mul-cells c =
+    let start = c .before .before .before .before .before .before .before .before .before .before .before .before in
+    omega (arith, cells-few (start .args .settings .p) (start .pre .p))
 
 beta-length-requires : tie.Need-beta-length-requires
 beta-length-requires c κs = c .before .before .before .before .before .before .before .before .before .before .before .before .pre
@@ -20,7 +26,9 @@ part-beta-start : tie.Need-part-beta-start
 part-beta-start c = search needs
 
 part-beta-end : tie.Need-part-beta-end
-part-beta-end c = let s = c .before .before .before .before .before .before .before .before .before .before .before .before .before in rw (c .beta-length .ensures) (beta-few (s .args .settings) _ (s .pre .p))
+part-beta-end c =
+    let start = c .before .before .before .before .before .before .before .before .before .before .before .before .before in
+    rw (c .beta-length .ensures) (beta-few (start .args .settings) _ (start .pre .p))
 
 sub-fit-written-2 : tie.Need-sub-fit-written-2
 sub-fit-written-2 c = search needs
@@ -92,25 +100,48 @@ part-v-start : tie.Need-part-v-start
 part-v-start c = search needs
 
 part-v-end : tie.Need-part-v-end
-part-v-end c = let s = c .before .before .before .before .before .before .before .before .before .before .before .before .before .before .before .before .before .before .before .before .before in omega (arith, cells-few (s .args .settings .p) (s .pre .p))
+part-v-end c =
+    let start = c .before .before .before .before .before .before .before .before .before
+    .before .before .before .before .before .before .before .before .before .before .before .before in
+    omega (arith, cells-few (start .args .settings .p) (start .pre .p))
 
 fit-written-requires : tie.Need-fit-written-requires
-fit-written-requires c κs = let s = c .before .before .before .before .before .before .before .before .before .before .before .before .before .before .before .before .before .before .before .before .before .before .before .before .before .before in room-for (s .args .settings) (s .args .rows .now) (s .args .matrices .now) (s .args .terms .now) (s .args .results .now) _ (s .pre) (c .before .before .before .before .before .before .before .before .before .before .before .before .before .beta-length .ensures)
+fit-written-requires c κs =
+    let beta-length = c .before .before .before .before .before .before .before .before .before .before .before .before .before in
+    let start = beta-length .before .before .before .before .before .before .before .before .before .before .before .before .before in
+    room-for (start .args .settings) (start .args .rows .now) (start .args .matrices .now) (start .args .terms .now) (start .args .results .now) _ (start .pre)
+    (beta-length .beta-length .ensures)
 
 same-length : tie.Need-same-length
-same-length c = c .before .before .before .before .before .before .before .before .before .before .before .before .before .before .before .before .before .fit-written .kept .1 .1 .1 .1 .1 .1 .1 .1 .1 .1 .1 .1 .1 .1 .1 .1 .1 .1 .1 .0
+same-length c =
+    let fit-written = fit-written-of c in
+    fit-written .fit-written .kept .1 .1 .1 .1 .1 .1 .1 .1 .1 .1 .1 .1 .1 .1 .1 .1 .1 .1 .1 .0
 
 same-length-2 : tie.Need-same-length-2
-same-length-2 c = c .before .before .before .before .before .before .before .before .before .before .before .before .before .before .before .before .before .fit-written .kept .1 .1 .1 .1 .1 .1 .1 .1 .1 .1 .1 .1 .1 .1 .1 .1 .1 .1 .1 .1 .0
+same-length-2 c =
+    let fit-written = fit-written-of c in
+    fit-written .fit-written .kept .1 .1 .1 .1 .1 .1 .1 .1 .1 .1 .1 .1 .1 .1 .1 .1 .1 .1 .1 .1 .0
 
 same-length-3 : tie.Need-same-length-3
-same-length-3 c = c .before .before .before .before .before .before .before .before .before .before .before .before .before .before .before .before .before .fit-written .kept .1 .1 .1 .1 .1 .1 .1 .1 .1 .1 .1 .1 .1 .1 .1 .1 .1 .1 .1 .1 .1 .0
+same-length-3 c =
+    let fit-written = fit-written-of c in
+    fit-written .fit-written .kept .1 .1 .1 .1 .1 .1 .1 .1 .1 .1 .1 .1 .1 .1 .1 .1 .1 .1 .1 .1 .1 .0
 
 same-length-4 : tie.Need-same-length-4
-same-length-4 c = c .before .before .before .before .before .before .before .before .before .before .before .before .before .before .before .before .before .fit-written .kept .1 .1 .1 .1 .1 .1 .1 .1 .1 .1 .1 .1 .1 .1 .1 .1 .1 .1 .1 .1 .1 .1 .0
+same-length-4 c =
+    let fit-written = fit-written-of c in
+    fit-written .fit-written .kept .1 .1 .1 .1 .1 .1 .1 .1 .1 .1 .1 .1 .1 .1 .1 .1 .1 .1 .1 .1 .1 .1 .0
 
 returns : tie.Need-returns
-returns c = let s = c .before .before .before .before .before .before .before .before .before .before .before .before .before .before .before .before .before .before .before .before .before .before .before .before .before .before .before .before .before .before .before .before .before .before .before .before .before .before .before .before .before .before .before .before in c .before .before .before .before .before .before .before .before .before .before .before .before .before .before .before .before .before .fit-written .ensures ∙ done-fresh (s .args .settings) (s .args .shape) (inputs (s .args .theta .now) (s .args .y .now) (s .args .weights .now) (s .args .offset .now) (s .args .x .now) (s .args .starts .now) (s .args .columns .now) (s .args .values .now)) (s .args .rows .now) (s .args .matrices .now) (s .args .terms .now) (s .args .results .now) _ (s .pre) (c .before .before .before .before .before .before .before .before .before .before .before .before .before .before .before .before .before .before .before .before .before .before .before .before .before .before .before .before .before .before .before .beta-length .ensures)
+returns c =
+    let fit-written = fit-written-of c in
+    let beta-length = fit-written .before .before .before .before .before .before .before .before .before .before .before .before .before .before in
+    let start = beta-length .before .before .before .before .before .before .before .before .before .before .before .before .before in
+    let args = start .args in
+    fit-written .fit-written .ensures
+    ∙ done-fresh (args .settings) (args .shape)
+    (inputs (args .theta .now) (args .y .now) (args .weights .now) (args .offset .now) (args .x .now) (args .starts .now) (args .columns .now)
+    (args .values .now)) (args .rows .now) (args .matrices .now) (args .terms .now) (args .results .now) _ (start .pre) (beta-length .beta-length .ensures)
 
 pub fit-results-spec : {M : Type 1} → statement M
 fit-results-spec =
