@@ -13,7 +13,10 @@ same-length c = search needs
 
 returns : tie.Need-returns
 unfolding answerText
-returns c = rw (eq-eqb (c .before .before .before .before .before .before .before .before .before .before .before .before .before .before .before .args .answer .number) 0 (c .before .before .before .before .if1 .taken)) (c .before .before .put-fitted .ensures)
+returns c =
+    let if1 = c .before .before .before .before in
+    let start = if1 .before .before .before .before .before .before .before .before .before .before .before in
+    rw (eq-eqb (start .args .answer .number) 0 (if1 .if1 .taken)) (c .before .before .put-fitted .ensures)
 
 refused-line-requires : tie.Need-refused-line-requires
 refused-line-requires c κs = search needs
@@ -23,7 +26,11 @@ same-length-2 c = search needs
 
 returns-2 : tie.Need-returns-2
 unfolding answerText
-returns-2 c = let n = c .before .before .before .before .before .before .before .before .before .before .before .before .before .before .before .before .args .answer .number in rw (ne-eqb n 0 (c .before .before .before .before .before .if1 .left), lt-ltb n 10 (c .before .before .before .before .if2 .taken)) (c .before .before .refused-line .ensures)
+returns-2 c =
+    let if2 = c .before .before .before .before in
+    let if1 = if2 .before in
+    let start = if1 .before .before .before .before .before .before .before .before .before .before .before in
+    let n = start .args .answer .number in rw (ne-eqb n 0 (if1 .if1 .left), lt-ltb n 10 (if2 .if2 .taken)) (c .before .before .refused-line .ensures)
 
 end-line-requires : tie.Need-end-line-requires
 end-line-requires c κs = search needs
@@ -33,7 +40,11 @@ same-length-3 c = search needs
 
 returns-3 : tie.Need-returns-3
 unfolding answerText
-returns-3 c = let n = c .before .before .before .before .before .before .before .before .before .before .before .before .before .before .before .before .args .answer .number in rw (ne-eqb n 0 (c .before .before .before .before .before .if1 .left), le-ltb n 10 (c .before .before .before .before .if2 .left)) (c .before .before .end-line .ensures)
+returns-3 c =
+    let if2 = c .before .before .before .before in
+    let if1 = if2 .before in
+    let start = if1 .before .before .before .before .before .before .before .before .before .before .before in
+    let n = start .args .answer .number in rw (ne-eqb n 0 (if1 .if1 .left), le-ltb n 10 (if2 .if2 .left)) (c .before .before .end-line .ensures)
 
 pub put-answer-spec : {M : Type 1} → statement M
 put-answer-spec =

@@ -23,7 +23,11 @@ same-length c = search needs
 
 returns : tie.Need-returns
 unfolding effectLines
-returns c = grown-within (grown-both (c .before .before .before .before .before .before .before .put-values .ensures) (c .before .before .put-values2 .ensures) (omega arith)) (omega (arith, c .before .before .before .before .before .before .before .before .before .before .before .before .before .pre .1, c .before .before .before .before .before .before .before .before .before .before .before .before .before .pre .2))
+returns c =
+    let put-values = c .before .before .before .before .before .before .before in
+    let start = put-values .before .before .before .before .before .before in
+    grown-within (grown-both (put-values .put-values .ensures) (c .before .before .put-values2 .ensures) (omega arith))
+    (omega (arith, start .pre .1, start .pre .2))
 
 pub put-effects-spec : {M : Type 1} → statement M
 put-effects-spec =

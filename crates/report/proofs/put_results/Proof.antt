@@ -27,9 +27,14 @@ same-length c = search needs
 returns : tie.Need-returns
 unfolding resultLines
 returns c =
-    let s = c .before .before .before .before .before .before .before .before .before .before .before .before .before .before .before .before .before .before .before .before .before .before .before .before .before .before .before .pre in
-    let p = c .before .before .before .before .before .before .before .before .before .before .before .before .before .before .before .put-fixed .ensures in
-    let rest = grown-three (c .before .before .before .before .before .before .before .before .before .before .before .put-effects .ensures) (c .before .before .before .before .before .before .before .put-rows .ensures) (c .before .before .put-values .ensures) (omega (arith, s .0, s .1, p .few, grown-length p (omega (arith, s .0, s .1)))) in
+    let put-rows = c .before .before .before .before .before .before .before in
+    let put-effects = put-rows .before .before .before .before in
+    let put-fixed = put-effects .before .before .before .before in
+    let start = put-fixed .before .before .before .before .before .before .before .before .before .before .before .before in
+    let s = start .pre in
+    let p = put-fixed .put-fixed .ensures in
+    let rest = grown-three (put-effects .put-effects .ensures) (put-rows .put-rows .ensures) (c .before .before .put-values .ensures)
+    (omega (arith, s .0, s .1, p .few, grown-length p (omega (arith, s .0, s .1)))) in
     grown-within (grown-both p rest (omega (arith, s .0, s .1))) (omega (arith, s .2 .v))
 
 pub put-results-spec : {M : Type 1} → statement M

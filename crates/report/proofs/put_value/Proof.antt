@@ -20,13 +20,19 @@ value-line-requires : tie.Need-value-line-requires
 value-line-requires c κs = search needs
 
 add-result : tie.Need-add-result
-add-result c = omega (arith, c .before .before .value-line .ensures .0, value-few (c .before .before .before .before .before .before .args .name .now) (c .before .before .before .before .before .before .args .index) (c .before .before .before .before .before .before .args .x) (c .before .before .before .before .before .before .pre .0))
+add-result c =
+    let start = c .before .before .before .before .before .before in
+    omega (arith, c .before .before .value-line .ensures .0, value-few (start .args .name .now) (start .args .index) (start .args .x) (start .pre .0))
 
 same-length : tie.Need-same-length
 same-length c = search needs
 
 returns : tie.Need-returns
-returns c = let a = c .before .before .before .before .before .before .args in rest-grown _ (a .out .now) _ _ (a .at) _ _ 64 (c .before .before .value-line .ensures) refl refl (value-few (a .name .now) (a .index) (a .x) (c .before .before .before .before .before .before .pre .0)) (omega arith)
+returns c =
+    let start = c .before .before .before .before .before .before in
+    let a = start .args in
+    rest-grown _ (a .out .now) _ _ (a .at) _ _ 64 (c .before .before .value-line .ensures) refl refl
+    (value-few (a .name .now) (a .index) (a .x) (start .pre .0)) (omega arith)
 
 pub put-value-spec : {M : Type 1} → statement M
 put-value-spec =

@@ -26,7 +26,10 @@ shared-slice-read-x : tie.Need-shared-slice-read-x Inv-loop μ-loop
 shared-slice-read-x c = search needs
 
 put-value-requires : tie.Need-put-value-requires Inv-loop μ-loop
-put-value-requires c κs = (c .before .before .before .before .before .before .before .pre .0, omega (arith, c .before .before .before .loop .inv .2 .few))
+put-value-requires c κs =
+    let loop = c .before .before .before in
+    let start = loop .before .before .before .before in
+    (start .pre .0, omega (arith, loop .loop .inv .2 .few))
 
 add-i : tie.Need-add-i Inv-loop μ-loop
 add-i c = search needs
@@ -35,13 +38,23 @@ loop-less : tie.Need-loop-less Inv-loop μ-loop
 loop-less c = search needs
 
 loop-again : tie.Need-loop-again Inv-loop μ-loop
-loop-again c = let a = c .before .before .before .before .before .before .before .before .before .before .args in (omega arith, omega arith, lines-more (a .name .now) (a .xs .now) (c .before .before .before .before .before .before .loop .i) (a .at) _ _ (a .out .now) _ _ (c .before .before .before .before .before .before .loop .inv .2) (c .before .before .put-value .ensures) (omega arith))
+loop-again c =
+    let loop = c .before .before .before .before .before .before in
+    let start = loop .before .before .before .before in
+    let a = start .args in (
+      omega arith,
+      omega arith,
+      lines-more (a .name .now) (a .xs .now) (loop .loop .i) (a .at) _ _ (a .out .now) _ _ (loop .loop .inv .2) (c .before .before .put-value .ensures)
+          (omega arith),
+    )
 
 same-length : tie.Need-same-length Inv-loop μ-loop
 same-length c = search needs
 
 returns : tie.Need-returns Inv-loop μ-loop
-returns c = let a = c .before .before .before .before .before .args in lines-done (a .name .now) (a .xs .now) (c .before .loop .i) (a .at) _ (a .out .now) _ (c .before .loop .inv .2) (omega arith)
+returns c =
+    let start = c .before .before .before .before .before in
+    let a = start .args in lines-done (a .name .now) (a .xs .now) (c .before .loop .i) (a .at) _ (a .out .now) _ (c .before .loop .inv .2) (omega arith)
 
 pub put-values-spec : {M : Type 1} → statement M
 put-values-spec =
