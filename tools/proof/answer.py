@@ -8,7 +8,7 @@ Replaces single answers of crates/CRATE/proofs/FN/Proof.antt. A block is a line 
   @top    declarations put above the first answer
   @*      a term for every answer that is still `?`
 With PATHS, a file that paths.py printed for FN: ⟨NAME⟩ is the path from c to what NAME tells at that need, ⟨⟩ the path to the arguments, and
-⟦A B⟧ is `, ⟨A⟩ .ensures, ⟨B⟩ .ensures` of those of A, B that are known there.
+⟦A B⟧ is `, ⟨A⟩ .ensures, ⟨B⟩ .ensures` of those of A, B that are known there. Afterwards places.py names the places of the paths.
   answer.py num matvec <<'END'
   @Inv-loop
   (i ≤ n) × (length out ≡ length out₀) × (out ≡ fillTo i (rowDot x p beta) out₀)
