@@ -48,8 +48,13 @@ loop-less c = omega arith
 loop-again : tie.Need-loop-again Inv-loop μ-loop
 unfolding seAt
 loop-again c =
-    let a = c .before .before .before .before .before .before .before .args in
-    (omega arith, simp length-set (omega arith), rw (c .sqrt .ensures, c .before .before .offset .ensures .0) (fill-step (seAt (a .p) (a .v .now)) _ _ _ (c .before .before .before .before .loop .inv .2)))
+    let loop = c .before .before .before .before in
+    let start = loop .before .before .before in
+    let a = start .args in (
+      omega arith,
+      simp length-set (omega arith),
+      rw (c .sqrt .ensures, c .before .before .offset .ensures .0) (fill-step (seAt (a .p) (a .v .now)) _ _ _ (loop .loop .inv .2)),
+    )
 
 same-length : tie.Need-same-length Inv-loop μ-loop
 same-length c = omega arith

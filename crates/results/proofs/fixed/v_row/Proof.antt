@@ -40,7 +40,9 @@ loop-less : tie.Need-loop-less Inv-loop μ-loop
 loop-less c = omega arith
 
 loop-again : tie.Need-loop-again Inv-loop μ-loop
-loop-again c = (omega arith, simp length-set (omega arith), rw (c .v-at .ensures, c .before .before .before .offset .ensures .0) (fillat-step _ _ _ _ _ (c .before .before .loop .inv .2)))
+loop-again c =
+    let offset = c .before .before .before in
+    (omega arith, simp length-set (omega arith), rw (c .v-at .ensures, offset .offset .ensures .0) (fillat-step _ _ _ _ _ (c .before .before .loop .inv .2)))
 
 same-length : tie.Need-same-length Inv-loop μ-loop
 same-length c = omega arith

@@ -45,8 +45,9 @@ loop-less c = omega arith
 loop-again : tie.Need-loop-again Inv-loop μ-loop
 unfolding residualAt
 loop-again c =
-    let a = c .before .before .before .before .args in
-    (omega arith, simp length-set (omega arith), fill-step (residualAt (a .y .now) (a .mu .now)) _ _ _ (c .before .before .before .loop .inv .2))
+    let loop = c .before .before .before in
+    let start = loop .before in
+    let a = start .args in (omega arith, simp length-set (omega arith), fill-step (residualAt (a .y .now) (a .mu .now)) _ _ _ (loop .loop .inv .2))
 
 same-length : tie.Need-same-length Inv-loop μ-loop
 same-length c = omega arith

@@ -18,19 +18,38 @@ copy-requires : tie.Need-copy-requires
 copy-requires c κs = search needs
 
 copy-requires-2 : tie.Need-copy-requires-2
-copy-requires-2 c κs = let s = c .before .before .before .before .before .before .before .before .before .before .before .before .before .before .before .before .before .before .before .before .before .before .before .before .before .before .before .before .before .before .before .before .before .before .before in (omega (arith, s .pre .0 .u-long), omega (arith, s .pre .1 .u-long))
+copy-requires-2 c κs =
+    let start = c .before .before .before .before .before .before .before .before .before .before .before .before .before .before .before .before
+    .before .before .before .before .before .before .before .before .before .before .before .before .before .before .before .before .before .before .before in
+    (omega (arith, start .pre .0 .u-long), omega (arith, start .pre .1 .u-long))
 
 lambda-times-requires : tie.Need-lambda-times-requires
-lambda-times-requires c κs = let s = c .before .before .before .before .before .before .before .before .before .before .before .before .before .before .before .before .before .before .before .before .before .before .before .before .before .before .before .before .before .before .before .before .before .before .before .before .before .before .before in ((s .pre .0 .good, s .pre .0 .effects), (s .pre .0 .numbers, omega (arith, s .pre .0 .u-long), omega (arith, s .pre .1 .b-long)))
+lambda-times-requires c κs =
+    let start = c .before .before .before .before .before .before .before .before .before .before .before
+    .before .before .before .before .before .before .before .before .before .before .before .before .before .before .before
+    .before .before .before .before .before .before .before .before .before .before .before .before .before in
+    ((start .pre .0 .good, start .pre .0 .effects), (start .pre .0 .numbers, omega (arith, start .pre .0 .u-long), omega (arith, start .pre .1 .b-long)))
 
 copy-requires-3 : tie.Need-copy-requires-3
-copy-requires-3 c κs = let s = c .before .before .before .before .before .before .before .before .before .before .before .before .before .before .before .before .before .before .before .before .before .before .before .before .before .before .before .before .before .before .before .before .before .before .before .before .before .before .before .before .before .before .before in (omega (arith, s .pre .0 .mu-long), omega (arith, s .pre .1 .mu-long))
+copy-requires-3 c κs =
+    let start = c .before .before .before .before .before .before .before .before .before .before .before .before
+    .before .before .before .before .before .before .before .before .before .before .before .before .before .before .before .before
+    .before .before .before .before .before .before .before .before .before .before .before .before .before .before .before in
+    (omega (arith, start .pre .0 .mu-long), omega (arith, start .pre .1 .mu-long))
 
 copy-requires-4 : tie.Need-copy-requires-4
-copy-requires-4 c κs = let s = c .before .before .before .before .before .before .before .before .before .before .before .before .before .before .before .before .before .before .before .before .before .before .before .before .before .before .before .before .before .before .before .before .before .before .before .before .before .before .before .before .before .before .before .before .before .before .before in (omega (arith, s .pre .0 .eta-long), omega (arith, s .pre .1 .eta-long))
+copy-requires-4 c κs =
+    let start = c .before .before .before .before .before .before .before .before .before .before .before .before .before .before
+    .before .before .before .before .before .before .before .before .before .before .before .before .before .before .before .before .before .before
+    .before .before .before .before .before .before .before .before .before .before .before .before .before .before .before in
+    (omega (arith, start .pre .0 .eta-long), omega (arith, start .pre .1 .eta-long))
 
 residuals-requires : tie.Need-residuals-requires
-residuals-requires c κs = let s = c .before .before .before .before .before .before .before .before .before .before .before .before .before .before .before .before .before .before .before .before .before .before .before .before .before .before .before .before .before .before .before .before .before .before .before .before .before .before .before .before .before .before .before .before .before .before .before .before .before .before .before in (s .pre .0 .y-long, omega (arith, s .pre .0 .mu-long), omega (arith, s .pre .1 .residual-long))
+residuals-requires c κs =
+    let start = c .before .before .before .before .before .before .before .before .before .before .before .before .before .before .before
+    .before .before .before .before .before .before .before .before .before .before .before .before .before .before .before .before .before .before .before
+    .before .before .before .before .before .before .before .before .before .before .before .before .before .before .before .before .before in
+    (start .pre .0 .y-long, omega (arith, start .pre .0 .mu-long), omega (arith, start .pre .1 .residual-long))
 
 same-length : tie.Need-same-length
 same-length c = search needs
@@ -57,12 +76,29 @@ same-length-8 : tie.Need-same-length-8
 same-length-8 c = search needs
 
 same-length-9 : tie.Need-same-length-9
-same-length-9 c = c .before .before .before .before .before .before .before .before .before .before .before .before .before .before .before .before .before .before .before .before .before .before .before .before .before .before .before .before .before .before .before .before .before .before .before .before .v-rows .kept .1 .1 .0
+same-length-9 c =
+    let v-rows = c .before .before .before .before .before .before .before .before .before .before .before .before .before .before .before .before .before
+    .before .before .before .before .before .before .before .before .before .before .before .before .before .before .before .before .before .before .before in
+    v-rows .v-rows .kept .1 .1 .0
 
 returns : tie.Need-returns
 returns c =
-    let s = c .before .before .before .before .before .before .before .before .before .before .before .before .before .before .before .before .before .before .before .before .before .before .before .before .before .before .before .before .before .before .before .before .before .before .before .before .before .before .before .before .before .before .before .before .before .before .before .before .before .before .before .before .before .before in
-    results-made (s .args .shape) (s .args .n) (s .args .p) (s .args .q) (s .args .theta .now) (s .args .y .now) (s .args .columns .now) (s .args .mode-beta .now) (s .args .mode-u .now) (s .args .mode-mu .now) (s .args .mode-eta .now) (s .args .beta .now) (s .args .se .now) (s .args .z .now) (s .args .u .now) (s .args .b .now) (s .args .mu .now) (s .args .eta .now) (s .args .residual .now) (s .args .v .now) _ _ _ _ _ _ _ _ _ (s .pre .0) (s .pre .1) (c .before .before .before .before .before .before .before .before .before .before .before .before .before .before .before .before .before .before .before .before .before .before .before .before .before .before .before .before .before .before .before .before .before .before .before .before .v-rows .ensures) (c .before .before .before .before .before .before .before .before .before .before .before .before .before .before .before .before .before .before .before .before .before .before .before .before .before .before .before .before .before .before .before .standard-errors .ensures) (c .before .before .before .before .before .before .before .before .before .before .before .before .before .before .before .before .before .before .before .before .before .before .before .before .before .before .z-values .ensures) (c .before .before .before .before .before .before .before .before .before .before .before .before .before .before .before .before .before .before .before .before .before .before .copy .ensures) (c .before .before .before .before .before .before .before .before .before .before .before .before .before .before .before .before .before .before .copy2 .ensures) (c .before .before .before .before .before .before .before .before .before .before .before .before .before .before .lambda-times .ensures) (c .before .before .before .before .before .before .before .before .before .before .copy3 .ensures) (c .before .before .before .before .before .before .copy4 .ensures) (c .before .before .residuals .ensures)
+    let copy4 = c .before .before .before .before .before .before in
+    let copy3 = copy4 .before .before .before .before in
+    let lambda-times = copy3 .before .before .before .before in
+    let copy2 = lambda-times .before .before .before .before in
+    let copy = copy2 .before .before .before .before in
+    let z-values = copy .before .before .before .before in
+    let standard-errors = z-values .before .before .before .before .before in
+    let v-rows = standard-errors .before .before .before .before .before in
+    let start = v-rows .before .before .before .before .before .before .before .before
+    .before .before .before .before .before .before .before .before .before .before in
+    let args = start .args in
+    results-made (args .shape) (args .n) (args .p) (args .q) (args .theta .now) (args .y .now) (args .columns .now) (args .mode-beta .now) (args .mode-u .now)
+    (args .mode-mu .now) (args .mode-eta .now) (args .beta .now) (args .se .now) (args .z .now) (args .u .now) (args .b .now) (args .mu .now) (args .eta .now)
+    (args .residual .now) (args .v .now) _ _ _ _ _ _ _ _ _ (start .pre .0) (start .pre .1) (v-rows .v-rows .ensures) (standard-errors .standard-errors .ensures)
+    (z-values .z-values .ensures) (copy .copy .ensures) (copy2 .copy2 .ensures) (lambda-times .lambda-times .ensures) (copy3 .copy3 .ensures)
+    (copy4 .copy4 .ensures) (c .before .before .residuals .ensures)
 
 pub write-results-spec : {M : Type 1} → statement M
 write-results-spec =
