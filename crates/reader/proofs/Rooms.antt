@@ -9,15 +9,17 @@ use lib.Ieee.{Float}
 use lib.ListN.{length}
 use Rattle.base.specs.List.{build}
 use Rattle.model.proofs.Tests.{both}
+use Rattle.model.specs.declared.sizes.Shape.{Shape}
 use Rattle.job.specs.declared.faults.Fault.{Fault}
 use Rattle.job.specs.declared.faults.Fault.the-variants.{Sound, At}
 use Rattle.job.specs.Lists.{counts, joinTo, laid}
-use Rattle.job.specs.Format.{weighted, shifted, obs, cols, rowsIn, thetas, thetaAt, yAt, weightsAt, offsetAt, xAt, number, startOf}
+use Rattle.job.specs.Format.{weighted, shifted, obs, cols, rowsIn, thetas, thetaAt, yAt, weightsAt, offsetAt, xAt, number, startOf, shapeOf}
 use Rattle.job.specs.Faults.{demand, _▹_, isSound, faultOf}
 use Rattle.job.specs.Job.{columnsOf, valuesOf, sparseOf, jobOf}
 use Rattle.reader.specs.declared.whole.Header.{Header}
-use Rattle.reader.specs.declared.whole.Reading.the-variants.{Refused, Accepted}
-use Rattle.reader.specs.Reading.{roomy, readFault, headerOf, readingBy, filled, leftBy, ReadDone}
+use Rattle.reader.specs.declared.whole.Found.{Found}
+use Rattle.reader.specs.declared.whole.Reading.the-variants.{Accepted}
+use Rattle.reader.specs.Reading.{roomy, readFault, headerOf, refusedAt, foundBy, filled, leftBy, ReadDone}
 use Rattle.model.specs.Inputs.{Inputs, inputs}
 
 -- the lent lists hold any job
@@ -79,10 +81,11 @@ pub sound-is : (f : Fault) → f ≡ Sound → isSound f ≡ true
 unfolding isSound
 sound-is f e = rw e
 
-pub refuses : (s : List ℕ) (b : Inputs) (r c : ℕ) → readFault s b ≡ At r c → ReadDone s b (Refused r c) b
-unfolding readingBy leftBy
-refuses s b r c e = record { says = rw e; leaves = rw e }
+pub refuses : (s : List ℕ) (b : Inputs) (r c : ℕ) (f : Found) → f ≡ refusedAt r c → readFault s b ≡ At r c → ReadDone s b f b
+unfolding foundBy leftBy
+refuses s b r c f g e = record { says = rw e g; leaves = rw e }
 
-pub accepts : (s : List ℕ) (b a : Inputs) (h : Header) → readFault s b ≡ Sound → h ≡ headerOf (jobOf s) → a ≡ filled (jobOf s) b → ReadDone s b (Accepted h) a
-unfolding readingBy leftBy
-accepts s b a h e k l = record { says = rw e (ap Accepted k); leaves = rw e l }
+pub accepts : (s : List ℕ) (b a : Inputs) (h : Header) (k : Shape) → readFault s b ≡ Sound → h ≡ headerOf (jobOf s) → k ≡ shapeOf s → a ≡ filled (jobOf s) b
+    → ReadDone s b (record { reading = Accepted h; shape = k }) a
+unfolding foundBy leftBy jobOf
+accepts s b a h k e g d l = record { says = rw (e, g, d); leaves = rw e l }

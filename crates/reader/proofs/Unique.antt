@@ -6,12 +6,12 @@ use lib.ListN.{length, take, drop}
 use lib.Seq.{take-at}
 use Rattle.base.proofs.Unique.{one-value}
 use Rattle.job.specs.Lists.{laid}
-use Rattle.reader.specs.declared.whole.Reading.{Reading}
+use Rattle.reader.specs.declared.whole.Found.{Found}
 use Rattle.reader.specs.Reading.{ReadDone}
 use Rattle.model.specs.Inputs.{Inputs}
 
 -- `read_job`
-pub read-unique : (s : List ℕ) (before a b : Inputs) (r t : Reading) → ReadDone s before r a → ReadDone s before t b → (r ≡ t) × (a ≡ b)
+pub read-unique : (s : List ℕ) (before a b : Inputs) (r t : Found) → ReadDone s before r a → ReadDone s before t b → (r ≡ t) × (a ≡ b)
 read-unique s before a b r t p q = (one-value (p .says) (q .says), one-value (p .leaves) (q .leaves))
 
 -- the front of a list that another was laid over is that other

@@ -6,14 +6,13 @@ use Prim.Native.Nat.{ℕ}
 use lib.Dec.{leb}
 use lib.ListN.{length, replicate}
 use Rattle.model.specs.Inputs.{Inputs}
-use Rattle.model.specs.declared.sizes.Shape.{Shape}
 use Rattle.job.specs.declared.faults.Fault.{Fault}
 use Rattle.job.specs.declared.faults.Fault.the-variants.{Sound, At}
 use Rattle.job.specs.Lists.{laid}
 use Rattle.job.specs.Faults.{demand, _▹_, faultOf}
 use Rattle.job.specs.Job.{Job, jobOf}
 use Rattle.reader.specs.declared.whole.Header.{Header}
-use Rattle.reader.specs.declared.whole.Reading.{Reading}
+use Rattle.reader.specs.declared.whole.Found.{Found}
 use Rattle.reader.specs.declared.whole.Reading.the-variants.{Refused, Accepted}
 
 -- lent lists have room for any job that is not refused
@@ -30,10 +29,14 @@ readFault s b = demand (roomy b) 2 0 ▹ faultOf s
 unfoldable pub headerOf : Job → Header
 headerOf j = record { settings = j .settings; thetas = length (j .theta); weights = length (j .weights); offset = length (j .offset) }
 
--- the answer
-unfoldable pub readingBy : Fault → Job → Reading
-readingBy Sound j = Accepted (headerOf j)
-readingBy (At r b) j = Refused r b
+-- a refusal, with no blocks beside it
+unfoldable pub refusedAt : ℕ → ℕ → Found
+refusedAt r b = record { reading = Refused r b; shape = record { count = 0; m = replicate 8 0; k = replicate 8 0 } }
+
+-- what is found: a refusal, or the job's header and beside it its blocks
+unfoldable pub foundBy : Fault → Job → Found
+foundBy Sound j = record { reading = Accepted (headerOf j); shape = j .shape }
+foundBy (At r b) j = refusedAt r b
 
 -- the lent lists with a job's over their fronts
 unfoldable pub filled : Job → Inputs → Inputs
@@ -54,12 +57,7 @@ unfoldable pub leftBy : Fault → Job → Inputs → Inputs
 leftBy Sound j b = filled j b
 leftBy (At r c) j b = b
 
--- reading: the answer and what the lent lists hold
-pub record ReadDone (s : List ℕ) (before : Inputs) (r : Reading) (after : Inputs) : Type 0 where
-  pub says : r ≡ readingBy (readFault s before) (jobOf s)
+-- reading: what is found, and what the lent lists hold
+pub record ReadDone (s : List ℕ) (before : Inputs) (f : Found) (after : Inputs) : Type 0 where
+  pub says : f ≡ foundBy (readFault s before) (jobOf s)
   pub leaves : after ≡ leftBy (readFault s before) (jobOf s) before
-
--- the blocks of a job, none of one that is refused
-unfoldable pub shapeBy : Fault → Shape → Shape
-shapeBy Sound h = h
-shapeBy (At r b) h = record { count = 0; m = replicate 8 0; k = replicate 8 0 }

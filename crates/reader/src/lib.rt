@@ -2,7 +2,7 @@
 mod lists;
 mod whole;
 
+pub use whole::Found;
 pub use whole::Header;
 pub use whole::Reading;
 pub use whole::read_job;
-pub use whole::read_shape;

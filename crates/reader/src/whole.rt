@@ -12,10 +12,10 @@ use model::Shape;
 ghost use mathlib.Core.Path.{_≡_};
 ghost use mathlib.Core.Bool.{true};
 ghost use Rattle.model.specs.Names.{familyCoded, linkCoded};
-ghost use Rattle.job.specs.Format.{rowsIn, startOf, shapeOf};
+ghost use Rattle.job.specs.Format.{rowsIn, startOf};
 ghost use Rattle.job.specs.Faults.{isSound, faultOf};
 ghost use Rattle.job.specs.Job.{familyFrom, linkFrom, limitFrom, jobOf};
-ghost use Rattle.reader.specs.Reading.{roomy, headerOf, filled, ReadDone, shapeBy};
+ghost use Rattle.reader.specs.Reading.{roomy, headerOf, filled, refusedAt, ReadDone};
 ghost use Rattle.model.specs.Inputs.{inputs};
 
 // What is told of an accepted job beside its lists: the plain numbers of the call, and the lengths of theta, weights and offset.
@@ -30,6 +30,12 @@ pub struct Header {
 pub enum Reading {
     Refused(u64, usize),
     Accepted(Header),
+}
+
+// What reading a job finds: the reading, and beside it the job's blocks, none where it is refused.
+pub struct Found {
+    pub reading: Reading,
+    pub shape: Shape,
 }
 
 // Two bits always name a family.
@@ -172,6 +178,19 @@ fn fill_job(
     read_rows(s, z, q, starts, columns, values)
 }
 
+// A refused job has no blocks.
+fn refusal(number: u64, byte: usize) -> Found
+    ensures { λ r. ⌜ r ≡ refusedAt number byte ⌝ }
+{
+    let reading = Reading::Refused(number, byte);
+    let shape = Shape {
+        count: 0,
+        m: [0; 8],
+        k: [0; 8],
+    };
+    Found { reading, shape }
+}
+
 // Reads a job. Slices without room for any job are refused with 2 at byte 0, whatever the job.
 pub fn read_job(
     s: &[u8],
@@ -183,33 +202,24 @@ pub fn read_job(
     starts: &mut [usize],
     columns: &mut [usize],
     values: &mut [f64],
-) -> Reading
-    ensures { λ r. ⌜ ReadDone (now (s .entry)) (inputs (now (theta .entry)) (now (y .entry)) (now (weights .entry)) (now (offset .entry)) (now (x .entry)) (now (starts .entry)) (now (columns .entry)) (now (values .entry))) r (inputs (now (theta .exit)) (now (y .exit)) (now (weights .exit)) (now (offset .exit)) (now (x .exit)) (now (starts .exit)) (now (columns .exit)) (now (values .exit))) ⌝ }
+) -> Found
+    ensures { λ r. ⌜ ReadDone (now (s .entry))
+        (inputs (now (theta .entry)) (now (y .entry)) (now (weights .entry)) (now (offset .entry)) (now (x .entry)) (now (starts .entry)) (now (columns .entry)) (now (values .entry)))
+        r
+        (inputs (now (theta .exit)) (now (y .exit)) (now (weights .exit)) (now (offset .exit)) (now (x .exit)) (now (starts .exit)) (now (columns .exit)) (now (values .exit))) ⌝ }
 {
     let room = room_in(theta, y, weights, offset, x, starts, columns, values);
     if !room {
-        return Reading::Refused(2, 0);
+        return refusal(2, 0);
     }
     match job::fault_in(s) {
-        Fault::At(number, byte) => Reading::Refused(number, byte),
+        Fault::At(number, byte) => refusal(number, byte),
         Fault::Sound => {
+            let shape = job::shape_in(s);
             let entries = fill_job(s, theta, y, weights, offset, x, starts, columns, values);
             let header = header_in(s, entries);
-            Reading::Accepted(header)
+            let reading = Reading::Accepted(header);
+            Found { reading, shape }
         }
-    }
-}
-
-// The blocks of a job, which an answer cannot hold; none where the job is refused.
-pub fn read_shape(s: &[u8]) -> Shape
-    ensures { λ r. ⌜ r ≡ shapeBy (faultOf (now (s .entry))) (shapeOf (now (s .entry))) ⌝ }
-{
-    match job::fault_in(s) {
-        Fault::At(_, _) => Shape {
-            count: 0,
-            m: [0; 8],
-            k: [0; 8],
-        },
-        Fault::Sound => job::shape_in(s),
     }
 }

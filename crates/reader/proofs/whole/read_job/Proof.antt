@@ -2,12 +2,16 @@
 use mathlib.Core.Path.{refl, sym, _∙_}
 use borrow.Author.Needs.{needs}
 use borrow.Author.Tests.{not-true, not-false}
+use Rattle.job.proofs.RowLaws.{sound-fits}
 use Rattle.reader.proofs.Rooms.{no-room, with-room, sound-is, refuses, accepts}
 use Rattle.reader.proofs.whole.read_job.Statement.{statement}
 use Rattle.reader.proofs.whole.read_job.Tie as tie
 
 room-in-requires : tie.Need-room-in-requires
 room-in-requires c κs = search needs
+
+refusal-requires : tie.Need-refusal-requires
+refusal-requires c κs = search needs
 
 same-length : tie.Need-same-length
 same-length c = refl
@@ -35,7 +39,8 @@ same-length-8 c = refl
 
 returns : tie.Need-returns
 returns c =
-    refuses _ _ 2 0 (no-room _ _ (sym (c .before .room-in .ensures) ∙ not-true (c .before .room-in .result) (c .if1 .taken)))
+    let looked = c .before .before in
+    refuses _ _ 2 0 _ (c .refusal .ensures) (no-room _ _ (sym (looked .room-in .ensures) ∙ not-true (looked .room-in .result) (c .before .if1 .taken)))
 
 fault-in-requires : tie.Need-fault-in-requires
 fault-in-requires c κs = search needs
@@ -43,16 +48,29 @@ fault-in-requires c κs = search needs
 enum-known-number : tie.Need-enum-known-number
 enum-known-number c = search needs
 
+refusal-requires-2 : tie.Need-refusal-requires-2
+refusal-requires-2 c κs = search needs
+
 enum-told : tie.Need-enum-told
 enum-told c = search needs
 
+shape-in-requires : tie.Need-shape-in-requires
+shape-in-requires c κs =
+    let f = sound-fits _ (sound-is _ (sym (c .before .before .fault-in .ensures) ∙ c .enum-told .given .1)) in
+    (f .fitting .0, f .small .few)
+
 fill-job-requires : tie.Need-fill-job-requires
 fill-job-requires c κs =
-    (sound-is _ (sym (c .before .before .before .before .before .before .before .before .before .before .fault-in .ensures) ∙ c .before .before .before .before .before .before .before .before .enum-told .given .1), sym (c .before .before .before .before .before .before .before .before .before .before .before .before .room-in .ensures) ∙ not-false (c .before .before .before .before .before .before .before .before .before .before .before .before .room-in .result) (c .before .before .before .before .before .before .before .before .before .before .before .if1 .left))
+    let told = c .before .before .before .before .before .before .before .before .before in
+    let faults = told .before .before in
+    let looked = faults .before .before in
+    (sound-is _ (sym (faults .fault-in .ensures) ∙ told .enum-told .given .1), sym (looked .room-in .ensures) ∙ not-false (looked .room-in .result) (faults .before .if1 .left))
 
 header-in-requires : tie.Need-header-in-requires
 header-in-requires c κs =
-    (sound-is _ (sym (c .before .before .before .before .before .before .before .before .before .before .before .before .before .before .before .before .before .before .before .before .before .before .before .before .before .before .before .fault-in .ensures) ∙ c .before .before .before .before .before .before .before .before .before .before .before .before .before .before .before .before .before .before .before .before .before .before .before .before .before .enum-told .given .1), c .before .before .before .before .before .before .before .before .before .before .before .before .before .before .before .before .fill-job .ensures .0)
+    let filled = c .before .before .before .before .before .before .before .before .before .before .before .before .before .before .before .before in
+    let told = filled .before .before .before .before .before .before .before .before .before .before in
+    (sound-is _ (sym (told .before .before .fault-in .ensures) ∙ told .enum-told .given .1), filled .fill-job .ensures .0)
 
 same-length-9 : tie.Need-same-length-9
 same-length-9 c = refl
@@ -80,43 +98,67 @@ same-length-16 c = refl
 
 returns-2 : tie.Need-returns-2
 returns-2 c =
-    let room = sym (c .before .before .before .before .before .room-in .ensures) ∙ not-false (c .before .before .before .before .before .room-in .result) (c .before .before .before .before .if1 .left) in
-    refuses _ _ _ _ (with-room _ _ room ∙ sym (c .before .before .before .fault-in .ensures) ∙ c .before .number .given .1)
+    let faults = c .before .before .before .before in
+    let looked = faults .before .before in
+    let room = sym (looked .room-in .ensures) ∙ not-false (looked .room-in .result) (faults .before .if1 .left) in
+    refuses _ _ _ _ _ (c .refusal2 .ensures) (with-room _ _ room ∙ sym (faults .fault-in .ensures) ∙ c .before .before .number .given .1)
 
 same-length-17 : tie.Need-same-length-17
-same-length-17 c = c .before .before .before .before .before .before .before .before .before .before .before .before .before .before .before .before .before .fill-job .kept .1 .0
+same-length-17 c =
+    let filled = c .before .before .before .before .before .before .before .before .before .before .before .before .before .before .before .before .before in
+    filled .fill-job .kept .1 .0
 
 same-length-18 : tie.Need-same-length-18
-same-length-18 c = c .before .before .before .before .before .before .before .before .before .before .before .before .before .before .before .before .before .fill-job .kept .1 .1 .0
+same-length-18 c =
+    let filled = c .before .before .before .before .before .before .before .before .before .before .before .before .before .before .before .before .before in
+    filled .fill-job .kept .1 .1 .0
 
 same-length-19 : tie.Need-same-length-19
-same-length-19 c = c .before .before .before .before .before .before .before .before .before .before .before .before .before .before .before .before .before .fill-job .kept .1 .1 .1 .0
+same-length-19 c =
+    let filled = c .before .before .before .before .before .before .before .before .before .before .before .before .before .before .before .before .before in
+    filled .fill-job .kept .1 .1 .1 .0
 
 same-length-20 : tie.Need-same-length-20
-same-length-20 c = c .before .before .before .before .before .before .before .before .before .before .before .before .before .before .before .before .before .fill-job .kept .1 .1 .1 .1 .0
+same-length-20 c =
+    let filled = c .before .before .before .before .before .before .before .before .before .before .before .before .before .before .before .before .before in
+    filled .fill-job .kept .1 .1 .1 .1 .0
 
 same-length-21 : tie.Need-same-length-21
-same-length-21 c = c .before .before .before .before .before .before .before .before .before .before .before .before .before .before .before .before .before .fill-job .kept .1 .1 .1 .1 .1 .0
+same-length-21 c =
+    let filled = c .before .before .before .before .before .before .before .before .before .before .before .before .before .before .before .before .before in
+    filled .fill-job .kept .1 .1 .1 .1 .1 .0
 
 same-length-22 : tie.Need-same-length-22
-same-length-22 c = c .before .before .before .before .before .before .before .before .before .before .before .before .before .before .before .before .before .fill-job .kept .1 .1 .1 .1 .1 .1 .0
+same-length-22 c =
+    let filled = c .before .before .before .before .before .before .before .before .before .before .before .before .before .before .before .before .before in
+    filled .fill-job .kept .1 .1 .1 .1 .1 .1 .0
 
 same-length-23 : tie.Need-same-length-23
-same-length-23 c = c .before .before .before .before .before .before .before .before .before .before .before .before .before .before .before .before .before .fill-job .kept .1 .1 .1 .1 .1 .1 .1 .0
+same-length-23 c =
+    let filled = c .before .before .before .before .before .before .before .before .before .before .before .before .before .before .before .before .before in
+    filled .fill-job .kept .1 .1 .1 .1 .1 .1 .1 .0
 
 same-length-24 : tie.Need-same-length-24
-same-length-24 c = c .before .before .before .before .before .before .before .before .before .before .before .before .before .before .before .before .before .fill-job .kept .1 .1 .1 .1 .1 .1 .1 .1 .0
+same-length-24 c =
+    let filled = c .before .before .before .before .before .before .before .before .before .before .before .before .before .before .before .before .before in
+    filled .fill-job .kept .1 .1 .1 .1 .1 .1 .1 .1 .0
 
 returns-3 : tie.Need-returns-3
 returns-3 c =
-    let room = sym (c .before .before .before .before .before .before .before .before .before .before .before .before .before .before .before .before .before .before .before .before .before .before .before .before .before .before .before .before .before .before .room-in .ensures) ∙ not-false (c .before .before .before .before .before .before .before .before .before .before .before .before .before .before .before .before .before .before .before .before .before .before .before .before .before .before .before .before .before .before .room-in .result) (c .before .before .before .before .before .before .before .before .before .before .before .before .before .before .before .before .before .before .before .before .before .before .before .before .before .before .before .before .before .if1 .left) in
-    accepts _ _ _ _ (with-room _ _ room ∙ sym (c .before .before .before .before .before .before .before .before .before .before .before .before .before .before .before .before .before .before .before .before .before .before .before .before .before .before .before .before .fault-in .ensures) ∙ c .before .before .before .before .before .before .before .before .before .before .before .before .before .before .before .before .before .before .before .before .before .before .before .before .before .before .enum-told .given .1) (c .header-in .ensures) (c .before .before .before .before .before .before .before .before .before .before .before .before .before .before .before .before .before .fill-job .ensures .1)
+    let filled = c .before .before .before .before .before .before .before .before .before .before .before .before .before .before .before .before .before in
+    let shaped = filled .before .before .before .before .before .before .before .before .before in
+    let faults = shaped .before .before .before in
+    let looked = faults .before .before in
+    let room = sym (looked .room-in .ensures) ∙ not-false (looked .room-in .result) (faults .before .if1 .left) in
+    let sound = with-room _ _ room ∙ sym (faults .fault-in .ensures) ∙ shaped .before .enum-told .given .1 in
+    accepts _ _ _ _ _ sound (c .header-in .ensures) (shaped .shape-in .ensures) (filled .fill-job .ensures .1)
 
 pub read-job-spec : {M : Type 1} → statement M
 read-job-spec =
     tie.close
     (tie.spec
     room-in-requires
+    refusal-requires
     same-length
     same-length-2
     same-length-3
@@ -128,7 +170,9 @@ read-job-spec =
     returns
     fault-in-requires
     enum-known-number
+    refusal-requires-2
     enum-told
+    shape-in-requires
     fill-job-requires
     header-in-requires
     same-length-9
