@@ -1,5 +1,5 @@
 -- What reading leaves in the fronts of the slices is the job, so that a call of those fronts is a call of the job. Assumes nothing.
-use mathlib.Core.Path.{_≡_, refl}
+use mathlib.Core.Path.{_≡_, refl, sym, ap, _∙_}
 use mathlib.Core.Bool.{true}
 use mathlib.Core.List.{List}
 use Prim.Native.Nat.{ℕ, _+_, _*_, _≤_}
@@ -12,42 +12,48 @@ use Rattle.base.proofs.Fills.{build-length}
 use Rattle.job.specs.declared.faults.Fault.{Fault}
 use Rattle.job.specs.declared.faults.Fault.the-variants.{Sound, At}
 use Rattle.job.specs.Lists.{laid}
-use Rattle.job.specs.Format.{obs, cols, shapeOf, rowsIn, startOf}
+use Rattle.job.specs.Format.{obs, cols, rowsIn, startOf}
 use Rattle.job.specs.Faults.{faultOf}
 use Rattle.job.specs.Job.{settingsOf, sparseOf, jobOf, faulty, sound, readBy, readOf}
 use Rattle.job.proofs.ListLaws.{counts-length, laid-length}
 use Rattle.job.proofs.RowLaws.{Fits, sound-fits, row-starts, columns-before, values-before}
 use Rattle.reader.specs.declared.whole.Header.{Header}
-use Rattle.reader.specs.declared.whole.Reading.{Reading}
+use Rattle.reader.specs.declared.whole.Found.{Found}
 use Rattle.reader.specs.declared.whole.Reading.the-variants.{Refused, Accepted}
-use Rattle.reader.specs.Reading.{roomy, headerOf, readingBy, filled, leftBy, ReadDone, shapeBy}
+use Rattle.reader.specs.Reading.{roomy, headerOf, refusedAt, foundBy, filled, leftBy, ReadDone}
 use Rattle.model.specs.Inputs.{Inputs, inputs}
 use Rattle.reader.proofs.Rooms.{Room, room-of, with-room, sound-is}
 use Rattle.jobfit.specs.Done.{inputsAt}
 use Rattle.jobfit.specs.Room.{Fronts, frontsOf}
 
 -- a job that was refused, with room for any, had that fault
-refused-fault : (s : List ℕ) (b a : Inputs) (r c : ℕ) (g : Reading) → roomy b ≡ true → g ≡ Refused r c → ReadDone s b g a → faultOf s ≡ At r c
-unfolding readingBy
-refused-fault s b a r c g room t d = by (faultOf s) refl (rw (t, with-room s b room) at (d .says))
+refused-fault : (s : List ℕ) (b a : Inputs) (r c : ℕ) (g : Found) → roomy b ≡ true → g .reading ≡ Refused r c → ReadDone s b g a → faultOf s ≡ At r c
+unfolding foundBy refusedAt
+refused-fault s b a r c g room t d = by (faultOf s) refl (sym t ∙ ap (λ (x : Found). x .reading) (rw (with-room s b room) at (d .says)))
   where
-    by : (f : Fault) → faultOf s ≡ f → Refused r c ≡ readingBy f (jobOf s) → faultOf s ≡ At r c
+    by : (f : Fault) → faultOf s ≡ f → Refused r c ≡ foundBy f (jobOf s) .reading → faultOf s ≡ At r c
     by Sound e p = let z : _≡_ {A = ℕ} 0 1 = cc in absurd (omega arith)
     by (At v k) e p = cc
 
 -- a job that was accepted is sound, and was told and laid
-record ReadSound (s : List ℕ) (b : Inputs) (h : Header) (a : Inputs) : Type 0 where
+record ReadSound (s : List ℕ) (b : Inputs) (h : Header) (g : Found) (a : Inputs) : Type 0 where
   fault : faultOf s ≡ Sound
   header : h ≡ headerOf (jobOf s)
+  shape : g .shape ≡ jobOf s .shape
   lists : a ≡ filled (jobOf s) b
 
-accepted-sound : (s : List ℕ) (b a : Inputs) (h : Header) (g : Reading) → roomy b ≡ true → g ≡ Accepted h → ReadDone s b g a → ReadSound s b h a
-unfolding readingBy leftBy
-accepted-sound s b a h g room t d = by (faultOf s) refl (rw (t, with-room s b room) at (d .says)) (rw (with-room s b room) at (d .leaves))
+accepted-sound : (s : List ℕ) (b a : Inputs) (h : Header) (g : Found) → roomy b ≡ true → g .reading ≡ Accepted h → ReadDone s b g a → ReadSound s b h g a
+unfolding foundBy refusedAt leftBy
+accepted-sound s b a h g room t d = by (faultOf s) refl (rw (with-room s b room) at (d .says)) (rw (with-room s b room) at (d .leaves))
   where
-    by : (f : Fault) → faultOf s ≡ f → Accepted h ≡ readingBy f (jobOf s) → a ≡ leftBy f (jobOf s) b → ReadSound s b h a
-    by Sound e p q = record { fault = e; header = cc; lists = q }
-    by (At v k) e p q = let z : _≡_ {A = ℕ} 0 1 = cc in absurd (omega arith)
+    by : (f : Fault) → faultOf s ≡ f → g ≡ foundBy f (jobOf s) → a ≡ leftBy f (jobOf s) b → ReadSound s b h g a
+    by Sound e p q =
+        let told : Accepted h ≡ Accepted (headerOf (jobOf s)) = sym t ∙ ap (λ (x : Found). x .reading) p in
+        record { fault = e; header = cc; shape = ap (λ (x : Found). x .shape) p; lists = q }
+    by (At v k) e p q =
+        let told : Accepted h ≡ Refused v k = sym t ∙ ap (λ (x : Found). x .reading) p in
+        let z : _≡_ {A = ℕ} 0 1 = cc in
+        absurd (omega arith)
 
 -- the front of a list that was laid
 laid-front : {A : Type 0} (n : ℕ) (xs b : List A) → length xs ≡ n → take n (laid xs b) ≡ xs
@@ -119,10 +125,10 @@ theta-is s b = laid-front _ _ (b .theta) refl
 
 -- ---- after reading, with room for any job
 -- what was read is a job; its settings, its blocks and its theta are there, and its lists with any theta
-pub record ReadJob (s : List ℕ) (h : Header) (a : Inputs) : Type 0 where
+pub record ReadJob (s : List ℕ) (h : Header) (g : Found) (a : Inputs) : Type 0 where
   pub read : readOf s ≡ sound (jobOf s)
   pub settings : h .settings ≡ jobOf s .settings
-  pub shape : shapeBy (faultOf s) (shapeOf s) ≡ jobOf s .shape
+  pub shape : g .shape ≡ jobOf s .shape
   pub own : take (h .thetas) (a .theta) ≡ jobOf s .theta
   pub at : (theta : List Float) → frontsOf h (beside theta a) ≡ inputsAt theta (jobOf s)
 
@@ -134,20 +140,16 @@ read-faulty : (s : List ℕ) (r c : ℕ) → faultOf s ≡ At r c → readOf s �
 unfolding readOf readBy
 read-faulty s r c e = rw e refl
 
-shape-sound : (s : List ℕ) → faultOf s ≡ Sound → shapeBy (faultOf s) (shapeOf s) ≡ jobOf s .shape
-unfolding shapeBy jobOf
-shape-sound s e = rw e refl
-
 header-settings : (s : List ℕ) → headerOf (jobOf s) .settings ≡ jobOf s .settings
 unfolding headerOf
 header-settings s = refl
 
-module _ (s : List ℕ) (b a : Inputs) (g : Reading) (room : roomy b ≡ true) (d : ReadDone s b g a) where
-  pub read-refused : (r c : ℕ) → g ≡ Refused r c → readOf s ≡ faulty r c
+module _ (s : List ℕ) (b a : Inputs) (g : Found) (room : roomy b ≡ true) (d : ReadDone s b g a) where
+  pub read-refused : (r c : ℕ) → g .reading ≡ Refused r c → readOf s ≡ faulty r c
   read-refused r c t = read-faulty s r c (refused-fault s b a r c g room t d)
 
-  module _ (h : Header) (t : g ≡ Accepted h) where
-    accepted : ReadSound s b h a
+  module _ (h : Header) (t : g .reading ≡ Accepted h) where
+    accepted : ReadSound s b h g a
     accepted = accepted-sound s b a h g room t d
 
     pub fronts-fit : (theta : List Float) → Fronts h (beside theta a)
@@ -156,12 +158,12 @@ module _ (s : List ℕ) (b a : Inputs) (g : Reading) (room : roomy b ≡ true) (
     pub theta-fits : h .thetas ≤ length (a .theta)
     theta-fits = rw (accepted .header, accepted .lists) (theta-there s b (room-of b room) (sound-fits s (sound-is _ (accepted .fault))))
 
-    pub read-job : ReadJob s h a
+    pub read-job : ReadJob s h g a
     read-job =
         record {
           read = read-sound s (accepted .fault);
           settings = rw (accepted .header) (header-settings s);
-          shape = shape-sound s (accepted .fault);
+          shape = accepted .shape;
           own = rw (accepted .header, accepted .lists) (theta-is s b);
           at = λ (theta : List Float). rw (accepted .header, accepted .lists) (fronts-are s b theta);
         }
