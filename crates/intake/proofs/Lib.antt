@@ -1,0 +1,2 @@
+-- The laws of reading an input. Assumes nothing.
+pub mod Steps
