@@ -146,8 +146,8 @@ fn put_rows(header: Header, starts: &[usize], columns: &[usize], values: &[f64])
 }
 
 fn put_accepted(
-    job: &[u8],
     header: Header,
+    shape: Shape,
     theta: &[f64],
     y: &[f64],
     weights: &[f64],
@@ -160,7 +160,7 @@ fn put_accepted(
     let settings = header.settings;
     let n = settings.n;
     put_header(header);
-    put_shape(reader::read_shape(job));
+    put_shape(shape);
     put_lists(header, theta, y, weights, offset, x);
     put_rows(header, starts, columns, values);
     put_values(y, n);
@@ -176,7 +176,7 @@ fn one_job(job: &[u8]) {
     let mut starts = [9usize; 34];
     let mut columns = [9usize; 8193];
     let mut values = [9.0; 8193];
-    let reading = reader::read_job(
+    let found = reader::read_job(
         job,
         &mut theta,
         &mut y,
@@ -187,11 +187,13 @@ fn one_job(job: &[u8]) {
         &mut columns,
         &mut values,
     );
+    let shape = found.shape;
+    let reading = found.reading;
     match reading {
         Reading::Refused(number, byte) => put_refused(number, byte),
         Reading::Accepted(header) => put_accepted(
-            job,
             header,
+            shape,
             &theta,
             &y,
             &weights,
