@@ -1,7 +1,8 @@
 // Bits of a byte slice, most significant first: what stands at a position, and the record that holds the slice and a position.
 // The record's three functions are thin: `take` leaves the work to `bits_at`, and `read` has plain parameters, for its callers.
 ghost use mathlib.Core.Path.{_≡_};
-ghost use Prim.Native.Nat.{_*_, _<_, _^_};
+ghost use Prim.Native.Nat.{_+_, _*_, _<_, _≤_, _^_};
+ghost use Rattle.base.specs.Sum.{_!!_};
 ghost use lib.ListN.{length};
 ghost use Rattle.bits.specs.Bits.{bitOf, bitsOf, doubleOf, Inside};
 
@@ -13,7 +14,7 @@ pub struct BitReader<'a> {
 
 // A byte as a number that it can be shifted and summed in.
 fn wide(x: u8) -> u64
-    ensures { λ r. ⌜ r ≡ x ⌝ }
+    ensures { λ r. ⌜ (r ≡ x) × (r < 256) ⌝ }
 {
     x as u64
 }
@@ -73,10 +74,33 @@ pub fn field_at(s: &[u8], at: usize, width: usize) -> usize
     read(s, at, width) as usize
 }
 
+// Byte i as a number.
+fn byte_at(s: &[u8], i: usize) -> u64
+    requires { ⌜ i < length (now s) ⌝ }
+    ensures { λ r. ⌜ (r ≡ (now (s .entry) !! i)) × (r < 256) ⌝ }
+{
+    wide(s[i])
+}
+
+// The number that the eight bytes from byte p on make, the first counting most.
+pub fn word_at(s: &[u8], p: usize) -> u64
+    requires { ⌜ p + 8 ≤ length (now s) ⌝ }
+    ensures { λ r. ⌜ r ≡ bitsOf (now (s .entry)) (8 * p) 64 ⌝ }
+{
+    let a = byte_at(s, p);
+    let b = a * 256 + byte_at(s, p + 1);
+    let c = b * 256 + byte_at(s, p + 2);
+    let d = c * 256 + byte_at(s, p + 3);
+    let e = d * 256 + byte_at(s, p + 4);
+    let f = e * 256 + byte_at(s, p + 5);
+    let g = f * 256 + byte_at(s, p + 6);
+    g * 256 + byte_at(s, p + 7)
+}
+
 // The double in the eight bytes from byte p on; every pattern is read, a NaN's as NaN.
 pub fn double_at(s: &[u8], p: usize) -> f64
-    requires { ⌜ Inside 64 (now s) (8 * p) 64 ⌝ }
+    requires { ⌜ p + 8 ≤ length (now s) ⌝ }
     ensures { λ r. ⌜ r ≡ doubleOf (now (s .entry)) p ⌝ }
 {
-    base::double(read(s, 8 * p, 64))
+    base::double(word_at(s, p))
 }

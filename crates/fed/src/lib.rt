@@ -21,7 +21,7 @@ fn least(a: usize, b: usize) -> usize
 pub fn word() -> u64 {
     let mut bytes = [0u8; 8];
     io::read_full(0, &mut bytes);
-    bits::read(&bytes, 0, 64)
+    bits::word_at(&bytes, 0)
 }
 
 // The next word as a count.

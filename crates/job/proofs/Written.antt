@@ -26,7 +26,8 @@ use Rattle.job.proofs.ListLaws.{counts-length, counts-at, laid-at, join
 use Rattle.job.proofs.FaultLaws.{both, demanded, reached, pair-reached}
 use Rattle.job.proofs.SizeLaws.{Small}
 use Rattle.job.proofs.RowLaws.{Fits, sound-fits, row-before, start-next, columns-before, values-before}
-use Rattle.job.proofs.ByteLaws.{Bytes, split, part, part-none, part-add, bytes-are, join-parts, joined, whole}
+use Rattle.bits.proofs.ByteLaws.{split}
+use Rattle.job.proofs.ByteLaws.{Bytes, part, part-none, part-add, bytes-are, join-parts, joined, whole}
 
 -- ---- the header's numbers are written as they were read
 pub family-back : (c : ℕ) → c < 4 → familyCode (familyFrom (familyCoded c)) ≡ c

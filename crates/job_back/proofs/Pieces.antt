@@ -18,7 +18,8 @@ use Rattle.bits.proofs.BitLaws.{bits-below}
 use Rattle.job.specs.Lists.{joinTo}
 use Rattle.job.specs.Write.{bytesOf, numberBytes}
 use Rattle.job.proofs.ListLaws.{join-at}
-use Rattle.job.proofs.ByteLaws.{Bytes, split, byte-is}
+use Rattle.bits.proofs.ByteLaws.{split, byte-is}
+use Rattle.job.proofs.ByteLaws.{Bytes}
 
 -- ---- every entry is a byte
 pub bytes-none : Bytes []
@@ -92,7 +93,7 @@ has-number s i (suc n) v b h l =
     let front = has-number s i n (v / 256) b (has-left s i (bytesOf n (v / 256)) (v % 256 ∷ []) h) (omega arith) in
     let last : s !! (i + n) ≡ v % 256 = rw add-zero at (has-right s i n (bytesOf n (v / 256)) (v % 256 ∷ []) (bytes-length n (v / 256)) h 0 (omega arith)) in
     let place : 8 * i + 8 * n ≡ 8 * (i + n) = omega arith in
-    rw (w, split s (8 * i) (8 * n) 8, place, front, byte-is s (i + n) b, last) (omega arith)
+    rw (w, split s (8 * i) (8 * n) 8, place, front, byte-is s (i + n) (b (i + n)), last) (omega arith)
 
 -- ---- a number of two fields
 below-not : (m x a y b : ℕ) → x * m + a ≡ y * m + b → a < m → x < y → ⊥

@@ -16,7 +16,7 @@ shr-result : tie.Need-shr-result
 shr-result c = search needs
 
 returns : tie.Need-returns
-returns c = rw (c .wide .ensures)
+returns c = rw (c .wide .ensures .0)
 
 pub bit-at-spec : {M : Type 1} → statement M
 bit-at-spec =

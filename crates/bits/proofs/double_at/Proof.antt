@@ -1,21 +1,18 @@
--- `bits::double_at` meets its contract: the double of the pattern that `read` answers is the definition's. Assumes nothing.
+-- `bits::double_at` meets its contract: the double of the pattern that `word_at` answers is the definition's. Assumes nothing.
 use borrow.Author.Needs.{needs}
 use Rattle.bits.specs.Bits.{doubleOf}
 use Rattle.bits.proofs.double_at.Statement.{statement}
 use Rattle.bits.proofs.double_at.Tie as tie
 
-mul-read : tie.Need-mul-read
-mul-read c = search needs
-
-read-requires : tie.Need-read-requires
-read-requires c κs = search needs
+word-at-requires : tie.Need-word-at-requires
+word-at-requires c κs = search needs
 
 double-requires : tie.Need-double-requires
 double-requires c κs = search needs
 
 returns : tie.Need-returns
 unfolding doubleOf
-returns c = rw (c .double .ensures, c .before .read .ensures)
+returns c = rw (c .double .ensures, c .before .word-at .ensures)
 
 pub double-at-spec : {M : Type 1} → statement M
-double-at-spec = tie.close (tie.spec mul-read read-requires double-requires returns)
+double-at-spec = tie.close (tie.spec word-at-requires double-requires returns)
