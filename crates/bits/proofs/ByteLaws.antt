@@ -1,12 +1,13 @@
 -- Laws of whole bytes: a number of a + b bits is two numbers, eight bits are a byte, and so a number of whole bytes goes on by its next byte. Assumes nothing.
-use mathlib.Core.Path.{_≡_}
+use mathlib.Core.Path.{_≡_, ap, _∙_}
 use mathlib.Core.List.{List}
-use Prim.Native.Nat.{ℕ, zero, suc, _+_, _*_, _-_, _<_, _/_, _%_, _^_}
-use native.Mathlib.Nat.{two-pow-succ, add-zero, zero-add, zero-mul, div-one, mul-add, div-div-eq-div-mul}
+use Prim.Native.Nat.{ℕ, zero, suc, _+_, _*_, _-_, _<_, _≤_, _/_, _%_, _^_}
+use native.Mathlib.Nat.{two-pow-succ, add-zero, zero-add, zero-mul, div-one, mul-add, div-div-eq-div-mul, div-eq-of-lt, mod-eq-of-lt, mul-add-div-right, mul-add-mod-self-right, one-le-pow}
 use native.Mathlib.Omega.{arith}
 use lib.Dec.{lit<}
 use Rattle.base.specs.Sum.{_!!_}
 use Rattle.bits.specs.Bits.{bitOf, bitsOf}
+use Rattle.bits.proofs.BitLaws.{bits-below}
 
 -- ---- a number of a + b bits is one of a bits and one of b bits
 pub split : (s : List ℕ) (at a b : ℕ) → bitsOf s at (a + b) ≡ bitsOf s at a * 2 ^ b + bitsOf s (at + a) b
@@ -88,3 +89,20 @@ eight-bytes s p a b c d e f g h ka kb kc kd ke kf kg kh =
     let six = next-byte s p 5 _ _ five (kf .0) (kf .1) in
     let seven = next-byte s p 6 _ _ six (kg .0) (kg .1) in
     next-byte s p 7 _ _ seven (kh .0) (kh .1)
+
+-- ---- a field of at most 16 bits lies in the three bytes from its first one on
+pub field-is : (s : List ℕ) (at w a b c : ℕ) → w ≤ 16 → IsByte s (at / 8) a → IsByte s (at / 8 + 1) b → IsByte s (at / 8 + 2) c
+    → ((a * 256 + b) * 256 + c) / 2 ^ (24 - at % 8 - w) % 2 ^ w ≡ bitsOf s at w
+field-is s at w a b c l ka kb kc =
+    let i = at / 8 in
+    let o = at % 8 in
+    let r = 24 - at % 8 - w in
+    let one = first-byte s i a (ka .0) (ka .1) in
+    let two = next-byte s i 1 _ _ one (kb .0) (kb .1) in
+    let three : (a * 256 + b) * 256 + c ≡ bitsOf s (8 * i) 24 = next-byte s i 2 _ _ two (kc .0) (kc .1) in
+    let whole : 24 ≡ o + w + r = omega arith in
+    let place : 8 * i + o ≡ at = omega arith in
+    let all : bitsOf s (8 * i) 24 ≡ bitsOf s (8 * i) (o + w) * 2 ^ r + bitsOf s (8 * i + (o + w)) r = ap (bitsOf s (8 * i)) whole ∙ split s (8 * i) (o + w) r in
+    let cut : bitsOf s (8 * i + (o + w)) r / 2 ^ r ≡ 0 = div-eq-of-lt (bits-below s (8 * i + (o + w)) r) in
+    let rest : bitsOf s at w % 2 ^ w ≡ bitsOf s at w = mod-eq-of-lt (bits-below s at w) in
+    rw (three, all, mul-add-div-right (one-le-pow r 2 (lit< tt)) (bitsOf s (8 * i) (o + w)) (bitsOf s (8 * i + (o + w)) r), cut, add-zero, split s (8 * i) o w, place, mul-add-mod-self-right (bitsOf s (8 * i) o) (2 ^ w) (bitsOf s at w), rest)

@@ -1,7 +1,6 @@
 -- The bits of a list of bytes, the numbers that they make, and the double of eight bytes. Document 01, "The job and the program", its first sentences. Assumes nothing.
 use mathlib.Core.List.{List}
-use Prim.Native.Nat.{ℕ, zero, suc, _+_, _*_, _-_, _/_, _%_, _^_, _≤_}
-use lib.ListN.{length}
+use Prim.Native.Nat.{ℕ, zero, suc, _+_, _*_, _-_, _/_, _%_, _^_, _≤_, _<_}
 use lib.Ieee.{Float}
 use Rattle.base.specs.Number.{bits}
 use Rattle.base.specs.Sum.{_!!_}
@@ -19,6 +18,6 @@ bitsOf s at (suc n) = bitsOf s at n * 2 + bitOf s (at + n)
 unfoldable pub doubleOf : List ℕ → ℕ → Float
 doubleOf s p = bits (bitsOf s (8 * p) 64)
 
--- the n bits from at on, at most so many, lie in a list that is no longer than a job may be
-abbrev pub Inside : ℕ → List ℕ → ℕ → ℕ → Type 0
-Inside most s at n = (at + n ≤ length s * 8) × ((n ≤ most) × (length s ≤ 65536))
+-- n bits from at on, at most 16 of them, at a place within 512 megabytes
+abbrev pub Near : ℕ → ℕ → Type 0
+Near at n = (at < 2 ^ 32) × (n ≤ 16)

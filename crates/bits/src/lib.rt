@@ -1,10 +1,10 @@
-// Bits of a byte slice, most significant first: what stands at a position, and the record that holds the slice and a position.
-// The record's three functions are thin: `take` leaves the work to `bits_at`, and `read` has plain parameters, for its callers.
+// Bits of a byte slice, most significant first, 0 past its end: what stands at a position, and the record that holds the slice and a position and is moved on over its fields.
+// The record's three functions are thin: `take` leaves the work to `field_at`.
 ghost use mathlib.Core.Path.{_≡_};
 ghost use Prim.Native.Nat.{_+_, _*_, _<_, _≤_, _^_};
-ghost use Rattle.base.specs.Sum.{_!!_};
 ghost use lib.ListN.{length};
-ghost use Rattle.bits.specs.Bits.{bitOf, bitsOf, doubleOf, Inside};
+ghost use Rattle.base.specs.Sum.{_!!_};
+ghost use Rattle.bits.specs.Bits.{bitsOf, doubleOf, Near};
 
 // A job's bytes, and how many of its bits were passed.
 pub struct BitReader<'a> {
@@ -19,28 +19,43 @@ fn wide(x: u8) -> u64
     x as u64
 }
 
-// Bit p of the slice.
-fn bit_at(s: &[u8], p: usize) -> u64
-    requires { ⌜ p < length (now s) * 8 ⌝ }
-    ensures { λ r. ⌜ r ≡ bitOf (now (s .entry)) p ⌝ }
+// Byte i as a number.
+fn byte_at(s: &[u8], i: usize) -> u64
+    requires { ⌜ i < length (now s) ⌝ }
+    ensures { λ r. ⌜ (r ≡ (now (s .entry) !! i)) × (r < 256) ⌝ }
 {
-    let b = wide(s[p / 8]);
-    (b >> (7 - p % 8)) % 2
+    wide(s[i])
 }
 
-// The number that `width` bits from `at` on make.
-fn bits_at(s: &[u8], at: usize, width: usize) -> u64
-    requires { ⌜ Inside 64 (now s) at width ⌝ }
-    ensures { λ r. ⌜ r ≡ bitsOf (now (s .entry)) at width ⌝ }
+// Byte i as a number, 0 past the end.
+fn byte_or(s: &[u8], i: usize) -> u64
+    ensures { λ r. ⌜ (r ≡ (now (s .entry) !! i)) × (r < 256) ⌝ }
 {
-    let mut v: u64 = 0;
-    let mut i = 0;
-    while i < width {
-        let b = bit_at(s, at + i);
-        v = v * 2 + b;
-        i += 1;
+    if i < s.len() {
+        return byte_at(s, i);
     }
-    v
+    0
+}
+
+// How many numbers n bits make.
+fn power(n: usize) -> u64
+    requires { ⌜ n ≤ 16 ⌝ }
+    ensures { λ r. ⌜ (r ≡ 2 ^ n) × (1 ≤ r) ⌝ }
+{
+    1 << n
+}
+
+// The number that `width` bits from `at` on make, at most 16: they lie in three bytes.
+pub fn field_at(s: &[u8], at: usize, width: usize) -> usize
+    requires { ⌜ Near at width ⌝ }
+    ensures { λ r. ⌜ (r ≡ bitsOf (now (s .entry)) at width) × (r < 2 ^ width) ⌝ }
+{
+    let i = at / 8;
+    let a = byte_or(s, i);
+    let b = a * 256 + byte_or(s, i + 1);
+    let c = b * 256 + byte_or(s, i + 2);
+    let cut = c >> (24 - at % 8 - width);
+    (cut % power(width)) as usize
 }
 
 // A reader of these bytes that stands at bit `at`.
@@ -51,35 +66,22 @@ pub fn new<'a>(src: &'a [u8], at: usize) -> BitReader<'a>
 }
 
 // The number that the next `width` bits make.
-pub fn take<'a>(r: BitReader<'a>, width: usize) -> u64
-    requires { ⌜ Inside 64 (now (r .src)) (r .at) width ⌝ }
+pub fn take<'a>(r: BitReader<'a>, width: usize) -> usize
+    requires { ⌜ Near (r .at) width ⌝ }
     ensures { λ t. ⌜ t ≡ bitsOf (now (r .entry .src)) (r .entry .at) width ⌝ }
 {
-    bits_at(r.src, r.at, width)
+    field_at(r.src, r.at, width)
 }
 
-// The same from a slice and a position.
-pub fn read(s: &[u8], at: usize, width: usize) -> u64
-    requires { ⌜ Inside 64 (now s) at width ⌝ }
-    ensures { λ r. ⌜ r ≡ bitsOf (now (s .entry)) at width ⌝ }
+// The reader behind them.
+pub fn past<'a>(r: BitReader<'a>, width: usize) -> BitReader<'a>
+    requires { ⌜ Near (r .at) width ⌝ }
+    ensures { λ q. ⌜ (q .src ≡ r .entry .src) × (q .at ≡ r .entry .at + width) ⌝ }
 {
-    take(new(s, at), width)
-}
-
-// A field of at most 32 bits as a size, with its bound.
-pub fn field_at(s: &[u8], at: usize, width: usize) -> usize
-    requires { ⌜ Inside 32 (now s) at width ⌝ }
-    ensures { λ r. ⌜ (r ≡ bitsOf (now (s .entry)) at width) × (r < 2 ^ width) ⌝ }
-{
-    read(s, at, width) as usize
-}
-
-// Byte i as a number.
-fn byte_at(s: &[u8], i: usize) -> u64
-    requires { ⌜ i < length (now s) ⌝ }
-    ensures { λ r. ⌜ (r ≡ (now (s .entry) !! i)) × (r < 256) ⌝ }
-{
-    wide(s[i])
+    BitReader {
+        src: r.src,
+        at: r.at + width,
+    }
 }
 
 // The number that the eight bytes from byte p on make, the first counting most.

@@ -6,7 +6,7 @@ use Prim.Native.Nat.{ℕ, zero, suc, _+_, _*_, _-_, _≤_, _<_, _/_}
 use native.Mathlib.Omega.{arith}
 use lib.Dec.{leb, ltb, eqb}
 use lib.ListN.{length}
-use borrow.Author.Tests.{le-leb, lt-leb, leb-true, eq-eqb, ne-eqb}
+use borrow.Author.Tests.{le-leb, lt-leb, leb-true, eq-eqb}
 use Rattle.bits.specs.Bits.{bitsOf}
 use Rattle.job.specs.declared.faults.Fault.{Fault}
 use Rattle.job.specs.declared.faults.Fault.the-variants.{Sound, At}
@@ -26,9 +26,16 @@ pub spare-yes : (s : List ℕ) (p w z : ℕ) → z ≡ bitsOf s p w → z ≡ 0 
 unfolding spare demand
 spare-yes s p w z e h = rw (← e, eq-eqb z 0 h)
 
-pub spare-no : (s : List ℕ) (p w z b : ℕ) → z ≡ bitsOf s p w → (z ≡ 0 → ⊥) → p / 8 ≡ b → spare s p w ≡ At 22 b
-unfolding spare demand
-spare-no s p w z b e h d = rw (← e, ne-eqb z 0 h, d)
+-- the two demands on two bytes
+pub pair-cut : (s : List ℕ) (p w : ℕ) → length s < p + 2 → At 20 (length s) ≡ pairFault s p w
+unfolding pairFault _▹_
+pair-cut s p w l = rw (reach-no s (8 * p + 16) (omega arith))
+
+pub pair-tested : (s : List ℕ) (p w z : ℕ) → p + 2 ≤ length s → 1 ≤ w → w ≤ 8 → z ≡ bitsOf s (8 * p + (16 - w)) w → demand (eqb z 0) 22 (p + 1) ≡ pairFault s p w
+unfolding pairFault spare _▹_
+pair-tested s p w z l a b e =
+    let d : (8 * p + (16 - w)) / 8 ≡ p + 1 = omega arith in
+    rw (reach-yes s (8 * p + 16) (omega arith), d, e)
 
 -- ---- the first of two
 pub go : (f g : Fault) → isSound f ≡ true → f ▹ g ≡ g
@@ -40,6 +47,11 @@ pub stop : (f g : Fault) → isSound f ≡ false → f ▹ g ≡ f
 unfolding isSound _▹_
 stop Sound g e = cc
 stop (At r b) g e = refl
+
+pub regroup : (f g h : Fault) → (f ▹ g) ▹ h ≡ f ▹ (g ▹ h)
+unfolding _▹_
+regroup Sound g h = refl
+regroup (At r b) g h = refl
 
 pub nothing : (f : Fault) → f ▹ Sound ≡ f
 unfolding _▹_

@@ -2,6 +2,7 @@
 pub mod ListLaws
 pub mod FaultLaws
 pub mod SizeLaws
+pub mod SurveyLaws
 pub mod RowLaws
 pub mod ByteLaws
 pub mod Written

@@ -15,11 +15,7 @@ use Rattle.job.specs.declared.sizes.Places.{Places}
 use Rattle.job.specs.Places.{countsOf, placesOf, CountsFew}
 use Rattle.job.specs.Format.{blocksAt, groups, effectsIn, weighted, shifted, obs, cols, blocks, shapeOf, rowsIn, thetas, sizesFit, zAt}
 
--- the header is six bytes long at least, and seven at most
-pub head-long : (s : List ℕ) → 6 ≤ blocksAt s
-unfolding blocksAt
-head-long s = omega arith
-
+-- the header is seven bytes long at most
 pub head-short : (s : List ℕ) → blocksAt s ≤ 7
 unfolding blocksAt
 head-short s = omega arith

@@ -6,7 +6,7 @@ use Prim.Native.Nat.{ℕ, _*_, _≤_}
 use lib.ListN.{length}
 use Rattle.job.specs.declared.sizes.Counts.{Counts}
 use Rattle.job.specs.declared.sizes.Places.{Places}
-use Rattle.job.specs.Format.{weighted, shifted, obs, cols, blocks, rowsIn, thetas, sizesFit, thetaAt, yAt, weightsAt, offsetAt, xAt, zAt}
+use Rattle.job.specs.Format.{weighted, shifted, obs, cols, rowsIn, thetas, sizesFit, thetaAt, yAt, weightsAt, offsetAt, xAt, zAt}
 
 -- how many numbers of each kind
 abbrev pub countsOf : List ℕ → Counts
@@ -29,10 +29,6 @@ pub record CountsFew (c : Counts) : Type 0 where
 -- the header and the blocks are there, in a job of at most 65,536 bytes
 abbrev pub Blocked : List ℕ → Type 0
 Blocked s = (length s ≤ 65536) × (thetaAt s ≤ length s)
-
--- and they are at most 8
-abbrev pub Few : List ℕ → Type 0
-Few s = Blocked s × (blocks s ≤ 8)
 
 -- and all sizes are in range
 abbrev pub Fitting : List ℕ → Type 0

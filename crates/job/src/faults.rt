@@ -1,14 +1,14 @@
-// The first fault of a job, from left to right, in a walk over the bytes that writes nothing.
+// The faults of a job's parts, from left to right, in a walk over the bytes that writes nothing.
+use crate::head::Head;
+use crate::head::piece_in;
 use crate::sizes::blocks_at;
-use crate::sizes::counts_in;
-use crate::sizes::places_in;
-use crate::sizes::sizes_fit;
 ghost use mathlib.Core.Path.{_≡_};
-ghost use Prim.Native.Nat.{_≤_, _<_};
+ghost use Prim.Native.Nat.{_+_, _*_, _≤_, _<_};
+ghost use lib.Dec.{eqb};
 ghost use lib.ListN.{length};
-ghost use Rattle.job.specs.Format.{blocksAt};
-ghost use Rattle.job.specs.Places.{Blocked};
-ghost use Rattle.job.specs.Faults.{isSound, headFault, pairFault, blocksFault, entryFault, entriesFault, rowFault, rowsFault, numbersFault, bodyFault, faultOf};
+ghost use Rattle.job.specs.Format.{blocks, blocksAt};
+ghost use Rattle.job.specs.Heads.{headOf};
+ghost use Rattle.job.specs.Faults.{demand, _▹_, isSound, reaches, headFault, pairFault, blocksFault, entryFault, entriesFault, rowFault, rowsFault};
 
 // What is wrong with a job: nothing, or a refusal's number and its byte.
 pub enum Fault {
@@ -27,52 +27,69 @@ pub fn is_sound(f: Fault) -> bool
 }
 
 // The header: version, link and limit, each once its bits are there.
-fn head_fault(s: &[u8]) -> Fault
-    requires { ⌜ length (now s) ≤ 65536 ⌝ }
+fn head_fault(s: &[u8], head: Head) -> Fault
+    requires { ⌜ (length (now s) ≤ 65536) × (head ≡ headOf (now s)) ⌝ }
     ensures { λ r. ⌜ r ≡ headFault (now (s .entry)) ⌝ }
 {
     let end = s.len();
     if end < 1 {
         return Fault::At(20, end);
     }
-    let version = bits::field_at(s, 0, 4);
-    if version != 1 {
+    if head.version != 1 {
         return Fault::At(21, 0);
     }
     if end < 2 {
         return Fault::At(20, end);
     }
-    let link = bits::field_at(s, 6, 3);
-    if 7 <= link {
+    if 7 <= head.link {
         return Fault::At(24, 0);
     }
     if end < 6 {
         return Fault::At(20, end);
     }
-    let limit = bits::field_at(s, 38, 10);
-    if 1000 < limit {
-        if limit < 1023 {
+    if 1000 < head.limit {
+        if head.limit < 1023 {
             return Fault::At(24, 4);
         }
     }
     Fault::Sound
 }
 
-// Two bytes at p, the last w bits of which are zero bits.
-fn pair_fault(s: &[u8], p: usize, w: usize) -> Fault
-    requires { ⌜ (length (now s) ≤ 65536) × (p ≤ 4000000) × (1 ≤ w) × (w ≤ 8) ⌝ }
-    ensures { λ r. ⌜ r ≡ pairFault (now (s .entry)) p w ⌝ }
+// The bits behind a number, which are zero bits, stand in the byte behind p.
+fn spare_fault(zeros: usize, p: usize) -> Fault
+    requires { ⌜ p ≤ 4000000 ⌝ }
+    ensures { λ r. ⌜ r ≡ demand (eqb zeros 0) 22 (p + 1) ⌝ }
+{
+    if zeros != 0 {
+        return Fault::At(22, p + 1);
+    }
+    Fault::Sound
+}
+
+// Two bytes at p, the last three bits of which are zero bits.
+fn pair_fault(s: &[u8], p: usize) -> Fault
+    requires { ⌜ (length (now s) ≤ 65536) × (p ≤ 4000000) ⌝ }
+    ensures { λ r. ⌜ r ≡ pairFault (now (s .entry)) p 3 ⌝ }
 {
     let end = s.len();
     if end < p + 2 {
         return Fault::At(20, end);
     }
-    let from = 8 * p + (16 - w);
-    let zeros = bits::field_at(s, from, w);
-    if zeros != 0 {
-        return Fault::At(22, p + 1);
+    let zeros = bits::field_at(s, 8 * p + 13, 3);
+    spare_fault(zeros, p)
+}
+
+// A block at byte p.
+fn block_fault(s: &[u8], p: usize) -> Fault
+    requires { ⌜ (length (now s) ≤ 65536) × (p ≤ 4000000) ⌝ }
+    ensures { λ r. ⌜ r ≡ pairFault (now (s .entry)) p 5 ⌝ }
+{
+    let end = s.len();
+    if end < p + 2 {
+        return Fault::At(20, end);
     }
-    Fault::Sound
+    let piece = piece_in(s, 8 * p);
+    spare_fault(piece.zeros, p)
 }
 
 // n blocks from byte p on.
@@ -83,7 +100,7 @@ fn blocks_fault(s: &[u8], p: usize, n: usize) -> Fault
     let mut at = p;
     let mut i = 0;
     while i < n {
-        let f = pair_fault(s, at, 5);
+        let f = block_fault(s, at);
         let ok = is_sound(f);
         if !ok {
             return f;
@@ -99,7 +116,7 @@ fn entry_fault(s: &[u8], p: usize) -> Fault
     requires { ⌜ (length (now s) ≤ 65536) × (p ≤ 4000000) ⌝ }
     ensures { λ r. ⌜ r ≡ entryFault (now (s .entry)) p ⌝ }
 {
-    let f = pair_fault(s, p, 3);
+    let f = pair_fault(s, p);
     let ok = is_sound(f);
     if !ok {
         return f;
@@ -135,7 +152,7 @@ fn row_fault(s: &[u8], p: usize) -> Fault
     requires { ⌜ (length (now s) ≤ 65536) × (p < 3000000) ⌝ }
     ensures { λ r. ⌜ r ≡ rowFault (now (s .entry)) p ⌝ }
 {
-    let f = pair_fault(s, p, 3);
+    let f = pair_fault(s, p);
     let ok = is_sound(f);
     if !ok {
         return f;
@@ -167,52 +184,28 @@ fn rows_fault(s: &[u8], p: usize, n: usize) -> Fault
     Fault::Sound
 }
 
-// The job past its blocks: the sizes, the doubles, the rows of Z', the end.
-fn numbers_fault(s: &[u8]) -> Fault
-    requires { ⌜ Blocked (now s) ⌝ }
-    ensures { λ r. ⌜ r ≡ numbersFault (now (s .entry)) ⌝ }
+// The header, and then its blocks.
+pub fn front_fault(s: &[u8], head: Head) -> Fault
+    requires { ⌜ (length (now s) ≤ 65536) × (head ≡ headOf (now s)) ⌝ }
+    ensures { λ r. ⌜ r ≡ headFault (now (s .entry)) ▹ blocksFault (now (s .entry)) (blocksAt (now (s .entry))) (blocks (now (s .entry))) ⌝ }
 {
-    let fits = sizes_fit(s);
-    if !fits {
-        return Fault::At(1, 0);
+    let f = head_fault(s, head);
+    let ok = is_sound(f);
+    if !ok {
+        return f;
     }
-    let at = places_in(s);
+    let first = blocks_at(s);
+    blocks_fault(s, first, head.blocks)
+}
+
+// The doubles up to byte z, and then the q rows of Z'.
+pub fn back_fault(s: &[u8], z: usize, q: usize) -> Fault
+    requires { ⌜ (length (now s) ≤ 65536) × (z ≤ 100000) × (q ≤ 32) ⌝ }
+    ensures { λ r. ⌜ r ≡ reaches (now (s .entry)) (8 * z) ▹ rowsFault (now (s .entry)) z q ⌝ }
+{
     let end = s.len();
-    let z = at.z;
     if end < z {
         return Fault::At(20, end);
     }
-    let c = counts_in(s);
-    let q = c.q;
     rows_fault(s, z, q)
-}
-
-// The job past its header.
-fn body_fault(s: &[u8]) -> Fault
-    requires { ⌜ (length (now s) ≤ 65536) × (blocksAt (now s) ≤ length (now s)) ⌝ }
-    ensures { λ r. ⌜ r ≡ bodyFault (now (s .entry)) ⌝ }
-{
-    let first = blocks_at(s);
-    let b = bits::field_at(s, 34, 4);
-    let f = blocks_fault(s, first, b);
-    let ok = is_sound(f);
-    if !ok {
-        return f;
-    }
-    numbers_fault(s)
-}
-
-// What is wrong with a job, the first fault from left to right.
-pub fn fault_in(s: &[u8]) -> Fault
-    ensures { λ r. ⌜ r ≡ faultOf (now (s .entry)) ⌝ }
-{
-    if 65536 < s.len() {
-        return Fault::At(25, 65536);
-    }
-    let f = head_fault(s);
-    let ok = is_sound(f);
-    if !ok {
-        return f;
-    }
-    body_fault(s)
 }

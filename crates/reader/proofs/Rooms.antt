@@ -1,5 +1,5 @@
 -- The room of the lent lists as facts, and reading put together: what is refused leaves them as they were, a sound job is filled in. Assumes nothing.
-use mathlib.Core.Path.{_≡_, ap}
+use mathlib.Core.Path.{_≡_, sym, _∙_}
 use mathlib.Core.Bool.{true, false}
 use mathlib.Core.List.{List}
 use Prim.Native.Nat.{ℕ, _+_, _*_, _≤_}
@@ -15,6 +15,9 @@ use Rattle.job.specs.declared.faults.Fault.the-variants.{Sound, At}
 use Rattle.job.specs.Lists.{counts, joinTo, laid}
 use Rattle.job.specs.Format.{weighted, shifted, obs, cols, rowsIn, thetas, thetaAt, yAt, weightsAt, offsetAt, xAt, number, startOf, shapeOf}
 use Rattle.job.specs.Faults.{demand, _▹_, isSound, faultOf}
+use Rattle.job.specs.declared.survey.Survey.{Survey}
+use Rattle.job.specs.Survey.{surveyOf, readOff}
+use Rattle.job.proofs.SurveyLaws.{survey-fault, survey-sound}
 use Rattle.job.specs.Job.{columnsOf, valuesOf, sparseOf, jobOf}
 use Rattle.reader.specs.declared.whole.Header.{Header}
 use Rattle.reader.specs.declared.whole.Found.{Found}
@@ -80,6 +83,12 @@ with-room s b e = rw e
 pub sound-is : (f : Fault) → f ≡ Sound → isSound f ≡ true
 unfolding isSound
 sound-is f e = rw e
+
+-- what was found of a sound job
+pub surveyed : (s : List ℕ) (v : Survey) → v ≡ surveyOf s → v .fault ≡ Sound → (faultOf s ≡ Sound) × (v ≡ readOff (faultOf s) s)
+surveyed s v e h =
+    let f : faultOf s ≡ Sound = sym (survey-fault s v e) ∙ h in
+    (f, survey-sound s v e (sound-is (faultOf s) f))
 
 pub refuses : (s : List ℕ) (b : Inputs) (r c : ℕ) (f : Found) → f ≡ refusedAt r c → readFault s b ≡ At r c → ReadDone s b f b
 unfolding foundBy leftBy

@@ -1,7 +1,10 @@
-// A whole job: first every fault is looked for, then the numbers are read.
+// A whole job: first every fault is looked for, in one walk that also finds the sizes, then the numbers are read.
 use crate::lists::read_numbers;
 use crate::lists::read_rows;
+use job::Counts;
 use job::Fault;
+use job::Head;
+use job::Places;
 use model::Family;
 use model::FamilyFound;
 use model::Limit;
@@ -14,6 +17,8 @@ ghost use mathlib.Core.Bool.{true};
 ghost use Rattle.model.specs.Names.{familyCoded, linkCoded};
 ghost use Rattle.job.specs.Format.{rowsIn, startOf};
 ghost use Rattle.job.specs.Faults.{isSound, faultOf};
+ghost use Rattle.job.specs.Heads.{headOf};
+ghost use Rattle.job.specs.Places.{countsOf, placesOf};
 ghost use Rattle.job.specs.Job.{familyFrom, linkFrom, limitFrom, jobOf};
 ghost use Rattle.reader.specs.Reading.{roomy, headerOf, filled, refusedAt, ReadDone};
 ghost use Rattle.model.specs.Inputs.{inputs};
@@ -68,18 +73,16 @@ fn limit_in(code: usize) -> Limit
     Limit::Given(code)
 }
 
-// What is told of a sound job, given how many entries its rows have.
-fn header_in(s: &[u8], entries: usize) -> Header
-    requires { ⌜ isSound (faultOf (now s)) ≡ true ⌝ }
-    requires { ⌜ entries ≡ startOf (now s) (rowsIn (now s)) ⌝ }
+// What is told of a job, given its header, its counts and how many entries its rows have.
+fn header_in(s: &[u8], head: Head, c: Counts, entries: usize) -> Header
+    requires { ⌜ (head ≡ headOf (now s)) × (c ≡ countsOf (now s)) × (entries ≡ startOf (now s) (rowsIn (now s))) ⌝ }
     ensures { λ r. ⌜ r ≡ headerOf (jobOf (now (s .entry))) ⌝ }
 {
-    let c = job::counts_in(s);
-    let family = family_in(bits::field_at(s, 4, 2));
-    let link = link_in(bits::field_at(s, 6, 3));
-    let n_agq = bits::field_at(s, 11, 5);
-    let limit = limit_in(bits::field_at(s, 38, 10));
-    let p = bits::field_at(s, 29, 5);
+    let family = family_in(head.family);
+    let link = link_in(head.link);
+    let limit = limit_in(head.limit);
+    let n_agq = head.n_agq;
+    let p = head.p;
     let n = c.n;
     let rows = c.q;
     let thetas = c.thetas;
@@ -143,6 +146,8 @@ fn room_in(
 // Every list of a sound job into the lent slices; answers the number of entries of Z'.
 fn fill_job(
     s: &[u8],
+    c: Counts,
+    at: Places,
     theta: &mut [f64],
     y: &mut [f64],
     weights: &mut [f64],
@@ -153,11 +158,10 @@ fn fill_job(
     values: &mut [f64],
 ) -> usize
     requires { ⌜ isSound (faultOf (now s)) ≡ true ⌝ }
+    requires { ⌜ (c ≡ countsOf (now s)) × (at ≡ placesOf (now s)) ⌝ }
     requires { ⌜ roomy (inputs (now theta) (now y) (now weights) (now offset) (now x) (now starts) (now columns) (now values)) ≡ true ⌝ }
     ensures { λ r. ⌜ (r ≡ startOf (now (s .entry)) (rowsIn (now (s .entry)))) × (inputs (now (theta .exit)) (now (y .exit)) (now (weights .exit)) (now (offset .exit)) (now (x .exit)) (now (starts .exit)) (now (columns .exit)) (now (values .exit)) ≡ filled (jobOf (now (s .entry))) (inputs (now (theta .entry)) (now (y .entry)) (now (weights .entry)) (now (offset .entry)) (now (x .entry)) (now (starts .entry)) (now (columns .entry)) (now (values .entry)))) ⌝ }
 {
-    let c = job::counts_in(s);
-    let at = job::places_in(s);
     let thetas = c.thetas;
     let theta_at = at.theta;
     read_numbers(s, theta_at, thetas, theta);
@@ -212,12 +216,29 @@ pub fn read_job(
     if !room {
         return refusal(2, 0);
     }
-    match job::fault_in(s) {
+    let survey = job::survey_in(s);
+    let fault = survey.fault;
+    match fault {
         Fault::At(number, byte) => refusal(number, byte),
         Fault::Sound => {
-            let shape = job::shape_in(s);
-            let entries = fill_job(s, theta, y, weights, offset, x, starts, columns, values);
-            let header = header_in(s, entries);
+            let head = survey.head;
+            let shape = survey.shape;
+            let c = survey.counts;
+            let at = survey.places;
+            let entries = fill_job(
+                s,
+                c,
+                at,
+                theta,
+                y,
+                weights,
+                offset,
+                x,
+                starts,
+                columns,
+                values,
+            );
+            let header = header_in(s, head, c, entries);
             let reading = Reading::Accepted(header);
             Found { reading, shape }
         }

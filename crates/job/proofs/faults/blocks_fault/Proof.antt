@@ -20,8 +20,8 @@ abbrev μ-loop : tie.MeasureT-loop
 loop-holds : tie.Need-loop-holds Inv-loop μ-loop
 loop-holds c = (omega arith, omega arith, rw sub-zero)
 
-pair-fault-requires : tie.Need-pair-fault-requires Inv-loop μ-loop
-pair-fault-requires c κs = search needs
+block-fault-requires : tie.Need-block-fault-requires Inv-loop μ-loop
+block-fault-requires c κs = search needs
 
 is-sound-requires : tie.Need-is-sound-requires Inv-loop μ-loop
 is-sound-requires c κs = search needs
@@ -30,8 +30,8 @@ returns : tie.Need-returns Inv-loop μ-loop
 returns c =
     let l = c .before .before .before .before in
     let f = c .before .before in
-    let e : isSound (f .pair-fault .result) ≡ false = sym (c .before .is-sound .ensures) ∙ not-true _ (c .if1 .taken) in
-    f .pair-fault .ensures ∙ sym (blocks-off _ _ _ _ (c .before .before .before .loop-test .taken) (rw (f .pair-fault .ensures) at e)) ∙ l .loop .inv .2
+    let e : isSound (f .block-fault .result) ≡ false = sym (c .before .is-sound .ensures) ∙ not-true _ (c .if1 .taken) in
+    f .block-fault .ensures ∙ sym (blocks-off _ _ _ _ (c .before .before .before .loop-test .taken) (rw (f .block-fault .ensures) at e)) ∙ l .loop .inv .2
 
 add-at : tie.Need-add-at Inv-loop μ-loop
 add-at c = search needs
@@ -46,8 +46,8 @@ loop-again : tie.Need-loop-again Inv-loop μ-loop
 loop-again c =
     let l = c .before .before .before .before in
     let f = c .before .before in
-    let e : isSound (f .pair-fault .result) ≡ true = sym (c .before .is-sound .ensures) ∙ not-false _ (c .if1 .left) in
-    (omega arith, omega arith, sym (blocks-on _ _ _ _ (c .before .before .before .loop-test .taken) (rw (f .pair-fault .ensures) at e)) ∙ l .loop .inv .2)
+    let e : isSound (f .block-fault .result) ≡ true = sym (c .before .is-sound .ensures) ∙ not-false _ (c .if1 .left) in
+    (omega arith, omega arith, sym (blocks-on _ _ _ _ (c .before .before .before .loop-test .taken) (rw (f .block-fault .ensures) at e)) ∙ l .loop .inv .2)
 
 returns-2 : tie.Need-returns-2 Inv-loop μ-loop
 returns-2 c = sym (blocks-end _ _ _ _ (c .loop-test .left)) ∙ c .before .loop .inv .2
@@ -59,7 +59,7 @@ blocks-fault-spec =
     Inv-loop
     μ-loop
     loop-holds
-    pair-fault-requires
+    block-fault-requires
     is-sound-requires
     returns
     add-at

@@ -11,55 +11,49 @@ fits : (c : tie.Start) → Fits (c .args .s .now)
 fits c = sound-fits _ (c .pre .0)
 
 room : (c : tie.Start) → Room (inputs (c .args .theta .now) (c .args .y .now) (c .args .weights .now) (c .args .offset .now) (c .args .x .now) (c .args .starts .now) (c .args .columns .now) (c .args .values .now))
-room c = room-of _ (c .pre .1)
-
-counts-in-requires : tie.Need-counts-in-requires
-counts-in-requires c κs = fits (c .before .before .before .before .before .before .before .before .before) .fitting
-
-places-in-requires : tie.Need-places-in-requires
-places-in-requires c κs = fits (c .before .before .before .before .before .before .before .before .before .before) .fitting
+room c = room-of _ (c .pre .1 .1)
 
 read-numbers-requires : tie.Need-read-numbers-requires
 read-numbers-requires c κs =
-    let a = c .before .before .before .before .before .before .before .before .before .before .before .before in
+    let a = c .before .before .before .before .before .before .before .before .before .before in
     let f = fits a in
     let r = room a in
-    rw (c .before .places-in .ensures .0, c .before .before .counts-in .ensures .0) (f .fitting .0 .0, omega (arith, f .whole), omega (arith, f .small .packed, r .thetaRoom))
+    rw (a .pre .1 .0 .1, a .pre .1 .0 .0) (f .fitting .0 .0, omega (arith, f .whole), omega (arith, f .small .packed, r .thetaRoom))
 
 read-numbers-requires-2 : tie.Need-read-numbers-requires-2
 read-numbers-requires-2 c κs =
-    let a = c .before .before .before .before .before .before .before .before .before .before .before .before .before .before .before .before in
+    let a = c .before .before .before .before .before .before .before .before .before .before .before .before .before .before in
     let f = fits a in
     let r = room a in
-    rw (c .before .before .before .before .before .places-in .ensures .0, c .before .before .before .before .before .before .counts-in .ensures .0) (f .fitting .0 .0, omega (arith, f .whole), omega (arith, f .small .rows, r .yRoom))
+    rw (a .pre .1 .0 .1, a .pre .1 .0 .0) (f .fitting .0 .0, omega (arith, f .whole), omega (arith, f .small .rows, r .yRoom))
 
 read-numbers-requires-3 : tie.Need-read-numbers-requires-3
 read-numbers-requires-3 c κs =
-    let a = c .before .before .before .before .before .before .before .before .before .before .before .before .before .before .before .before .before .before .before .before in
+    let a = c .before .before .before .before .before .before .before .before .before .before .before .before .before .before .before .before .before .before in
     let f = fits a in
     let r = room a in
-    rw (c .before .before .before .before .before .before .before .before .before .places-in .ensures .0, c .before .before .before .before .before .before .before .before .before .before .counts-in .ensures .0) (f .fitting .0 .0, omega (arith, f .whole), omega (arith, f .small .weighed, r .weightsRoom))
+    rw (a .pre .1 .0 .1, a .pre .1 .0 .0) (f .fitting .0 .0, omega (arith, f .whole), omega (arith, f .small .weighed, r .weightsRoom))
 
 read-numbers-requires-4 : tie.Need-read-numbers-requires-4
 read-numbers-requires-4 c κs =
-    let a = c .before .before .before .before .before .before .before .before .before .before .before .before .before .before .before .before .before .before .before .before .before .before .before .before in
+    let a = c .before .before .before .before .before .before .before .before .before .before .before .before .before .before .before .before .before .before .before .before .before .before in
     let f = fits a in
     let r = room a in
-    rw (c .before .before .before .before .before .before .before .before .before .before .before .before .before .places-in .ensures .0, c .before .before .before .before .before .before .before .before .before .before .before .before .before .before .counts-in .ensures .0) (f .fitting .0 .0, omega (arith, f .whole), omega (arith, f .small .moved, r .offsetRoom))
+    rw (a .pre .1 .0 .1, a .pre .1 .0 .0) (f .fitting .0 .0, omega (arith, f .whole), omega (arith, f .small .moved, r .offsetRoom))
 
 read-numbers-requires-5 : tie.Need-read-numbers-requires-5
 read-numbers-requires-5 c κs =
-    let a = c .before .before .before .before .before .before .before .before .before .before .before .before .before .before .before .before .before .before .before .before .before .before .before .before .before .before .before .before in
+    let a = c .before .before .before .before .before .before .before .before .before .before .before .before .before .before .before .before .before .before .before .before .before .before .before .before .before .before in
     let f = fits a in
     let r = room a in
-    rw (c .before .before .before .before .before .before .before .before .before .before .before .before .before .before .before .before .before .places-in .ensures .0, c .before .before .before .before .before .before .before .before .before .before .before .before .before .before .before .before .before .before .counts-in .ensures .0) (f .fitting .0 .0, omega (arith, f .whole), omega (arith, f .small .grid, r .xRoom))
+    rw (a .pre .1 .0 .1, a .pre .1 .0 .0) (f .fitting .0 .0, omega (arith, f .whole), omega (arith, f .small .grid, r .xRoom))
 
 read-rows-requires : tie.Need-read-rows-requires
 read-rows-requires c κs =
-    let a = c .before .before .before .before .before .before .before .before .before .before .before .before .before .before .before .before .before .before .before .before .before .before .before .before .before .before .before .before .before .before .before .before .before .before in
+    let a = c .before .before .before .before .before .before .before .before .before .before .before .before .before .before .before .before .before .before .before .before .before .before .before .before .before .before .before .before .before .before .before .before in
     let f = fits a in
     let r = room a in
-    rw (c .before .before .before .before .before .before .before .before .before .before .before .before .before .before .before .before .before .before .before .before .before .before .before .places-in .ensures .0, c .before .before .before .before .before .before .before .before .before .before .before .before .before .before .before .before .before .before .before .before .before .before .before .before .counts-in .ensures .0) ((f .fitting .0 .0, refl, omega (arith, f .ends)), (omega (arith, f .small .effects, r .startsRoom), r .columnsRoom, r .valuesRoom))
+    rw (a .pre .1 .0 .1, a .pre .1 .0 .0) ((f .fitting .0 .0, refl, omega (arith, f .ends)), (omega (arith, f .small .effects, r .startsRoom), r .columnsRoom, r .valuesRoom))
 
 same-length : tie.Need-same-length
 same-length c = c .before .before .before .before .before .before .before .before .before .before .before .before .before .before .before .before .before .before .before .before .before .before .before .before .before .before .before .before .read-numbers .kept .1 .1 .1 .0
@@ -87,8 +81,9 @@ same-length-8 c = c .before .before .before .before .before .before .read-rows .
 
 returns : tie.Need-returns
 returns c =
-    let p = c .before .before .before .before .before .before .before .before .before .before .before .before .before .before .before .before .before .before .before .before .before .before .before .before .before .before .before .before .before .before .places-in .ensures .0 in
-    let n = c .before .before .before .before .before .before .before .before .before .before .before .before .before .before .before .before .before .before .before .before .before .before .before .before .before .before .before .before .before .before .before .counts-in .ensures .0 in
+    let a = c .before .before .before .before .before .before .before .before .before .before .before .before .before .before .before .before .before .before .before .before .before .before .before .before .before .before .before .before .before .before .before .before .before .before .before .before .before .before .before in
+    let p = a .pre .1 .0 .1 in
+    let n = a .pre .1 .0 .0 in
     let w = c .before .before .before .before .before .before .read-rows .ensures in (
       rw n at (w .0),
       filled-is _ _ _ _ _ _ _ _ _ _
@@ -106,8 +101,6 @@ pub fill-job-spec : {M : Type 1} → statement M
 fill-job-spec =
     tie.close
     (tie.spec
-    counts-in-requires
-    places-in-requires
     read-numbers-requires
     read-numbers-requires-2
     read-numbers-requires-3

@@ -1,9 +1,10 @@
 -- `reader::read_job` meets its contract: what is refused changes nothing, a sound job is filled in. Assumes nothing.
-use mathlib.Core.Path.{refl, sym, _∙_}
+use mathlib.Core.Path.{refl, sym, ap, _∙_}
 use borrow.Author.Needs.{needs}
 use borrow.Author.Tests.{not-true, not-false}
-use Rattle.job.proofs.RowLaws.{sound-fits}
-use Rattle.reader.proofs.Rooms.{no-room, with-room, sound-is, refuses, accepts}
+use Rattle.job.specs.declared.survey.Survey.{Survey}
+use Rattle.job.proofs.SurveyLaws.{survey-fault}
+use Rattle.reader.proofs.Rooms.{no-room, with-room, sound-is, surveyed, refuses, accepts}
 use Rattle.reader.proofs.whole.read_job.Statement.{statement}
 use Rattle.reader.proofs.whole.read_job.Tie as tie
 
@@ -42,11 +43,11 @@ returns c =
     let looked = c .before .before in
     refuses _ _ 2 0 _ (c .refusal .ensures) (no-room _ _ (sym (looked .room-in .ensures) ∙ not-true (looked .room-in .result) (c .before .if1 .taken)))
 
-fault-in-requires : tie.Need-fault-in-requires
-fault-in-requires c κs = search needs
+survey-in-requires : tie.Need-survey-in-requires
+survey-in-requires c κs = search needs
 
-enum-known-number : tie.Need-enum-known-number
-enum-known-number c = search needs
+enum-known-fault : tie.Need-enum-known-fault
+enum-known-fault c = search needs
 
 refusal-requires-2 : tie.Need-refusal-requires-2
 refusal-requires-2 c κs = search needs
@@ -54,23 +55,23 @@ refusal-requires-2 c κs = search needs
 enum-told : tie.Need-enum-told
 enum-told c = search needs
 
-shape-in-requires : tie.Need-shape-in-requires
-shape-in-requires c κs =
-    let f = sound-fits _ (sound-is _ (sym (c .before .before .fault-in .ensures) ∙ c .enum-told .given .1)) in
-    (f .fitting .0, f .small .few)
-
 fill-job-requires : tie.Need-fill-job-requires
 fill-job-requires c κs =
-    let told = c .before .before .before .before .before .before .before .before .before in
-    let faults = told .before .before in
-    let looked = faults .before .before in
-    (sound-is _ (sym (faults .fault-in .ensures) ∙ told .enum-told .given .1), sym (looked .room-in .ensures) ∙ not-false (looked .room-in .result) (faults .before .if1 .left))
+    let told = c .before .before .before .before .before .before .before .before .before .before .before .before in
+    let found = told .before .before in
+    let looked = found .before .before in
+    let v = surveyed _ (found .survey-in .result) (found .survey-in .ensures) (told .enum-told .given .1) in (
+      sound-is _ (v .0),
+      ((ap (λ (x : Survey). x .counts) (v .1), ap (λ (x : Survey). x .places) (v .1)), sym (looked .room-in .ensures) ∙ not-false (looked .room-in .result) (found .before .if1 .left)),
+    )
 
 header-in-requires : tie.Need-header-in-requires
 header-in-requires c κs =
     let filled = c .before .before .before .before .before .before .before .before .before .before .before .before .before .before .before .before in
-    let told = filled .before .before .before .before .before .before .before .before .before .before in
-    (sound-is _ (sym (told .before .before .fault-in .ensures) ∙ told .enum-told .given .1), filled .fill-job .ensures .0)
+    let told = filled .before .before .before .before .before .before .before .before .before .before .before .before .before in
+    let found = told .before .before in
+    let v = surveyed _ (found .survey-in .result) (found .survey-in .ensures) (told .enum-told .given .1) in
+    (ap (λ (x : Survey). x .head) (v .1), ap (λ (x : Survey). x .counts) (v .1), filled .fill-job .ensures .0)
 
 same-length-9 : tie.Need-same-length-9
 same-length-9 c = refl
@@ -98,60 +99,60 @@ same-length-16 c = refl
 
 returns-2 : tie.Need-returns-2
 returns-2 c =
-    let faults = c .before .before .before .before in
-    let looked = faults .before .before in
-    let room = sym (looked .room-in .ensures) ∙ not-false (looked .room-in .result) (faults .before .if1 .left) in
-    refuses _ _ _ _ _ (c .refusal2 .ensures) (with-room _ _ room ∙ sym (faults .fault-in .ensures) ∙ c .before .before .number .given .1)
+    let found = c .before .before .before .before in
+    let looked = found .before .before in
+    let room = sym (looked .room-in .ensures) ∙ not-false (looked .room-in .result) (found .before .if1 .left) in
+    refuses _ _ _ _ _ (c .refusal2 .ensures) (with-room _ _ room ∙ (sym (survey-fault _ (found .survey-in .result) (found .survey-in .ensures)) ∙ c .before .before .fault .given .1))
 
 same-length-17 : tie.Need-same-length-17
 same-length-17 c =
     let filled = c .before .before .before .before .before .before .before .before .before .before .before .before .before .before .before .before .before in
-    filled .fill-job .kept .1 .0
+    filled .fill-job .kept .1 .1 .1 .0
 
 same-length-18 : tie.Need-same-length-18
 same-length-18 c =
     let filled = c .before .before .before .before .before .before .before .before .before .before .before .before .before .before .before .before .before in
-    filled .fill-job .kept .1 .1 .0
+    filled .fill-job .kept .1 .1 .1 .1 .0
 
 same-length-19 : tie.Need-same-length-19
 same-length-19 c =
     let filled = c .before .before .before .before .before .before .before .before .before .before .before .before .before .before .before .before .before in
-    filled .fill-job .kept .1 .1 .1 .0
+    filled .fill-job .kept .1 .1 .1 .1 .1 .0
 
 same-length-20 : tie.Need-same-length-20
 same-length-20 c =
     let filled = c .before .before .before .before .before .before .before .before .before .before .before .before .before .before .before .before .before in
-    filled .fill-job .kept .1 .1 .1 .1 .0
+    filled .fill-job .kept .1 .1 .1 .1 .1 .1 .0
 
 same-length-21 : tie.Need-same-length-21
 same-length-21 c =
     let filled = c .before .before .before .before .before .before .before .before .before .before .before .before .before .before .before .before .before in
-    filled .fill-job .kept .1 .1 .1 .1 .1 .0
+    filled .fill-job .kept .1 .1 .1 .1 .1 .1 .1 .0
 
 same-length-22 : tie.Need-same-length-22
 same-length-22 c =
     let filled = c .before .before .before .before .before .before .before .before .before .before .before .before .before .before .before .before .before in
-    filled .fill-job .kept .1 .1 .1 .1 .1 .1 .0
+    filled .fill-job .kept .1 .1 .1 .1 .1 .1 .1 .1 .0
 
 same-length-23 : tie.Need-same-length-23
 same-length-23 c =
     let filled = c .before .before .before .before .before .before .before .before .before .before .before .before .before .before .before .before .before in
-    filled .fill-job .kept .1 .1 .1 .1 .1 .1 .1 .0
+    filled .fill-job .kept .1 .1 .1 .1 .1 .1 .1 .1 .1 .0
 
 same-length-24 : tie.Need-same-length-24
 same-length-24 c =
     let filled = c .before .before .before .before .before .before .before .before .before .before .before .before .before .before .before .before .before in
-    filled .fill-job .kept .1 .1 .1 .1 .1 .1 .1 .1 .0
+    filled .fill-job .kept .1 .1 .1 .1 .1 .1 .1 .1 .1 .1 .0
 
 returns-3 : tie.Need-returns-3
 returns-3 c =
     let filled = c .before .before .before .before .before .before .before .before .before .before .before .before .before .before .before .before .before in
-    let shaped = filled .before .before .before .before .before .before .before .before .before in
-    let faults = shaped .before .before .before in
-    let looked = faults .before .before in
-    let room = sym (looked .room-in .ensures) ∙ not-false (looked .room-in .result) (faults .before .if1 .left) in
-    let sound = with-room _ _ room ∙ sym (faults .fault-in .ensures) ∙ shaped .before .enum-told .given .1 in
-    accepts _ _ _ _ _ sound (c .header-in .ensures) (shaped .shape-in .ensures) (filled .fill-job .ensures .1)
+    let told = filled .before .before .before .before .before .before .before .before .before .before .before .before .before in
+    let found = told .before .before in
+    let looked = found .before .before in
+    let room = sym (looked .room-in .ensures) ∙ not-false (looked .room-in .result) (found .before .if1 .left) in
+    let v = surveyed _ (found .survey-in .result) (found .survey-in .ensures) (told .enum-told .given .1) in
+    accepts _ _ _ _ _ (with-room _ _ room ∙ v .0) (c .header-in .ensures) (ap (λ (x : Survey). x .shape) (v .1)) (filled .fill-job .ensures .1)
 
 pub read-job-spec : {M : Type 1} → statement M
 read-job-spec =
@@ -168,11 +169,10 @@ read-job-spec =
     same-length-7
     same-length-8
     returns
-    fault-in-requires
-    enum-known-number
+    survey-in-requires
+    enum-known-fault
     refusal-requires-2
     enum-told
-    shape-in-requires
     fill-job-requires
     header-in-requires
     same-length-9
