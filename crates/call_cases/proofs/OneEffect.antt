@@ -1,4 +1,4 @@
--- Gaussian, identity, a quadrature of order 3 over two groups in each of three rounds. Made by tools/cases/call.py; the right side is the oracle's answer. Assumes nothing.
+-- Gaussian, identity, a quadrature of order 5 over two groups in each of three rounds; (t - u)(t + u) for t² - u², or a difference of deviances divided by phi, would be another deviance. Made by tools/cases/call.py; the right side is the oracle's answer. Assumes nothing.
 use mathlib.Core.Path.{_≡_, refl}
 use mathlib.Core.Bool.{true}
 use mathlib.Core.List.{[], _∷_}
@@ -74,20 +74,20 @@ use Rattle.call.specs.Call.{Lent}
 use Rattle.call_cases.specs.Told.{Told, toldOf}
 
 abbrev settings : Settings
-settings = record { family = family.Gaussian; link = link.Identity; «n_agq» = 2; limit = limit.NotGiven; n = 3; p = 1; rows = 2; entries = 3 }
+settings = record { family = family.Gaussian; link = link.Identity; «n_agq» = 4; limit = limit.NotGiven; n = 3; p = 1; rows = 2; entries = 3 }
 
 abbrev shape : Shape
 shape = record { count = 1; m = 2 ∷ 0 ∷ 0 ∷ 0 ∷ 0 ∷ 0 ∷ 0 ∷ 0 ∷ []; k = 1 ∷ 0 ∷ 0 ∷ 0 ∷ 0 ∷ 0 ∷ 0 ∷ 0 ∷ [] }
 
 abbrev inputs : Inputs
-inputs = record { theta = bits 0x3fe0_0000_0000_0000 ∷ []; y = bits 0x4000_0000_0000_0000 ∷ bits 0x3ff0_0000_0000_0000 ∷ bits 0x400e_61d4_acff_a2c4 ∷ []; weights = bits 0x3ff8_0000_0000_0000 ∷ bits 0x3fe0_0000_0000_0000 ∷ bits 0x3ff0_0000_0000_0000 ∷ []; offset = []; x = bits 0x3ff0_0000_0000_0000 ∷ bits 0x3ff0_0000_0000_0000 ∷ bits 0x3ff0_0000_0000_0000 ∷ []; starts = 0 ∷ 1 ∷ 3 ∷ []; columns = 0 ∷ 1 ∷ 2 ∷ []; values = bits 0x3ff0_0000_0000_0000 ∷ bits 0x3ff0_0000_0000_0000 ∷ bits 0x3fe0_0000_0000_0000 ∷ [] }
+inputs = record { theta = bits 0x3ff4_cccc_cccc_cccd ∷ []; y = bits 0x3ff4_cccc_cccc_cccd ∷ bits 0x3fe9_9999_9999_999a ∷ bits 0x400d_b6ce_d64d_903d ∷ []; weights = bits 0x3ff8_0000_0000_0000 ∷ bits 0x3fe0_0000_0000_0000 ∷ bits 0x3ff0_0000_0000_0000 ∷ []; offset = []; x = bits 0x3ff0_0000_0000_0000 ∷ bits 0x3ff0_0000_0000_0000 ∷ bits 0x3ff0_0000_0000_0000 ∷ []; starts = 0 ∷ 1 ∷ 3 ∷ []; columns = 0 ∷ 1 ∷ 2 ∷ []; values = bits 0x3ff0_0000_0000_0000 ∷ bits 0x3ff0_0000_0000_0000 ∷ bits 0x3fe0_0000_0000_0000 ∷ [] }
 
 -- how long the lent slices are
 abbrev room : LentLengths
 room = record { beta = 1; se = 1; z = 1; u = 2; b = 2; mu = 3; eta = 3; residual = 3; v = 1; rows = 48; matrices = 56; terms = 7000 }
 
 abbrev answer : Lent → Told
-answer L = record { answer = record { number = 0; deviance = bits 0x4024_000c_cef8_e36d; phi = bits 0x3ff0_0000_0093_08da; order = 3; converged = true; iterations = 2; account = record { fits = 3; solves = 6; tries = 6; points = 18 } }; results = record { beta = bits 0x4004_144e_658a_648c ∷ []; se = bits 0x3fe4_bda8_6f5c_370d ∷ []; z = bits 0x400e_fab7_44dd_acab ∷ []; u = bits 0xbfd1_ccf9_0070_9030 ∷ bits 0xbfa7_ef95_ca7e_ae40 ∷ []; b = bits 0xbfc1_ccf9_0070_9030 ∷ bits 0xbf97_ef95_ca7e_ae40 ∷ []; mu = bits 0x4002_f77e_d583_5b89 ∷ bits 0x4003_e46f_39f5_6730 ∷ bits 0x4003_fc5e_cfbf_e5de ∷ []; eta = bits 0x4002_f77e_d583_5b89 ∷ bits 0x4003_e46f_39f5_6730 ∷ bits 0x4003_fc5e_cfbf_e5de ∷ []; residual = bits 0xbfd7_bbf6_ac1a_dc48 ∷ bits 0xbff7_c8de_73ea_ce60 ∷ bits 0x3ff4_caeb_ba7f_79cc ∷ []; v = bits 0x3fda_e2ed_389a_91cd ∷ [] } }
+answer L = record { answer = record { number = 0; deviance = bits 0x4024_550b_af6c_3e17; phi = bits 0x3ff0_0000_0094_566a; order = 5; converged = true; iterations = 2; account = record { fits = 3; solves = 6; tries = 6; points = 30 } }; results = record { beta = bits 0x4004_3eac_f582_832a ∷ []; se = bits 0x3fed_7880_0fc7_839b ∷ []; z = bits 0x4005_fb79_55cf_ef79 ∷ []; u = bits 0xbfe5_b901_12fe_e743 ∷ bits 0xbfc4_1197_95bc_68d8 ∷ []; b = bits 0xbfec_3d4e_324b_5fd7 ∷ bits 0xbfca_16de_a90e_884c ∷ []; mu = bits 0x3ffa_5eb2_d1df_5668 ∷ bits 0x4002_9d3f_0af1_9aa5 ∷ bits 0x4003_6df6_003a_0ee8 ∷ []; eta = bits 0x3ffa_5eb2_d1df_5668 ∷ bits 0x4002_9d3f_0af1_9aa5 ∷ bits 0x4003_6df6_003a_0ee8 ∷ []; residual = bits 0xbfd6_4798_144a_266c ∷ bits 0xbff8_6db1_4916_687d ∷ bits 0x3ff4_91b1_ac27_02aa ∷ []; v = bits 0x3feb_242d_df10_7528 ∷ [] } }
 
 -- in slices of these lengths
 computed : (L : Lent) → toldOf (callBy (tableOf 1 settings shape inputs room) settings shape inputs L) ≡ answer L
