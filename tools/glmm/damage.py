@@ -118,6 +118,29 @@ def two_faults(name, about):
         yield f"{name}-{one}-long", with_field(data, *faults[one]) + b"\0" * 65536
 
 
+def faulty_lists(about):
+    """An infinite number in each of the lists."""
+    for name in ("theta", "y", "weights", "offset"):
+        if about.get(name):
+            yield name, {**about, name: [*about[name][:-1], "inf"]}
+    yield "x", {**about, "x": [*about["x"][:-1], [*about["x"][-1][:-1], "inf"]]}
+    yield "zt", {**about, "zt": [*about["zt"][:-1], [*about["zt"][-1][:-1], [about["zt"][-1][-1][0], "inf"]]]}
+
+
+def two_of_the_table(name, about):
+    """Two faults of the table at once, of 6, 3, 4 and 5: which is first?"""
+    pairs = {"4": ("binomial", "sqrt"), "5": ("binomial", "probit"), "5-gamma": ("gamma", "log"), "4-5": ("poisson", "probit"), "4-5-gamma": ("gamma", "logit")}
+    column = {**about, "zt": [[[len(about["y"]), about["zt"][0][0][1]], *about["zt"][0][1:]], *about["zt"][1:]]}
+    for pair, (family, link) in pairs.items():
+        named = {"family": family, "link": link}
+        yield f"{name}-table-{pair}", job_bytes({**about, **named})
+        yield f"{name}-table-6-{pair}", job_bytes({**column, **named})
+        for place, faulty in faulty_lists(about):
+            yield f"{name}-table-3-{pair}-{place}", job_bytes({**faulty, **named})
+    for place, faulty in faulty_lists(column):
+        yield f"{name}-table-6-3-{place}", job_bytes(faulty)
+
+
 def all_blocks():
     """Fifteen blocks; eight and nine of them; q of 32 and 33."""
     for count in (8, 9, 15):
@@ -153,7 +176,7 @@ def damaged_jobs():
         data = job_bytes(about)
         for family in (cuts, surplus, fields, pairs):
             yield from family(name, data)
-        for family in (spare_bits, counts_and_columns, block_sizes, not_finite, two_faults):
+        for family in (spare_bits, counts_and_columns, block_sizes, not_finite, two_faults, two_of_the_table):
             yield from family(name, about)
     yield from all_blocks()
     yield from observations()
