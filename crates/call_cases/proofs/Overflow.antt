@@ -1,4 +1,4 @@
--- Gaussian, identity, responses so large that the second deviance sum is infinite, at a phi of 3.4e30. Made by tools/cases/call.py; the right side is the oracle's answer. Assumes nothing.
+-- Gaussian, identity, responses so large that the first inner fit stops in its first iteration, PWRSS being close to MAX, and the second deviance sum is infinite, at a phi of 5e30. Made by tools/cases/call.py; the right side is the oracle's answer. Assumes nothing.
 use mathlib.Core.Path.{_≡_, refl}
 use mathlib.Core.Bool.{true}
 use mathlib.Core.List.{[], _∷_}
@@ -74,20 +74,20 @@ use Rattle.call.specs.Call.{Lent}
 use Rattle.call_cases.specs.Told.{Told, toldOf}
 
 abbrev settings : Settings
-settings = record { family = family.Gaussian; link = link.Identity; «n_agq» = 1; limit = limit.NotGiven; n = 3; p = 1; rows = 1; entries = 2 }
+settings = record { family = family.Gaussian; link = link.Identity; «n_agq» = 1; limit = limit.NotGiven; n = 2; p = 1; rows = 1; entries = 1 }
 
 abbrev shape : Shape
 shape = record { count = 1; m = 1 ∷ 0 ∷ 0 ∷ 0 ∷ 0 ∷ 0 ∷ 0 ∷ 0 ∷ []; k = 1 ∷ 0 ∷ 0 ∷ 0 ∷ 0 ∷ 0 ∷ 0 ∷ 0 ∷ [] }
 
 abbrev inputs : Inputs
-inputs = record { theta = bits 0x4197_d784_0000_0000 ∷ []; y = bits 0x5fef_06d5_a4bf_631f ∷ bits 0x5feb_ec8d_1445_d936 ∷ bits 0xdfef_06d5_a4bf_631f ∷ []; weights = bits 0x4000_0000_0000_0000 ∷ bits 0x4000_0000_0000_0000 ∷ bits 0x4010_0000_0000_0000 ∷ []; offset = []; x = bits 0x3ff0_0000_0000_0000 ∷ bits 0x3ff0_0000_0000_0000 ∷ bits 0x3ff0_0000_0000_0000 ∷ []; starts = 0 ∷ 2 ∷ []; columns = 0 ∷ 1 ∷ []; values = bits 0x3ff0_0000_0000_0000 ∷ bits 0x3ff0_0000_0000_0000 ∷ [] }
+inputs = record { theta = bits 0x3fe0_0000_0000_0000 ∷ []; y = bits 0x0000_0000_0000_0000 ∷ bits 0x5feb_b67a_e749_c1a1 ∷ []; weights = bits 0x4010_0000_0000_0000 ∷ bits 0x4010_0000_0000_0000 ∷ []; offset = []; x = bits 0x3ff0_0000_0000_0000 ∷ bits 0x3ff0_0000_0000_0000 ∷ []; starts = 0 ∷ 1 ∷ []; columns = 0 ∷ []; values = bits 0x3ff0_0000_0000_0000 ∷ [] }
 
 -- how long the lent slices are
 abbrev room : LentLengths
-room = record { beta = 1; se = 1; z = 1; u = 1; b = 1; mu = 3; eta = 3; residual = 3; v = 1; rows = 48; matrices = 33; terms = 7000 }
+room = record { beta = 1; se = 1; z = 1; u = 1; b = 1; mu = 2; eta = 2; residual = 2; v = 1; rows = 32; matrices = 33; terms = 7000 }
 
 abbrev answer : Lent → Told
-answer L = record { answer = record { number = 0; deviance = bits 0x7ff0_0000_0000_0000; phi = bits 0x4645_81ab_21f9_368a; order = 1; converged = true; iterations = 2; account = record { fits = 2; solves = 4; tries = 4; points = 0 } }; results = record { beta = bits 0xdfdd_8780_8fef_6afb ∷ []; se = bits 0x418b_5d11_fdea_66e0 ∷ []; z = bits 0xde41_442f_e30a_7d3a ∷ []; u = bits 0x5e48_3b7a_4dde_0238 ∷ []; b = bits 0x5ff2_0df3_7b0b_3e6b ∷ []; mu = bits 0x5fe5_5826_ae1e_c758 ∷ bits 0x5fe5_5826_ae1e_c758 ∷ bits 0xdfdd_8780_8fef_6afb ∷ []; eta = bits 0x5fe5_5826_ae1e_c758 ∷ bits 0x5fe5_5826_ae1e_c758 ∷ bits 0xdfdd_8780_8fef_6afb ∷ []; residual = bits 0x5fd3_5d5d_ed41_378e ∷ bits 0x5fca_5199_989c_4778 ∷ bits 0xdfe0_4315_5cc7_ada2 ∷ []; v = bits 0x4327_661d_0d19_8db8 ∷ [] } }
+answer L = record { answer = record { number = 0; deviance = bits 0x7ff0_0000_0000_0000; phi = bits 0x4650_778b_bf7f_eb41; order = 1; converged = true; iterations = 2; account = record { fits = 2; solves = 3; tries = 3; points = 0 } }; results = record { beta = bits 0x5fdb_b67a_e749_c1a0 ∷ []; se = bits 0x4186_a09e_667f_3bcc ∷ []; z = bits 0x5e43_988e_1349_d3a5 ∷ []; u = bits 0xdc8b_b67a_e749_c1a0 ∷ []; b = bits 0xdc7b_b67a_e749_c1a0 ∷ []; mu = bits 0x5fdb_b67a_e749_c1a0 ∷ bits 0x5fdb_b67a_e749_c1a0 ∷ []; eta = bits 0x5fdb_b67a_e749_c1a0 ∷ bits 0x5fdb_b67a_e749_c1a0 ∷ []; residual = bits 0xdfdb_b67a_e749_c1a0 ∷ bits 0x5fdb_b67a_e749_c1a2 ∷ []; v = bits 0x431f_ffff_ffff_fffe ∷ [] } }
 
 -- in slices of these lengths
 computed : (L : Lent) → toldOf (callBy (tableOf 1 settings shape inputs room) settings shape inputs L) ≡ answer L
