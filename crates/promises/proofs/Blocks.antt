@@ -22,9 +22,11 @@ use Rattle.promises.specs.Promise.{Fact, promise}
 
 -- what is returned and left of the twelve slices
 abbrev fitBlocks : Fact fit-blocks.ended
-fitBlocks κs (coded, (blocks, (theta, (y, (weights, (offset, (x, (starts, (columns, (values, (beta, (se, (z, (u, (b, (mu, (eta, (residual, (v, (rows, (matrices, (terms, _)))))))))))))))))))))) r (_, (_, (_, (_, (_, (_, (_, (_, (_, (_, (beta′, (se′, (z′, (u′, (b′, (mu′, (eta′, (residual′, (v′, (rows′, (matrices′, (terms′, _)))))))))))))))))))))) =
+fitBlocks κs (coded, (blocks, (theta, (y, (weights, (offset, (x, (starts, (columns, (values, (beta, (se, (z, (u, (b, (mu, (eta, (residual, (v, (rows, (matrices, (terms, _))))))))))))))))))))))
+    r (_, (_, (_, (_, (_, (_, (_, (_, (_, (_, (beta′, (se′, (z′, (u′, (b′, (mu′, (eta′, (residual′, (v′, (rows′, (matrices′, (terms′, _)))))))))))))))))))))) =
     shown r (lent (now beta′) (now se′) (now z′) (now u′) (now b′) (now mu′) (now eta′) (now residual′) (now v′) (now rows′) (now matrices′) (now terms′))
-    ≡ fitBlocksOf coded (now blocks) (inputs (now theta) (now y) (now weights) (now offset) (now x) (now starts) (now columns) (now values)) (lent (now beta) (now se) (now z) (now u) (now b) (now mu) (now eta) (now residual) (now v) (now rows) (now matrices) (now terms))
+    ≡ fitBlocksOf coded (now blocks) (inputs (now theta) (now y) (now weights) (now offset) (now x) (now starts) (now columns) (now values))
+    (lent (now beta) (now se) (now z) (now u) (now b) (now mu) (now eta) (now residual) (now v) (now rows) (now matrices) (now terms))
 
 module _ {M : Type 1} (𝓤 : URA M) (H : Heap 𝓤) (A : Atoms 𝓤) (mem : Memory → SProp 𝓤) (run : Routine → Fun 𝓤) where
   pub fit-blocks-promised : fit-blocks.clauses 𝓤 H A mem run ≡ promise 𝓤 fit-blocks.ended fitBlocks
