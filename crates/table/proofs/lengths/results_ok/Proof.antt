@@ -12,7 +12,9 @@ mul-effects : tie.Need-mul-effects
 mul-effects c = let s = c .before .before in omega (arith, many-few 32 (s .pre .1) (s .pre .0 .q-few))
 
 mul-observations : tie.Need-mul-observations
-mul-observations c = let s = c .before .before .before in omega (arith, many-few 512 (s .pre .1) (s .pre .0 .n-few))
+mul-observations c =
+    let start = c .before .before .before in
+    omega (arith, many-few 512 (start .pre .1) (start .pre .0 .n-few))
 
 returns : tie.Need-returns
 returns c = not-results _ _ _ (λ g. c .if1 .taken (g .beta))
@@ -39,10 +41,22 @@ returns-8 : tie.Need-returns-8
 returns-8 c = not-results _ _ _ (λ g. c .if8 .taken (g .residual))
 
 mul-result : tie.Need-mul-result
-mul-result c = let s = c .before .before .before .before .before .before .before .before .before .before .before .before .before .before .before .before .before .before .before .before in omega (arith, mul-le-mul {n₂ = 1024} {m₂ = 16} (many-few 16 (s .pre .1) (s .pre .0 .p-few)) (s .pre .0 .p-few))
+mul-result c =
+    let start = c .before .before .before .before .before .before .before .before .before
+    .before .before .before .before .before .before .before .before .before .before .before in
+    omega (arith, mul-le-mul {n₂ = 1024} {m₂ = 16} (many-few 16 (start .pre .1) (start .pre .0 .p-few)) (start .pre .0 .p-few))
 
 returns-9 : tie.Need-returns-9
-returns-9 c = results-when _ _ _ (c .before .before .before .before .before .before .before .before .before .before .before .before .before .before .before .before .if1 .left) (c .before .before .before .before .before .before .before .before .before .before .before .before .before .before .if2 .left) (c .before .before .before .before .before .before .before .before .before .before .before .before .if3 .left) (c .before .before .before .before .before .before .before .before .before .before .if4 .left) (c .before .before .before .before .before .before .before .before .if5 .left) (c .before .before .before .before .before .before .if6 .left) (c .before .before .before .before .if7 .left) (c .before .before .if8 .left)
+returns-9 c =
+    let if7 = c .before .before .before .before in
+    let if6 = if7 .before .before in
+    let if5 = if6 .before .before in
+    let if4 = if5 .before .before in
+    let if3 = if4 .before .before in
+    let if2 = if3 .before .before in
+    let if1 = if2 .before .before in
+    results-when _ _ _ (if1 .if1 .left) (if2 .if2 .left) (if3 .if3 .left) (if4 .if4 .left) (if5 .if5 .left) (if6 .if6 .left) (if7 .if7 .left)
+    (c .before .before .if8 .left)
 
 pub results-ok-spec : {M : Type 1} → statement M
 results-ok-spec =

@@ -27,10 +27,19 @@ enum-told-2 : tie.Need-enum-told-2
 enum-told-2 c = search needs
 
 returns-2 : tie.Need-returns-2
-returns-2 c = sym (no-link _ _ _ (sym (c .before .before .before .before .before .before .carried-family .ensures) ∙ c .before .before .before .before .f .given .1) (sym (c .before .before .carried-link .ensures) ∙ c .enum-told2 .given .1))
+returns-2 c =
+    let f = c .before .before .before .before in
+    let carried-family = f .before .before in
+    sym
+    (no-link _ _ _ (sym (carried-family .carried-family .ensures) ∙ f .f .given .1) (sym (c .before .before .carried-link .ensures) ∙ c .enum-told2 .given .1))
 
 returns-3 : tie.Need-returns-3
-returns-3 c = sym (both-carried _ _ _ _ (sym (c .before .before .before .before .before .before .before .carried-family .ensures) ∙ c .before .before .before .before .before .f .given .1) (sym (c .before .before .before .carried-link .ensures) ∙ c .before .l .given .1))
+returns-3 c =
+    let carried-link = c .before .before .before in
+    let f = carried-link .before .before in
+    let carried-family = f .before .before in
+    sym
+    (both-carried _ _ _ _ (sym (carried-family .carried-family .ensures) ∙ f .f .given .1) (sym (carried-link .carried-link .ensures) ∙ c .before .l .given .1))
 
 pub carried-pair-spec : {M : Type 1} → statement M
 carried-pair-spec =

@@ -18,43 +18,125 @@ inputs-ok-requires : tie.Need-inputs-ok-requires
 inputs-ok-requires c κs = (sym (c .before .sizes-ok .ensures) ∙ not-false _ (c .if1 .left), omega arith)
 
 returns-2 : tie.Need-returns-2
-returns-2 c = sym (line-2-inputs _ _ _ _ _ (sym (c .before .before .before .sizes-ok .ensures) ∙ not-false _ (c .before .before .if1 .left)) (sym (c .before .inputs-ok .ensures) ∙ not-true _ (c .if2 .taken)))
+returns-2 c =
+    let sizes-ok = c .before .before .before in
+    sym
+    (line-2-inputs _ _ _ _ _ (sym (sizes-ok .sizes-ok .ensures) ∙ not-false _ (c .before .before .if1 .left))
+    (sym (c .before .inputs-ok .ensures) ∙ not-true _ (c .if2 .taken)))
 
 results-ok-requires : tie.Need-results-ok-requires
 results-ok-requires c κs = (sized _ _ (sym (c .before .before .before .sizes-ok .ensures) ∙ not-false _ (c .before .before .if1 .left)) .sizes, omega arith)
 
 returns-3 : tie.Need-returns-3
-returns-3 c = sym (line-2-results _ _ _ _ _ (sym (c .before .before .before .before .before .sizes-ok .ensures) ∙ not-false _ (c .before .before .before .before .if1 .left)) (sym (c .before .before .before .inputs-ok .ensures) ∙ not-false _ (c .before .before .if2 .left)) (sym (c .before .results-ok .ensures) ∙ not-true _ (c .if3 .taken)))
+returns-3 c =
+    let inputs-ok = c .before .before .before in
+    let if1 = inputs-ok .before in
+    let sizes-ok = if1 .before in
+    sym
+    (line-2-results _ _ _ _ _ (sym (sizes-ok .sizes-ok .ensures) ∙ not-false _ (if1 .if1 .left))
+    (sym (inputs-ok .inputs-ok .ensures) ∙ not-false _ (c .before .before .if2 .left)) (sym (c .before .results-ok .ensures) ∙ not-true _ (c .if3 .taken)))
 
 work-ok-requires : tie.Need-work-ok-requires
-work-ok-requires c κs = sized _ _ (sym (c .before .before .before .before .before .sizes-ok .ensures) ∙ not-false _ (c .before .before .before .before .if1 .left)) .sizes
+work-ok-requires c κs =
+    let if1 = c .before .before .before .before in
+    let sizes-ok = if1 .before in
+    sized _ _ (sym (sizes-ok .sizes-ok .ensures) ∙ not-false _ (if1 .if1 .left)) .sizes
 
 returns-4 : tie.Need-returns-4
-returns-4 c = sym (line-7 _ _ _ _ _ (sym (c .before .before .before .before .before .before .before .sizes-ok .ensures) ∙ not-false _ (c .before .before .before .before .before .before .if1 .left)) (sym (c .before .before .before .before .before .inputs-ok .ensures) ∙ not-false _ (c .before .before .before .before .if2 .left)) (sym (c .before .before .before .results-ok .ensures) ∙ not-false _ (c .before .before .if3 .left)) (sym (c .before .work-ok .ensures) ∙ not-true _ (c .if4 .taken)))
+returns-4 c =
+    let results-ok = c .before .before .before in
+    let if2 = results-ok .before in
+    let inputs-ok = if2 .before in
+    let if1 = inputs-ok .before in
+    let sizes-ok = if1 .before in
+    sym
+    (line-7 _ _ _ _ _ (sym (sizes-ok .sizes-ok .ensures) ∙ not-false _ (if1 .if1 .left)) (sym (inputs-ok .inputs-ok .ensures) ∙ not-false _ (if2 .if2 .left))
+    (sym (results-ok .results-ok .ensures) ∙ not-false _ (c .before .before .if3 .left)) (sym (c .before .work-ok .ensures) ∙ not-true _ (c .if4 .taken)))
 
 rows-ok-requires : tie.Need-rows-ok-requires
-rows-ok-requires c κs = let f = inputs-fit _ _ _ _ (sym (c .before .before .before .before .before .inputs-ok .ensures) ∙ not-false _ (c .before .before .before .before .if2 .left)) in omega (arith, f .starts)
+rows-ok-requires c κs =
+    let if2 = c .before .before .before .before in
+    let inputs-ok = if2 .before in
+    let f = inputs-fit _ _ _ _ (sym (inputs-ok .inputs-ok .ensures) ∙ not-false _ (if2 .if2 .left)) in omega (arith, f .starts)
 
 returns-5 : tie.Need-returns-5
-returns-5 c = sym (line-6 _ _ _ _ _ (sym (c .before .before .before .before .before .before .before .before .before .sizes-ok .ensures) ∙ not-false _ (c .before .before .before .before .before .before .before .before .if1 .left)) (sym (c .before .before .before .before .before .before .before .inputs-ok .ensures) ∙ not-false _ (c .before .before .before .before .before .before .if2 .left)) (sym (c .before .before .before .before .before .results-ok .ensures) ∙ not-false _ (c .before .before .before .before .if3 .left)) (sym (c .before .before .before .work-ok .ensures) ∙ not-false _ (c .before .before .if4 .left)) (sym (c .before .rows-ok .ensures) ∙ not-true _ (c .if5 .taken)))
+returns-5 c =
+    let work-ok = c .before .before .before in
+    let if3 = work-ok .before in
+    let results-ok = if3 .before in
+    let if2 = results-ok .before in
+    let inputs-ok = if2 .before in
+    let if1 = inputs-ok .before in
+    let sizes-ok = if1 .before in
+    sym
+    (line-6 _ _ _ _ _ (sym (sizes-ok .sizes-ok .ensures) ∙ not-false _ (if1 .if1 .left)) (sym (inputs-ok .inputs-ok .ensures) ∙ not-false _ (if2 .if2 .left))
+    (sym (results-ok .results-ok .ensures) ∙ not-false _ (if3 .if3 .left)) (sym (work-ok .work-ok .ensures) ∙ not-false _ (c .before .before .if4 .left))
+    (sym (c .before .rows-ok .ensures) ∙ not-true _ (c .if5 .taken)))
 
 numbers-ok-requires : tie.Need-numbers-ok-requires
 numbers-ok-requires c κs = omega arith
 
 returns-6 : tie.Need-returns-6
-returns-6 c = sym (line-3 _ _ _ _ _ (sym (c .before .before .before .before .before .before .before .before .before .before .before .sizes-ok .ensures) ∙ not-false _ (c .before .before .before .before .before .before .before .before .before .before .if1 .left)) (sym (c .before .before .before .before .before .before .before .before .before .inputs-ok .ensures) ∙ not-false _ (c .before .before .before .before .before .before .before .before .if2 .left)) (sym (c .before .before .before .before .before .before .before .results-ok .ensures) ∙ not-false _ (c .before .before .before .before .before .before .if3 .left)) (sym (c .before .before .before .before .before .work-ok .ensures) ∙ not-false _ (c .before .before .before .before .if4 .left)) (sym (c .before .before .before .rows-ok .ensures) ∙ not-false _ (c .before .before .if5 .left)) (sym (c .before .numbers-ok .ensures) ∙ not-true _ (c .if6 .taken)))
+returns-6 c =
+    let rows-ok = c .before .before .before in
+    let if4 = rows-ok .before in
+    let work-ok = if4 .before in
+    let if3 = work-ok .before in
+    let results-ok = if3 .before in
+    let if2 = results-ok .before in
+    let inputs-ok = if2 .before in
+    let if1 = inputs-ok .before in
+    let sizes-ok = if1 .before in
+    sym
+    (line-3 _ _ _ _ _ (sym (sizes-ok .sizes-ok .ensures) ∙ not-false _ (if1 .if1 .left)) (sym (inputs-ok .inputs-ok .ensures) ∙ not-false _ (if2 .if2 .left))
+    (sym (results-ok .results-ok .ensures) ∙ not-false _ (if3 .if3 .left)) (sym (work-ok .work-ok .ensures) ∙ not-false _ (if4 .if4 .left))
+    (sym (rows-ok .rows-ok .ensures) ∙ not-false _ (c .before .before .if5 .left)) (sym (c .before .numbers-ok .ensures) ∙ not-true _ (c .if6 .taken)))
 
 valid-for-requires : tie.Need-valid-for-requires
 valid-for-requires c κs = omega arith
 
 returns-7 : tie.Need-returns-7
-returns-7 c = sym (line-4 _ _ _ _ _ (sym (c .before .before .before .before .before .before .before .before .before .before .before .before .before .sizes-ok .ensures) ∙ not-false _ (c .before .before .before .before .before .before .before .before .before .before .before .before .if1 .left)) (sym (c .before .before .before .before .before .before .before .before .before .before .before .inputs-ok .ensures) ∙ not-false _ (c .before .before .before .before .before .before .before .before .before .before .if2 .left)) (sym (c .before .before .before .before .before .before .before .before .before .results-ok .ensures) ∙ not-false _ (c .before .before .before .before .before .before .before .before .if3 .left)) (sym (c .before .before .before .before .before .before .before .work-ok .ensures) ∙ not-false _ (c .before .before .before .before .before .before .if4 .left)) (sym (c .before .before .before .before .before .rows-ok .ensures) ∙ not-false _ (c .before .before .before .before .if5 .left)) (sym (c .before .before .before .numbers-ok .ensures) ∙ not-false _ (c .before .before .if6 .left)) (sym (c .before .valid-for .ensures) ∙ not-true _ (c .if7 .taken)))
+returns-7 c =
+    let numbers-ok = c .before .before .before in
+    let if5 = numbers-ok .before in
+    let rows-ok = if5 .before in
+    let if4 = rows-ok .before in
+    let work-ok = if4 .before in
+    let if3 = work-ok .before in
+    let results-ok = if3 .before in
+    let if2 = results-ok .before in
+    let inputs-ok = if2 .before in
+    let if1 = inputs-ok .before in
+    let sizes-ok = if1 .before in
+    sym
+    (line-4 _ _ _ _ _ (sym (sizes-ok .sizes-ok .ensures) ∙ not-false _ (if1 .if1 .left)) (sym (inputs-ok .inputs-ok .ensures) ∙ not-false _ (if2 .if2 .left))
+    (sym (results-ok .results-ok .ensures) ∙ not-false _ (if3 .if3 .left)) (sym (work-ok .work-ok .ensures) ∙ not-false _ (if4 .if4 .left))
+    (sym (rows-ok .rows-ok .ensures) ∙ not-false _ (if5 .if5 .left)) (sym (numbers-ok .numbers-ok .ensures) ∙ not-false _ (c .before .before .if6 .left))
+    (sym (c .before .valid-for .ensures) ∙ not-true _ (c .if7 .taken)))
 
 carried-pair-requires : tie.Need-carried-pair-requires
 carried-pair-requires c κs = omega arith
 
 returns-8 : tie.Need-returns-8
-returns-8 c = c .carried-pair .ensures ∙ sym (line-5 _ _ _ _ _ (sym (c .before .before .before .before .before .before .before .before .before .before .before .before .before .before .sizes-ok .ensures) ∙ not-false _ (c .before .before .before .before .before .before .before .before .before .before .before .before .before .if1 .left)) (sym (c .before .before .before .before .before .before .before .before .before .before .before .before .inputs-ok .ensures) ∙ not-false _ (c .before .before .before .before .before .before .before .before .before .before .before .if2 .left)) (sym (c .before .before .before .before .before .before .before .before .before .before .results-ok .ensures) ∙ not-false _ (c .before .before .before .before .before .before .before .before .before .if3 .left)) (sym (c .before .before .before .before .before .before .before .before .work-ok .ensures) ∙ not-false _ (c .before .before .before .before .before .before .before .if4 .left)) (sym (c .before .before .before .before .before .before .rows-ok .ensures) ∙ not-false _ (c .before .before .before .before .before .if5 .left)) (sym (c .before .before .before .before .numbers-ok .ensures) ∙ not-false _ (c .before .before .before .if6 .left)) (sym (c .before .before .valid-for .ensures) ∙ not-false _ (c .before .if7 .left)))
+returns-8 c =
+    let if6 = c .before .before .before in
+    let numbers-ok = if6 .before in
+    let if5 = numbers-ok .before in
+    let rows-ok = if5 .before in
+    let if4 = rows-ok .before in
+    let work-ok = if4 .before in
+    let if3 = work-ok .before in
+    let results-ok = if3 .before in
+    let if2 = results-ok .before in
+    let inputs-ok = if2 .before in
+    let if1 = inputs-ok .before in
+    let sizes-ok = if1 .before in
+    c .carried-pair .ensures
+    ∙ sym
+    (line-5 _ _ _ _ _ (sym (sizes-ok .sizes-ok .ensures) ∙ not-false _ (if1 .if1 .left)) (sym (inputs-ok .inputs-ok .ensures) ∙ not-false _ (if2 .if2 .left))
+    (sym (results-ok .results-ok .ensures) ∙ not-false _ (if3 .if3 .left)) (sym (work-ok .work-ok .ensures) ∙ not-false _ (if4 .if4 .left))
+    (sym (rows-ok .rows-ok .ensures) ∙ not-false _ (if5 .if5 .left)) (sym (numbers-ok .numbers-ok .ensures) ∙ not-false _ (if6 .if6 .left))
+    (sym (c .before .before .valid-for .ensures) ∙ not-false _ (c .before .if7 .left)))
 
 pub verdict-of-spec : {M : Type 1} → statement M
 verdict-of-spec =
