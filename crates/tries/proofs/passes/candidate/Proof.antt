@@ -14,7 +14,8 @@ use Rattle.tries.proofs.passes.candidate.Statement.{statement}
 use Rattle.tries.proofs.passes.candidate.Tie as tie
 
 abbrev Inv-loop : tie.InvT-loop
-Inv-loop n prev next raw step rows₀ i₀ rows i = (i ≤ n) × (length rows ≡ length rows₀) × (rows ≡ fillAt next i (candidateAt (row prev n rows₀) (row raw n rows₀) step) rows₀)
+Inv-loop n prev next raw step rows₀ i₀ rows i =
+    (i ≤ n) × (length rows ≡ length rows₀) × (rows ≡ fillAt next i (candidateAt (row prev n rows₀) (row raw n rows₀) step) rows₀)
 
 abbrev μ-loop : tie.MeasureT-loop
 μ-loop n prev next raw step rows₀ i₀ rows i = n - i
@@ -57,9 +58,13 @@ loop-less c = search (needs, loops)
 
 loop-again : tie.Need-loop-again Inv-loop μ-loop
 loop-again c =
-    let s = c .before .before .before .before in
-    let l = c .before .before .before in
-    (omega arith, simp length-set (omega arith), candidate-step _ _ _ _ _ _ _ _ (s .pre .0) (s .pre .2) (s .pre .3) (s .pre .4) (c .before .before .loop-test .taken) (l .loop .inv .2))
+    let loop = c .before .before .before in
+    let start = loop .before in (
+      omega arith,
+      simp length-set (omega arith),
+      candidate-step _ _ _ _ _ _ _ _ (start .pre .0) (start .pre .2) (start .pre .3) (start .pre .4) (c .before .before .loop-test .taken)
+          (loop .loop .inv .2),
+    )
 
 same-length : tie.Need-same-length Inv-loop μ-loop
 same-length c = search (needs, loops)

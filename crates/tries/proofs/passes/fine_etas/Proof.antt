@@ -36,7 +36,11 @@ fine-eta-requires : tie.Need-fine-eta-requires Inv-loop μ-loop
 fine-eta-requires c κs = search (needs, loops)
 
 returns : tie.Need-returns Inv-loop μ-loop
-returns c = all-fails _ _ _ (c .before .before .before .loop-test .taken) (fine-at _ _ _ _ _ _ _ (c .before .before .before .before .before .before .pre) (c .before .before .before .loop-test .taken) (c .before .fine-eta .ensures) (not-true _ (c .if1 .taken)))
+returns c =
+    let loop-test = c .before .before .before in
+    let start = loop-test .before .before .before in
+    all-fails _ _ _ (loop-test .loop-test .taken)
+    (fine-at _ _ _ _ _ _ _ (start .pre) (loop-test .loop-test .taken) (c .before .fine-eta .ensures) (not-true _ (c .if1 .taken)))
 
 add-i : tie.Need-add-i Inv-loop μ-loop
 add-i c = search (needs, loops)
@@ -45,7 +49,14 @@ loop-less : tie.Need-loop-less Inv-loop μ-loop
 loop-less c = search (needs, loops)
 
 loop-again : tie.Need-loop-again Inv-loop μ-loop
-loop-again c = (omega arith, all-step _ _ (c .before .before .before .before .loop .inv .1) (fine-at _ _ _ _ _ _ _ (c .before .before .before .before .before .before .pre) (c .before .before .before .loop-test .taken) (c .before .fine-eta .ensures) (not-false _ (c .if1 .left))))
+loop-again c =
+    let loop-test = c .before .before .before in
+    let loop = loop-test .before in
+    let start = loop .before .before in (
+      omega arith,
+      all-step _ _ (loop .loop .inv .1)
+          (fine-at _ _ _ _ _ _ _ (start .pre) (loop-test .loop-test .taken) (c .before .fine-eta .ensures) (not-false _ (c .if1 .left))),
+    )
 
 returns-2 : tie.Need-returns-2 Inv-loop μ-loop
 returns-2 c = search (needs, loops)

@@ -51,8 +51,12 @@ loop-less c = search (needs, loops)
 
 loop-again : tie.Need-loop-again Inv-loop μ-loop
 loop-again c =
-    let s = c .before .before .before .before .before in
-    (omega arith, simp length-set (omega arith), mean-step _ _ _ _ _ _ _ _ (s .pre .0) (s .pre .2) (c .before .before .loop-test .taken) (c .before .before .before .loop .inv .2) (c .link-inv .ensures))
+    let loop = c .before .before .before in
+    let start = loop .before .before in (
+      omega arith,
+      simp length-set (omega arith),
+      mean-step _ _ _ _ _ _ _ _ (start .pre .0) (start .pre .2) (c .before .before .loop-test .taken) (loop .loop .inv .2) (c .link-inv .ensures),
+    )
 
 same-length : tie.Need-same-length Inv-loop μ-loop
 same-length c = search (needs, loops)

@@ -49,8 +49,9 @@ loop-less c = search (needs, loops)
 loop-again : tie.Need-loop-again Inv-loop μ-loop
 unfolding squareAt
 loop-again c =
-    let s = c .before .before .before .before .before .before .before .before .before .before in
-    (omega arith, add-step _ (squareAt (s .args .w .now) (s .args .z .now) (s .args .c .now)) _ _ (c .before .before .before .before .loop .inv .1))
+    let loop = c .before .before .before .before in
+    let start = loop .before .before .before .before .before .before in
+    (omega arith, add-step _ (squareAt (start .args .w .now) (start .args .z .now) (start .args .c .now)) _ _ (loop .loop .inv .1))
 
 returns : tie.Need-returns Inv-loop μ-loop
 returns c = add-end _ _ _ _ _ (c .before .loop .inv .1) (omega arith) (omega arith)

@@ -16,10 +16,11 @@ same-length c = search needs
 
 returns : tie.Need-returns
 returns c =
-    let s = c .before .before .before .before .before .before .before .before .before .before .before in
-    let a = c .before .before .before .before .before in
-    let f = c .before in
-    eta-refused _ _ _ _ _ _ (s .pre .next-mu) (s .pre .next-in) (s .pre .mu-in) (a .candidate .ensures) _ (f .fine-etas .ensures) (not-true _ (c .if1 .taken))
+    let fine-etas = c .before in
+    let candidate = fine-etas .before .before .before .before in
+    let start = candidate .before .before .before .before .before .before in
+    eta-refused _ _ _ _ _ _ (start .pre .next-mu) (start .pre .next-in) (start .pre .mu-in) (candidate .candidate .ensures) _ (fine-etas .fine-etas .ensures)
+    (not-true _ (c .if1 .taken))
 
 means-requires : tie.Need-means-requires
 means-requires c κs = search needs
@@ -32,11 +33,13 @@ same-length-2 c = search needs
 
 returns-2 : tie.Need-returns-2
 returns-2 c =
-    let s = c .before .before .before .before .before .before .before .before .before .before .before .before .before .before .before .before .before .before in
-    let a = c .before .before .before .before .before .before .before .before .before .before .before .before in
-    let f = c .before .before .before .before .before .before .before .before in
-    let m = c .before .before .before .before .before in
-    mean-refused _ _ _ _ _ _ (s .pre .next-mu) (s .pre .next-in) (s .pre .mu-in) (a .candidate .ensures) _ _ (f .fine-etas .ensures) (not-false _ (c .before .before .before .before .before .before .before .if1 .left)) (m .means .ensures) _ (c .before .finite-row .ensures) (not-true _ (c .if2 .taken))
+    let means = c .before .before .before .before .before in
+    let if1 = means .before .before in
+    let fine-etas = if1 .before in
+    let candidate = fine-etas .before .before .before .before in
+    let start = candidate .before .before .before .before .before .before in
+    mean-refused _ _ _ _ _ _ (start .pre .next-mu) (start .pre .next-in) (start .pre .mu-in) (candidate .candidate .ensures) _ _ (fine-etas .fine-etas .ensures)
+    (not-false _ (if1 .if1 .left)) (means .means .ensures) _ (c .before .finite-row .ensures) (not-true _ (c .if2 .taken))
 
 add-end : tie.Need-add-end
 add-end c = search needs
@@ -64,22 +67,32 @@ same-length-3 c = search needs
 
 returns-3 : tie.Need-returns-3
 returns-3 c =
-    let s = c .before .before .before .before .before .before .before .before .before .before .before .before .before .before .before .before .before .before .before .before .before .before .before in
-    let a = c .before .before .before .before .before .before .before .before .before .before .before .before .before .before .before .before .before in
-    let f = c .before .before .before .before .before .before .before .before .before .before .before .before .before in
-    let m = c .before .before .before .before .before .before .before .before .before .before in
-    pwrss-refused _ _ _ _ _ _ (s .pre .next-mu) (s .pre .next-in) (s .pre .mu-in) (a .candidate .ensures) _ _ (f .fine-etas .ensures) (not-false _ (c .before .before .before .before .before .before .before .before .before .before .before .before .if1 .left)) (m .means .ensures) _ (c .before .before .before .before .before .before .finite-row .ensures) (not-false _ (c .before .before .before .before .before .if2 .left)) _ (c .before .before .pwrss .ensures) _ (c .before .is-finite .ensures) (not-true _ (c .if3 .taken))
+    let if2 = c .before .before .before .before .before in
+    let finite-row = if2 .before in
+    let means = finite-row .before .before .before .before in
+    let if1 = means .before .before in
+    let fine-etas = if1 .before in
+    let candidate = fine-etas .before .before .before .before in
+    let start = candidate .before .before .before .before .before .before in
+    pwrss-refused _ _ _ _ _ _ (start .pre .next-mu) (start .pre .next-in) (start .pre .mu-in) (candidate .candidate .ensures) _ _
+    (fine-etas .fine-etas .ensures) (not-false _ (if1 .if1 .left)) (means .means .ensures) _ (finite-row .finite-row .ensures) (not-false _ (if2 .if2 .left)) _
+    (c .before .before .pwrss .ensures) _ (c .before .is-finite .ensures) (not-true _ (c .if3 .taken))
 
 same-length-4 : tie.Need-same-length-4
 same-length-4 c = search needs
 
 returns-4 : tie.Need-returns-4
 returns-4 c =
-    let s = c .before .before .before .before .before .before .before .before .before .before .before .before .before .before .before .before .before .before .before .before .before .before .before in
-    let a = c .before .before .before .before .before .before .before .before .before .before .before .before .before .before .before .before .before in
-    let f = c .before .before .before .before .before .before .before .before .before .before .before .before .before in
-    let m = c .before .before .before .before .before .before .before .before .before .before in
-    try-accepted _ _ _ _ _ _ (s .pre .next-mu) (s .pre .next-in) (s .pre .mu-in) (a .candidate .ensures) _ _ (f .fine-etas .ensures) (not-false _ (c .before .before .before .before .before .before .before .before .before .before .before .before .if1 .left)) (m .means .ensures) _ (c .before .before .before .before .before .before .finite-row .ensures) (not-false _ (c .before .before .before .before .before .if2 .left)) _ (c .before .before .pwrss .ensures) _ (c .before .is-finite .ensures) (not-false _ (c .if3 .left))
+    let if2 = c .before .before .before .before .before in
+    let finite-row = if2 .before in
+    let means = finite-row .before .before .before .before in
+    let if1 = means .before .before in
+    let fine-etas = if1 .before in
+    let candidate = fine-etas .before .before .before .before in
+    let start = candidate .before .before .before .before .before .before in
+    try-accepted _ _ _ _ _ _ (start .pre .next-mu) (start .pre .next-in) (start .pre .mu-in) (candidate .candidate .ensures) _ _ (fine-etas .fine-etas .ensures)
+    (not-false _ (if1 .if1 .left)) (means .means .ensures) _ (finite-row .finite-row .ensures) (not-false _ (if2 .if2 .left)) _
+    (c .before .before .pwrss .ensures) _ (c .before .is-finite .ensures) (not-false _ (c .if3 .left))
 
 pub one-try-spec : {M : Type 1} → statement M
 one-try-spec =

@@ -22,7 +22,9 @@ loop-holds : tie.Need-loop-holds Inv-loop μ-loop
 loop-holds c = starts _ _ _ _ _ (c .tries-cap .ensures)
 
 one-try-requires : tie.Need-one-try-requires Inv-loop μ-loop
-one-try-requires c κs = room-kept _ _ _ _ _ _ _ _ _ _ _ (c .before .before .before .before .before .before .before .before .pre) (c .before .before .loop .inv .only)
+one-try-requires c κs =
+    let start = c .before .before .before .before .before .before .before .before in
+    room-kept _ _ _ _ _ _ _ _ _ _ _ (start .pre) (c .before .before .loop .inv .only)
 
 add-k : tie.Need-add-k Inv-loop μ-loop
 add-k c = search needs
@@ -35,11 +37,11 @@ same-length c = search needs
 
 returns : tie.Need-returns Inv-loop μ-loop
 returns c =
-    let s = c .before .before .before .before .before .before .before .before .before .before .before .before .before .before in
-    let o = c .before .before .before .before .before in
-    let t = c .before .before .before .before .before .before .before in
-    let g = c .before .before .before .before .before .before .before .before in
-    moved _ _ _ _ _ _ _ _ _ _ _ _ _ _ _ _ _ (s .pre) (g .loop .inv) (t .loop-test .taken) (o .one-try .ensures) _ (c .before .t .given .1)
+    let one-try = c .before .before .before .before .before in
+    let loop-test = one-try .before .before in
+    let loop = loop-test .before in
+    let start = loop .before .before .before .before .before .before in
+    moved _ _ _ _ _ _ _ _ _ _ _ _ _ _ _ _ _ (start .pre) (loop .loop .inv) (loop-test .loop-test .taken) (one-try .one-try .ensures) _ (c .before .t .given .1)
 
 enum-told : tie.Need-enum-told Inv-loop μ-loop
 enum-told c = search needs
@@ -55,11 +57,18 @@ loop-less c = search needs
 
 loop-again : tie.Need-loop-again Inv-loop μ-loop
 loop-again c =
-    let s = c .before .before .before .before .before .before .before .before .before .before .before .before in
-    let o = c .before .before .before in
-    let t = c .before .before .before .before .before in
-    let g = c .before .before .before .before .before .before in
-    ⊎-elim (λ x. halved _ _ _ _ _ _ _ _ _ _ _ _ _ _ _ _ _ (s .pre) (g .loop .inv) (t .loop-test .taken) (o .one-try .ensures) etaRefused (rw (x .1 .given .1))) (λ y. ⊎-elim (λ x. halved _ _ _ _ _ _ _ _ _ _ _ _ _ _ _ _ _ (s .pre) (g .loop .inv) (t .loop-test .taken) (o .one-try .ensures) meanRefused (rw (x .1 .given .1))) (λ x. halved _ _ _ _ _ _ _ _ _ _ _ _ _ _ _ _ _ (s .pre) (g .loop .inv) (t .loop-test .taken) (o .one-try .ensures) pwrssRefused (rw (x .1 .given .1))) y) (c .match .came)
+    let one-try = c .before .before .before in
+    let loop-test = one-try .before .before in
+    let loop = loop-test .before in
+    let start = loop .before .before .before .before .before .before in
+    ⊎-elim
+    (λ x. halved _ _ _ _ _ _ _ _ _ _ _ _ _ _ _ _ _ (start .pre) (loop .loop .inv) (loop-test .loop-test .taken) (one-try .one-try .ensures) etaRefused
+    (rw (x .1 .given .1)))
+    (λ y. ⊎-elim
+    (λ x. halved _ _ _ _ _ _ _ _ _ _ _ _ _ _ _ _ _ (start .pre) (loop .loop .inv) (loop-test .loop-test .taken) (one-try .one-try .ensures) meanRefused
+    (rw (x .1 .given .1)))
+    (λ x. halved _ _ _ _ _ _ _ _ _ _ _ _ _ _ _ _ _ (start .pre) (loop .loop .inv) (loop-test .loop-test .taken) (one-try .one-try .ensures) pwrssRefused
+    (rw (x .1 .given .1))) y) (c .match .came)
 
 same-length-2 : tie.Need-same-length-2 Inv-loop μ-loop
 same-length-2 c = search needs
