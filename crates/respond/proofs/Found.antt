@@ -25,7 +25,7 @@ use Rattle.jobfit.specs.Done.{numbersOf, resultsLength, zeros, lentFor, Done, d
 use Rattle.jobfit.specs.Room.{SizesFew}
 use Rattle.jobfit.proofs.Lent.{cells-few, beta-lent}
 use Rattle.jobfit.proofs.Lengths.{ResultsFit, results-fit}
-use Rattle.output.specs.Output.{slicesFor, leftText}
+use Rattle.output.specs.Output.{slicesWith, leftText, response, leftResponse}
 use Rattle.respond.specs.Flat.{listsOf}
 
 -- ---- the parts that are lent are these lists, and they are few
@@ -130,9 +130,9 @@ most-results t f = omega (arith, f .n, f .p, f .q, cells-few (t .p) (f .p))
 pub results-room : (t : Settings) (room : ℕ) → SizesFew t → room ≡ length (replicate 1906 zeroF) → resultsLength (t .n) (t .p) (t .rows) ≤ room
 results-room t room f e = rw (e, length-replicate 1906 zeroF) (most-results t f)
 
-lent-whole : (t : Settings) → SizesFew t → lentFor t (replicate 8192 zeroF) (replicate 5696 zeroF) (replicate 7000 zeroF) (replicate 1906 zeroF) ≡ slicesFor t
-unfolding lentFor slicesFor zeros
-lent-whole t f = let e = beta-lent t (length (replicate 1906 zeroF)) (resultsLength (t .n) (t .p) (t .rows)) refl (results-room t (length (replicate 1906 zeroF)) f refl) in rw (← e) refl
+lent-whole : (t : Settings) (terms : List Float) → SizesFew t → lentFor t (replicate 8192 zeroF) (replicate 5696 zeroF) terms (replicate 1906 zeroF) ≡ slicesWith terms t
+unfolding lentFor zeros
+lent-whole t terms f = let e = beta-lent t (length (replicate 1906 zeroF)) (resultsLength (t .n) (t .p) (t .rows)) refl (results-room t (length (replicate 1906 zeroF)) f refl) in rw (← e) refl
 
 -- ---- what is printed of a call whose results stand in one buffer
 unfitted-text : (a : Answer) (R S : Results) → eqb (a .number) 0 ≡ false → answerText a R ≡ answerText a S
@@ -148,12 +148,16 @@ module _ (t : Settings) (l : Left) (before after : List Float) (fits : l .answer
       by true q = rw (e, q, lists-found (t .n) (t .p) (t .rows) (l .answer) (l .lent .results) before (fits (eqb-true _ _ q))) refl
       by false q = unfitted-text (l .answer) _ _ q
 
-pub flat-text : (t : Settings) (s shape : Shape) (I : Inputs) (a : Answer) (rows matrices terms results : List Float) → SizesFew t → s ≡ shape
-    → done a rows matrices terms results ≡ doneFor t s I (replicate 8192 zeroF) (replicate 5696 zeroF) (replicate 7000 zeroF) (replicate 1906 zeroF)
-    → answerText a (listsOf (t .n) (t .p) (t .rows) results) ≡ leftText (callOf t shape I (slicesFor t))
+-- what is told of a call that was done over arrays of zeros and lent terms
+pub read-response : (t : Settings) (s : Shape) (I : Inputs) (lent rows matrices terms results : List Float) (a : Answer) (out w : List ℕ) (r : ℕ) → SizesFew t
+    → done a rows matrices terms results ≡ doneFor t s I (replicate 8192 zeroF) (replicate 5696 zeroF) lent (replicate 1906 zeroF)
+    → Written (answerText a (listsOf (t .n) (t .p) (t .rows) results)) out r w
+    → response r terms w ≡ leftResponse (callOf t s I (slicesWith lent t)) out
 unfolding doneFor doneOf
-flat-text t s shape I a rows matrices terms results few e d =
-    let l = callOf t s I (lentFor t (replicate 8192 zeroF) (replicate 5696 zeroF) (replicate 7000 zeroF) (replicate 1906 zeroF)) in
+read-response t s I lent rows matrices terms results a out w r few d h =
+    let l = callOf t s I (lentFor t (replicate 8192 zeroF) (replicate 5696 zeroF) lent (replicate 1906 zeroF)) in
     let answer : a ≡ l .answer = ap (λ (x : Done). x .answer) d in
-    let text = left-text t l (replicate 1906 zeroF) results (λ z. results-fit t s I _ z) (ap (λ (x : Done). x .results) d) in
-    rw (answer, ← e, ← (lent-whole t few)) text
+    let left : terms ≡ l .lent .terms = ap (λ (x : Done). x .terms) d in
+    let text : answerText (l .answer) (listsOf (t .n) (t .p) (t .rows) results) ≡ leftText l = left-text t l (replicate 1906 zeroF) results (λ z. results-fit t s I _ z) (ap (λ (x : Done). x .results) d) in
+    let line : answerText a (listsOf (t .n) (t .p) (t .rows) results) ≡ leftText l = rw answer text in
+    rw (← (lent-whole t lent few), h .0, h .1, line, left) refl
