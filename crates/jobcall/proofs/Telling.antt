@@ -12,12 +12,10 @@ use Rattle.model.specs.declared.ends.Answer.{Answer}
 use Rattle.model.specs.declared.sizes.Shape.{Shape}
 use Rattle.model.specs.declared.sizes.Settings.{Settings}
 use Rattle.job.specs.Lists.{laid}
-use Rattle.job.specs.Format.{shapeOf}
-use Rattle.job.specs.Faults.{faultOf}
 use Rattle.job.specs.Job.{Read, faulty, jobOf, readOf}
 use Rattle.model.specs.Inputs.{Inputs}
+use Rattle.reader.specs.declared.whole.Found.{Found}
 use Rattle.reader.specs.declared.whole.Header.{Header}
-use Rattle.reader.specs.Reading.{shapeBy}
 use Rattle.jobfit.specs.Done.{done, doneFor}
 use Rattle.jobfit.specs.Room.{frontsOf}
 use Rattle.jobfit.proofs.Reading.{beside, ReadJob}
@@ -37,27 +35,26 @@ unfolding answered
 refused-told own given s rows matrices terms results counts after r c t e = rw (t, refused-by own given r c, e) refl
 
 -- ---- a job that was read is called, with its own theta or the one beside it
-pub called-told : (own : Bool) (given : List Float) (s : List ℕ) (h : Header) (a : Inputs) → ReadJob s h a → (chosen : List Float) → chosen ≡ cond own (take (h .thetas) (a .theta)) given
+pub called-told : (own : Bool) (given : List Float) (s : List ℕ) (h : Header) (g : Found) (a : Inputs) → ReadJob s h g a → (chosen : List Float) → chosen ≡ cond own (take (h .thetas) (a .theta)) given
     → (rows matrices terms results : List Float) (counts : List ℕ) (x : Told)
-    → x ≡ toldBy (doneFor (h .settings) (shapeBy (faultOf s) (shapeOf s)) (frontsOf h (beside chosen a)) rows matrices terms results) counts
+    → x ≡ toldBy (doneFor (h .settings) (g .shape) (frontsOf h (beside chosen a)) rows matrices terms results) counts
     → x ≡ answered (thetaBy own given (readOf s)) (buffers rows matrices terms results counts)
 unfolding answered withTheta
-called-told true given s h a j chosen e rows matrices terms results counts x d =
+called-told true given s h g a j chosen e rows matrices terms results counts x d =
     let q : chosen ≡ jobOf s .theta = e ∙ j .own in
     d ∙ rw (j .read, q, j .at (jobOf s .theta), j .settings, j .shape) refl
-called-told false given s h a j chosen e rows matrices terms results counts x d =
+called-told false given s h g a j chosen e rows matrices terms results counts x d =
     let q : chosen ≡ given = e in
     d ∙ rw (j .read, q, j .at given, j .settings, j .shape) refl
 
 -- ---- what is told of a call that is done
-pub read-told : (t : Settings) (s shape : Shape) (I : Inputs) (rows₀ matrices₀ terms₀ results₀ rows matrices terms results : List Float) (counts after : List ℕ) (a : Answer) (r : ℕ)
-    → s ≡ shape
+pub read-told : (t : Settings) (s : Shape) (I : Inputs) (rows₀ matrices₀ terms₀ results₀ rows matrices terms results : List Float) (counts after : List ℕ) (a : Answer) (r : ℕ)
     → done a rows matrices terms results ≡ doneFor t s I rows₀ matrices₀ terms₀ results₀
     → after ≡ laid (countsOf a 0) counts
     → r ≡ returnedBy (a .number)
-    → told r (buffers rows matrices terms results after) ≡ toldBy (doneFor t shape I rows₀ matrices₀ terms₀ results₀) counts
+    → told r (buffers rows matrices terms results after) ≡ toldBy (doneFor t s I rows₀ matrices₀ terms₀ results₀) counts
 unfolding toldBy
-read-told t s shape I rows₀ matrices₀ terms₀ results₀ rows matrices terms results counts after a r e d q k = rw (← e, ← d, q, k) refl
+read-told t s I rows₀ matrices₀ terms₀ results₀ rows matrices terms results counts after a r d q k = rw (← d, q, k) refl
 
 -- ---- without room for the counts, and with
 pub short-told : (r : Read) (B : Buffers) → length (B .counts) < 9 → told 2 B ≡ counted r B

@@ -3,16 +3,15 @@ use crate::counts::put_counts;
 use crate::counts::put_refusal;
 use crate::counts::returned;
 use jobfit::fit_fronts;
+use model::Shape;
 use reader::Header;
 use reader::Reading;
 ghost use mathlib.Core.Path.{_≡_};
 ghost use mathlib.Core.Bool.{true, cond};
 ghost use Prim.Native.Nat.{_≤_};
 ghost use lib.ListN.{length, take};
-ghost use Rattle.job.specs.Format.{shapeOf};
-ghost use Rattle.job.specs.Faults.{faultOf};
 ghost use Rattle.job.specs.Job.{readOf};
-ghost use Rattle.reader.specs.Reading.{roomy, shapeBy};
+ghost use Rattle.reader.specs.Reading.{roomy};
 ghost use Rattle.model.specs.Inputs.{inputs};
 ghost use Rattle.jobfit.specs.Done.{doneFor};
 ghost use Rattle.jobfit.specs.Room.{Fronts, frontsOf};
@@ -20,8 +19,8 @@ ghost use Rattle.jobcall.specs.Told.{buffers, told, toldBy, answered, co
 
 // The fit of a job that has been read, and its counts.
 fn fit_read(
-    job: &[u8],
     header: Header,
+    shape: Shape,
     theta: &[f64],
     y: &[f64],
     weights: &[f64],
@@ -36,10 +35,15 @@ fn fit_read(
     results: &mut [f64],
     counts: &mut [u64],
 ) -> u64
-    requires { ⌜ (9 ≤ length (now counts)) × Fronts header (inputs (now theta) (now y) (now weights) (now offset) (now x) (now starts) (now columns) (now values)) ⌝ }
-    ensures { λ r. ⌜ told r (buffers (now (rows .exit)) (now (matrices .exit)) (now (terms .exit)) (now (results .exit)) (now (counts .exit))) ≡ toldBy (doneFor (header .settings) (shapeBy (faultOf (now (job .entry))) (shapeOf (now (job .entry)))) (frontsOf header (inputs (now (theta .entry)) (now (y .entry)) (now (weights .entry)) (now (offset .entry)) (now (x .entry)) (now (starts .entry)) (now (columns .entry)) (now (values .entry)))) (now (rows .entry)) (now (matrices .entry)) (now (terms .entry)) (now (results .entry))) (now (counts .entry)) ⌝ }
+    requires { ⌜ (9 ≤ length (now counts))
+        × Fronts header (inputs (now theta) (now y) (now weights) (now offset) (now x) (now starts) (now columns) (now values)) ⌝ }
+    ensures { λ r. ⌜ told r (buffers (now (rows .exit)) (now (matrices .exit)) (now (terms .exit)) (now (results .exit)) (now (counts .exit)))
+        ≡ toldBy
+        (doneFor (header .settings) shape
+        (frontsOf header (inputs (now (theta .entry)) (now (y .entry)) (now (weights .entry)) (now (offset .entry)) (now (x .entry)) (now (starts .entry)) (now (columns .entry)) (now (values .entry))))
+        (now (rows .entry)) (now (matrices .entry)) (now (terms .entry)) (now (results .entry)))
+        (now (counts .entry)) ⌝ }
 {
-    let shape = reader::read_shape(job);
     let answer = fit_fronts(
         header,
         shape,
@@ -90,10 +94,16 @@ fn call_read(
     results: &mut [f64],
     counts: &mut [u64],
 ) -> u64
-    requires { ⌜ (9 ≤ length (now counts)) × (roomy (inputs (now theta) (now y) (now weights) (now offset) (now x) (now starts) (now columns) (now values)) ≡ true) ⌝ }
-    ensures { λ r. ⌜ told r (buffers (now (rows .exit)) (now (matrices .exit)) (now (terms .exit)) (now (results .exit)) (now (counts .exit))) ≡ answered (thetaBy own (now (given .entry)) (readOf (now (job .entry)))) (buffers (now (rows .entry)) (now (matrices .entry)) (now (terms .entry)) (now (results .entry)) (now (counts .entry))) ⌝ }
+    requires { ⌜ (9 ≤ length (now counts))
+        × (roomy (inputs (now theta) (now y) (now weights) (now offset) (now x) (now starts) (now columns) (now values)) ≡ true) ⌝ }
+    ensures { λ r. ⌜ told r (buffers (now (rows .exit)) (now (matrices .exit)) (now (terms .exit)) (now (results .exit)) (now (counts .exit)))
+        ≡ answered (thetaBy own (now (given .entry)) (readOf (now (job .entry))))
+        (buffers (now (rows .entry)) (now (matrices .entry)) (now (terms .entry)) (now (results .entry)) (now (counts .entry))) ⌝ }
 {
-    match reader::read_job(job, theta, y, weights, offset, x, starts, columns, values) {
+    let found = reader::read_job(job, theta, y, weights, offset, x, starts, columns, values);
+    let shape = found.shape;
+    let reading = found.reading;
+    match reading {
         Reading::Refused(number, byte) => {
             put_refusal(number, byte, counts);
             number
@@ -102,8 +112,8 @@ fn call_read(
             let thetas = header.thetas;
             let chosen = theta_of(own, theta, thetas, given);
             fit_read(
-                job,
                 header,
+                shape,
                 chosen,
                 y,
                 weights,
@@ -133,7 +143,9 @@ fn call(
     results: &mut [f64],
     counts: &mut [u64],
 ) -> u64
-    ensures { λ r. ⌜ told r (buffers (now (rows .exit)) (now (matrices .exit)) (now (terms .exit)) (now (results .exit)) (now (counts .exit))) ≡ counted (thetaBy own (now (given .entry)) (readOf (now (job .entry)))) (buffers (now (rows .entry)) (now (matrices .entry)) (now (terms .entry)) (now (results .entry)) (now (counts .entry))) ⌝ }
+    ensures { λ r. ⌜ told r (buffers (now (rows .exit)) (now (matrices .exit)) (now (terms .exit)) (now (results .exit)) (now (counts .exit)))
+        ≡ counted (thetaBy own (now (given .entry)) (readOf (now (job .entry))))
+        (buffers (now (rows .entry)) (now (matrices .entry)) (now (terms .entry)) (now (results .entry)) (now (counts .entry))) ⌝ }
 {
     if counts.len() < 9 {
         return 2;
@@ -175,7 +187,9 @@ pub fn fit_job(
     results: &mut [f64],
     counts: &mut [u64],
 ) -> u64
-    ensures { λ r. ⌜ told r (buffers (now (rows .exit)) (now (matrices .exit)) (now (terms .exit)) (now (results .exit)) (now (counts .exit))) ≡ fitJobOf (now (job .entry)) (buffers (now (rows .entry)) (now (matrices .entry)) (now (terms .entry)) (now (results .entry)) (now (counts .entry))) ⌝ }
+    ensures { λ r. ⌜ told r (buffers (now (rows .exit)) (now (matrices .exit)) (now (terms .exit)) (now (results .exit)) (now (counts .exit)))
+        ≡ fitJobOf (now (job .entry))
+        (buffers (now (rows .entry)) (now (matrices .entry)) (now (terms .entry)) (now (results .entry)) (now (counts .entry))) ⌝ }
 {
     let none = [0.0; 1];
     call(job, true, &none, rows, matrices, terms, results, counts)
@@ -191,7 +205,9 @@ pub fn fit_job_theta(
     results: &mut [f64],
     counts: &mut [u64],
 ) -> u64
-    ensures { λ r. ⌜ told r (buffers (now (rows .exit)) (now (matrices .exit)) (now (terms .exit)) (now (results .exit)) (now (counts .exit))) ≡ fitJobThetaOf (now (job .entry)) (now (given .entry)) (buffers (now (rows .entry)) (now (matrices .entry)) (now (terms .entry)) (now (results .entry)) (now (counts .entry))) ⌝ }
+    ensures { λ r. ⌜ told r (buffers (now (rows .exit)) (now (matrices .exit)) (now (terms .exit)) (now (results .exit)) (now (counts .exit)))
+        ≡ fitJobThetaOf (now (job .entry)) (now (given .entry))
+        (buffers (now (rows .entry)) (now (matrices .entry)) (now (terms .entry)) (now (results .entry)) (now (counts .entry))) ⌝ }
 {
     call(job, false, given, rows, matrices, terms, results, counts)
 }

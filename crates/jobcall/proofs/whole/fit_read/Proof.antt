@@ -4,41 +4,52 @@ use borrow.Author.Needs.{needs}
 use Rattle.jobcall.proofs.whole.fit_read.Statement.{statement}
 use Rattle.jobcall.proofs.whole.fit_read.Tie as tie
 
-read-shape-requires : tie.Need-read-shape-requires
-read-shape-requires c κs = search needs
-
 fit-fronts-requires : tie.Need-fit-fronts-requires
-fit-fronts-requires c κs = c .before .before .before .before .before .before .before .before .before .before .before .before .before .before .before .before .before .before .before .pre .1
+fit-fronts-requires c κs =
+    let start = c .before .before .before .before .before .before .before .before .before .before .before .before .before .before .before .before .before in
+    start .pre .1
 
 put-counts-requires : tie.Need-put-counts-requires
-put-counts-requires c κs = c .before .before .before .before .before .before .before .before .before .before .before .before .before .before .before .before .before .before .before .before .before .before .before .before .before .before .before .before .before .pre .0
+put-counts-requires c κs =
+    let start = c .before .before .before .before .before .before .before .before .before .before .before .before .before .before .before .before .before .before .before .before .before .before .before .before .before .before .before in
+    start .pre .0
 
 returned-requires : tie.Need-returned-requires
 returned-requires c κs = search needs
 
 same-length : tie.Need-same-length
-same-length c = c .before .before .before .before .before .before .before .before .before .before .before .before .before .fit-fronts .kept .1 .1 .1 .1 .1 .1 .1 .1 .1 .1 .0
+same-length c =
+    let fitted = c .before .before .before .before .before .before .before .before .before .before .before .before .before in
+    fitted .fit-fronts .kept .1 .1 .1 .1 .1 .1 .1 .1 .1 .1 .0
 
 same-length-2 : tie.Need-same-length-2
-same-length-2 c = c .before .before .before .before .before .before .before .before .before .before .before .before .before .fit-fronts .kept .1 .1 .1 .1 .1 .1 .1 .1 .1 .1 .1 .0
+same-length-2 c =
+    let fitted = c .before .before .before .before .before .before .before .before .before .before .before .before .before in
+    fitted .fit-fronts .kept .1 .1 .1 .1 .1 .1 .1 .1 .1 .1 .1 .0
 
 same-length-3 : tie.Need-same-length-3
-same-length-3 c = c .before .before .before .before .before .before .before .before .before .before .before .before .before .fit-fronts .kept .1 .1 .1 .1 .1 .1 .1 .1 .1 .1 .1 .1 .0
+same-length-3 c =
+    let fitted = c .before .before .before .before .before .before .before .before .before .before .before .before .before in
+    fitted .fit-fronts .kept .1 .1 .1 .1 .1 .1 .1 .1 .1 .1 .1 .1 .0
 
 same-length-4 : tie.Need-same-length-4
-same-length-4 c = c .before .before .before .before .before .before .before .before .before .before .before .before .before .fit-fronts .kept .1 .1 .1 .1 .1 .1 .1 .1 .1 .1 .1 .1 .1 .0
+same-length-4 c =
+    let fitted = c .before .before .before .before .before .before .before .before .before .before .before .before .before in
+    fitted .fit-fronts .kept .1 .1 .1 .1 .1 .1 .1 .1 .1 .1 .1 .1 .1 .0
 
 same-length-5 : tie.Need-same-length-5
 same-length-5 c = c .before .before .before .put-counts .kept .1 .1 .0
 
 returns : tie.Need-returns
-returns c = read-told _ _ _ _ _ _ _ _ _ _ _ _ _ _ _ _ (c .before .before .before .before .before .before .before .before .before .before .before .before .before .before .before .before .before .before .read-shape .ensures) (c .before .before .before .before .before .before .before .before .before .before .before .before .before .fit-fronts .ensures) (c .before .before .before .put-counts .ensures) (c .returned .ensures)
+returns c =
+    let counted = c .before .before .before in
+    let fitted = counted .before .before .before .before .before .before .before .before .before .before in
+    read-told _ _ _ _ _ _ _ _ _ _ _ _ _ _ _ (fitted .fit-fronts .ensures) (counted .put-counts .ensures) (c .returned .ensures)
 
 pub fit-read-spec : {M : Type 1} → statement M
 fit-read-spec =
     tie.close
     (tie.spec
-    read-shape-requires
     fit-fronts-requires
     put-counts-requires
     returned-requires
