@@ -146,7 +146,15 @@ pub extern "C" fn glmm_fit_blocks(
     matrices: &mut [f64],
     terms: &mut [f64],
 ) -> PlainAnswer
-    ensures { λ r. ⌜ shown r (lent (now (beta .exit)) (now (se .exit)) (now (z .exit)) (now (u .exit)) (now (b .exit)) (now (mu .exit)) (now (eta .exit)) (now (residual .exit)) (now (v .exit)) (now (rows .exit)) (now (matrices .exit)) (now (terms .exit))) ≡ fitBlocksOf coded (now (blocks .entry)) (inputs (now (theta .entry)) (now (y .entry)) (now (weights .entry)) (now (offset .entry)) (now (x .entry)) (now (starts .entry)) (now (columns .entry)) (now (values .entry))) (lent (now (beta .entry)) (now (se .entry)) (now (z .entry)) (now (u .entry)) (now (b .entry)) (now (mu .entry)) (now (eta .entry)) (now (residual .entry)) (now (v .entry)) (now (rows .entry)) (now (matrices .entry)) (now (terms .entry))) ⌝ }
+    ensures { λ r. ⌜
+        shown r
+        (lent (now (beta .exit)) (now (se .exit)) (now (z .exit)) (now (u .exit)) (now (b .exit)) (now (mu .exit)) (now (eta .exit)) (now (residual .exit))
+        (now (v .exit)) (now (rows .exit)) (now (matrices .exit)) (now (terms .exit)))
+        ≡ fitBlocksOf coded (now (blocks .entry))
+        (inputs (now (theta .entry)) (now (y .entry)) (now (weights .entry)) (now (offset .entry)) (now (x .entry)) (now (starts .entry)) (now (columns .entry))
+        (now (values .entry)))
+        (lent (now (beta .entry)) (now (se .entry)) (now (z .entry)) (now (u .entry)) (now (b .entry)) (now (mu .entry)) (now (eta .entry))
+        (now (residual .entry)) (now (v .entry)) (now (rows .entry)) (now (matrices .entry)) (now (terms .entry))) ⌝ }
 {
     let settings = settings_of(coded);
     let answer = blocks::fit_blocks(

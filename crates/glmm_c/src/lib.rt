@@ -47,7 +47,9 @@ pub extern "C" fn glmm_fit_job(
     results: &mut [f64],
     counts: &mut [u64],
 ) -> u64
-    ensures { λ r. ⌜ told r (buffers (now (rows .exit)) (now (matrices .exit)) (now (terms .exit)) (now (results .exit)) (now (counts .exit))) ≡ fitJobOf (now (job .entry)) (buffers (now (rows .entry)) (now (matrices .entry)) (now (terms .entry)) (now (results .entry)) (now (counts .entry))) ⌝ }
+    ensures { λ r. ⌜
+        told r (buffers (now (rows .exit)) (now (matrices .exit)) (now (terms .exit)) (now (results .exit)) (now (counts .exit)))
+        ≡ fitJobOf (now (job .entry)) (buffers (now (rows .entry)) (now (matrices .entry)) (now (terms .entry)) (now (results .entry)) (now (counts .entry))) ⌝ }
 {
     jobcall::fit_job(job, rows, matrices, terms, results, counts)
 }
@@ -62,7 +64,10 @@ pub extern "C" fn glmm_fit_job_theta(
     results: &mut [f64],
     counts: &mut [u64],
 ) -> u64
-    ensures { λ r. ⌜ told r (buffers (now (rows .exit)) (now (matrices .exit)) (now (terms .exit)) (now (results .exit)) (now (counts .exit))) ≡ fitJobThetaOf (now (job .entry)) (now (theta .entry)) (buffers (now (rows .entry)) (now (matrices .entry)) (now (terms .entry)) (now (results .entry)) (now (counts .entry))) ⌝ }
+    ensures { λ r. ⌜
+        told r (buffers (now (rows .exit)) (now (matrices .exit)) (now (terms .exit)) (now (results .exit)) (now (counts .exit)))
+        ≡ fitJobThetaOf (now (job .entry)) (now (theta .entry))
+        (buffers (now (rows .entry)) (now (matrices .entry)) (now (terms .entry)) (now (results .entry)) (now (counts .entry))) ⌝ }
 {
     jobcall::fit_job_theta(job, theta, rows, matrices, terms, results, counts)
 }

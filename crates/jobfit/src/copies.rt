@@ -54,7 +54,12 @@ pub fn put_numbers(
     out: &mut [f64],
 )
     requires { ⌜ numbersLength (nine (now beta) (now se) (now z) (now u) (now b) (now mu) (now eta) (now residual) (now v)) ≤ length (now out) ⌝ }
-    ensures { λ _. ⌜ now (out .exit) ≡ laid (numbersOf answer (nine (now (beta .entry)) (now (se .entry)) (now (z .entry)) (now (u .entry)) (now (b .entry)) (now (mu .entry)) (now (eta .entry)) (now (residual .entry)) (now (v .entry)))) (now (out .entry)) ⌝ }
+    ensures { λ _. ⌜
+        now (out .exit)
+        ≡ laid
+        (numbersOf answer
+        (nine (now (beta .entry)) (now (se .entry)) (now (z .entry)) (now (u .entry)) (now (b .entry)) (now (mu .entry)) (now (eta .entry))
+        (now (residual .entry)) (now (v .entry)))) (now (out .entry)) ⌝ }
 {
     out[0] = answer.deviance;
     out[1] = answer.phi;

@@ -61,7 +61,14 @@ fn fit_written(
     results: &mut [f64],
 ) -> Answer
     requires { ⌜ RoomFor (nine (now beta) (now se) (now z) (now u) (now b) (now mu) (now eta) (now residual) (now v)) (now results) ⌝ }
-    ensures { λ a. ⌜ done a (now (rows .exit)) (now (matrices .exit)) (now (terms .exit)) (now (results .exit)) ≡ doneOf (callOf settings shape (inputs (now (theta .entry)) (now (y .entry)) (now (weights .entry)) (now (offset .entry)) (now (x .entry)) (now (starts .entry)) (now (columns .entry)) (now (values .entry))) (lent (now (beta .entry)) (now (se .entry)) (now (z .entry)) (now (u .entry)) (now (b .entry)) (now (mu .entry)) (now (eta .entry)) (now (residual .entry)) (now (v .entry)) (now (rows .entry)) (now (matrices .entry)) (now (terms .entry)))) (now (results .entry)) ⌝ }
+    ensures { λ a. ⌜
+        done a (now (rows .exit)) (now (matrices .exit)) (now (terms .exit)) (now (results .exit))
+        ≡ doneOf
+        (callOf settings shape
+        (inputs (now (theta .entry)) (now (y .entry)) (now (weights .entry)) (now (offset .entry)) (now (x .entry)) (now (starts .entry))
+        (now (columns .entry)) (now (values .entry)))
+        (lent (now (beta .entry)) (now (se .entry)) (now (z .entry)) (now (u .entry)) (now (b .entry)) (now (mu .entry)) (now (eta .entry))
+        (now (residual .entry)) (now (v .entry)) (now (rows .entry)) (now (matrices .entry)) (now (terms .entry)))) (now (results .entry)) ⌝ }
 {
     let answer = fit(
         settings,
@@ -112,7 +119,11 @@ fn fit_results(
     results: &mut [f64],
 ) -> Answer
     requires { ⌜ SizesFew settings ⌝ }
-    ensures { λ a. ⌜ done a (now (rows .exit)) (now (matrices .exit)) (now (terms .exit)) (now (results .exit)) ≡ doneFor settings shape (inputs (now (theta .entry)) (now (y .entry)) (now (weights .entry)) (now (offset .entry)) (now (x .entry)) (now (starts .entry)) (now (columns .entry)) (now (values .entry))) (now (rows .entry)) (now (matrices .entry)) (now (terms .entry)) (now (results .entry)) ⌝ }
+    ensures { λ a. ⌜
+        done a (now (rows .exit)) (now (matrices .exit)) (now (terms .exit)) (now (results .exit))
+        ≡ doneFor settings shape
+        (inputs (now (theta .entry)) (now (y .entry)) (now (weights .entry)) (now (offset .entry)) (now (x .entry)) (now (starts .entry)) (now (columns .entry))
+        (now (values .entry))) (now (rows .entry)) (now (matrices .entry)) (now (terms .entry)) (now (results .entry)) ⌝ }
 {
     let n = settings.n;
     let p = settings.p;
@@ -174,7 +185,12 @@ pub fn fit_fronts(
     results: &mut [f64],
 ) -> Answer
     requires { ⌜ Fronts header (inputs (now theta) (now y) (now weights) (now offset) (now x) (now starts) (now columns) (now values)) ⌝ }
-    ensures { λ a. ⌜ done a (now (rows .exit)) (now (matrices .exit)) (now (terms .exit)) (now (results .exit)) ≡ doneFor (header .settings) shape (frontsOf header (inputs (now (theta .entry)) (now (y .entry)) (now (weights .entry)) (now (offset .entry)) (now (x .entry)) (now (starts .entry)) (now (columns .entry)) (now (values .entry)))) (now (rows .entry)) (now (matrices .entry)) (now (terms .entry)) (now (results .entry)) ⌝ }
+    ensures { λ a. ⌜
+        done a (now (rows .exit)) (now (matrices .exit)) (now (terms .exit)) (now (results .exit))
+        ≡ doneFor (header .settings) shape
+        (frontsOf header
+        (inputs (now (theta .entry)) (now (y .entry)) (now (weights .entry)) (now (offset .entry)) (now (x .entry)) (now (starts .entry))
+        (now (columns .entry)) (now (values .entry)))) (now (rows .entry)) (now (matrices .entry)) (now (terms .entry)) (now (results .entry)) ⌝ }
 {
     let settings = header.settings;
     let weighted = header.weights;

@@ -24,7 +24,9 @@ pub fn read_numbers(s: &[u8], a: usize, n: usize, out: &mut [f64])
 // The n entries of the row of Z' at byte p, into columns and values behind their first e.
 fn read_row(s: &[u8], p: usize, n: usize, e: usize, columns: &mut [usize], values: &mut [f64])
     requires { ⌜ (length (now s) ≤ 65536) × (p + 2 + 10 * n ≤ length (now s)) × (e + n ≤ length (now columns)) × (e + n ≤ length (now values)) ⌝ }
-    ensures { λ _. ⌜ (now (columns .exit) ≡ laid (take e (now (columns .entry)) ++ counts (columnRead (now (s .entry)) p) n) (now (columns .entry))) × (now (values .exit) ≡ laid (take e (now (values .entry)) ++ build (valueRead (now (s .entry)) p) n) (now (values .entry))) ⌝ }
+    ensures { λ _. ⌜
+        (now (columns .exit) ≡ laid (take e (now (columns .entry)) ++ counts (columnRead (now (s .entry)) p) n) (now (columns .entry)))
+        × (now (values .exit) ≡ laid (take e (now (values .entry)) ++ build (valueRead (now (s .entry)) p) n) (now (values .entry))) ⌝ }
 {
     let mut j = 0;
     while j < n {
@@ -48,7 +50,11 @@ pub fn read_rows(
 ) -> usize
     requires { ⌜ (length (now s) ≤ 65536) × (z ≡ zAt (now s)) × (rowAt (now s) q ≤ length (now s)) ⌝ }
     requires { ⌜ (q < length (now starts)) × (8192 ≤ length (now columns)) × (8192 ≤ length (now values)) ⌝ }
-    ensures { λ r. ⌜ (r ≡ startOf (now (s .entry)) q) × (now (starts .exit) ≡ laid (counts (startOf (now (s .entry))) (q + 1)) (now (starts .entry))) × (now (columns .exit) ≡ laid (joinTo q (columnsOf (now (s .entry)))) (now (columns .entry))) × (now (values .exit) ≡ laid (joinTo q (valuesOf (now (s .entry)))) (now (values .entry))) ⌝ }
+    ensures { λ r. ⌜
+        (r ≡ startOf (now (s .entry)) q)
+        × (now (starts .exit) ≡ laid (counts (startOf (now (s .entry))) (q + 1)) (now (starts .entry)))
+        × (now (columns .exit) ≡ laid (joinTo q (columnsOf (now (s .entry)))) (now (columns .entry)))
+        × (now (values .exit) ≡ laid (joinTo q (valuesOf (now (s .entry)))) (now (values .entry))) ⌝ }
 {
     let mut at = z;
     let mut e = 0;

@@ -117,7 +117,11 @@ fn room_in(
     columns: &[usize],
     values: &[f64],
 ) -> bool
-    ensures { λ r. ⌜ r ≡ roomy (inputs (now (theta .entry)) (now (y .entry)) (now (weights .entry)) (now (offset .entry)) (now (x .entry)) (now (starts .entry)) (now (columns .entry)) (now (values .entry))) ⌝ }
+    ensures { λ r. ⌜
+        r
+        ≡ roomy
+        (inputs (now (theta .entry)) (now (y .entry)) (now (weights .entry)) (now (offset .entry)) (now (x .entry)) (now (starts .entry)) (now (columns .entry))
+        (now (values .entry))) ⌝ }
 {
     if theta.len() < 288 {
         return false;
@@ -160,7 +164,14 @@ fn fill_job(
     requires { ⌜ isSound (faultOf (now s)) ≡ true ⌝ }
     requires { ⌜ (c ≡ countsOf (now s)) × (at ≡ placesOf (now s)) ⌝ }
     requires { ⌜ roomy (inputs (now theta) (now y) (now weights) (now offset) (now x) (now starts) (now columns) (now values)) ≡ true ⌝ }
-    ensures { λ r. ⌜ (r ≡ startOf (now (s .entry)) (rowsIn (now (s .entry)))) × (inputs (now (theta .exit)) (now (y .exit)) (now (weights .exit)) (now (offset .exit)) (now (x .exit)) (now (starts .exit)) (now (columns .exit)) (now (values .exit)) ≡ filled (jobOf (now (s .entry))) (inputs (now (theta .entry)) (now (y .entry)) (now (weights .entry)) (now (offset .entry)) (now (x .entry)) (now (starts .entry)) (now (columns .entry)) (now (values .entry)))) ⌝ }
+    ensures { λ r. ⌜
+        (r ≡ startOf (now (s .entry)) (rowsIn (now (s .entry))))
+        ×
+        (inputs (now (theta .exit)) (now (y .exit)) (now (weights .exit)) (now (offset .exit)) (now (x .exit)) (now (starts .exit)) (now (columns .exit))
+        (now (values .exit))
+        ≡ filled (jobOf (now (s .entry)))
+        (inputs (now (theta .entry)) (now (y .entry)) (now (weights .entry)) (now (offset .entry)) (now (x .entry)) (now (starts .entry))
+        (now (columns .entry)) (now (values .entry)))) ⌝ }
 {
     let thetas = c.thetas;
     let theta_at = at.theta;

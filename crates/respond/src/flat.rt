@@ -12,7 +12,8 @@ ghost use Rattle.respond.specs.Flat.{listsOf};
 // The sizes say where each list begins.
 pub fn put_flat(out: &mut [u8], settings: Settings, answer: Answer, results: &[f64]) -> usize
     requires { ⌜ (outRoom ≤ length (now out)) × SizesFew settings × (resultsLength (settings .n) (settings .p) (settings .rows) ≤ length (now results)) ⌝ }
-    ensures { λ r. ⌜ Written (answerText answer (listsOf (settings .n) (settings .p) (settings .rows) (now (results .entry)))) (now (out .entry)) r (now (out .exit)) ⌝ }
+    ensures { λ r. ⌜
+        Written (answerText answer (listsOf (settings .n) (settings .p) (settings .rows) (now (results .entry)))) (now (out .entry)) r (now (out .exit)) ⌝ }
 {
     let n = settings.n;
     let p = settings.p;
