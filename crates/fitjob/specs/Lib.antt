@@ -1,2 +1,2 @@
--- What the program's reading of its input answers. Assumes nothing.
+-- What the program prints of an input. Assumes nothing.
 pub mod Input

@@ -1,29 +1,20 @@
-// The program: one job from standard input, its answer on standard output. What is printed of a job is `respond`'s contract; here it is only read and written.
+// The program: one job from standard input, its answer on standard output. What each read leads to is `intake`'s contract, what is printed of a job is `respond`'s.
+use intake::Input;
+use intake::Step;
 ghost use Prim.Native.Nat.{_≤_};
 ghost use lib.ListN.{length};
-ghost use Rattle.report.specs.Report.{outRoom};
-ghost use Rattle.fitjob.specs.Input.{heldOf};
+ghost use Rattle.fitjob.specs.Input.{heldOf, Printed};
 
-// What standard input held: so many bytes, more than there is room for, or it could not be read.
-enum Input {
-    Held(usize),
-    TooLong,
-    Failed,
-}
-
-// After the first n bytes: whether the input ends there.
-fn read_past(n: usize) -> Input
-    ensures { λ r. ⌜ heldOf r ≤ n ⌝ }
+// After a full space: whether the input ends there.
+fn read_past(room: usize) -> Input
+    ensures { λ r. ⌜ heldOf r ≤ room ⌝ }
 {
     let mut one = [0u8; 1];
     let got = libc::read(0, &mut one);
-    if got < 0 {
-        return Input::Failed;
+    match intake::after_read(room, room, got) {
+        Step::More(_) => Input::TooLong,
+        Step::Ended(input) => input,
     }
-    if got == 0 {
-        return Input::Held(n);
-    }
-    Input::TooLong
 }
 
 // Reads until the input ends, fails, or goes on behind a full space.
@@ -34,16 +25,24 @@ fn read_input(space: &mut [u8]) -> Input
     let mut at = 0;
     while at < end {
         let got = libc::read(0, &mut space[at..end]);
-        if got < 0 {
-            return Input::Failed;
+        match intake::after_read(end, at, got) {
+            Step::More(n) => at = n,
+            Step::Ended(input) => return input,
         }
-        let n = io::count(got, &space[at..end]);
-        if n == 0 {
-            return Input::Held(at);
-        }
-        at += n;
     }
-    read_past(at)
+    read_past(end)
+}
+
+// What is to be printed of an input: it stands in the front of out, and its length is told.
+fn answer(input: Input, space: &[u8], terms: &mut [f64], out: &mut [u8]) -> usize
+    requires { ⌜ heldOf input ≤ length (now space) ⌝ }
+    ensures { λ r. ⌜ Printed input (now (space .entry)) (now (terms .entry)) (now (out .entry)) r (now (terms .exit)) (now (out .exit)) ⌝ }
+{
+    match input {
+        Input::Failed => 0,
+        Input::TooLong => respond::respond_long(out),
+        Input::Held(n) => respond::respond(&space[0..n], terms, out),
+    }
 }
 
 // Some bytes on standard output; where they cannot be written, a line on standard error says so.
@@ -53,28 +52,23 @@ fn put(bytes: &[u8]) {
     }
 }
 
-fn put_answer(job: &[u8], out: &mut [u8])
-    requires { ⌜ outRoom ≤ length (now out) ⌝ }
-{
-    let n = respond::respond(job, out);
-    put(&out[0..n]);
-}
-
-fn put_too_long(out: &mut [u8])
-    requires { ⌜ outRoom ≤ length (now out) ⌝ }
-{
-    let n = respond::respond_long(out);
-    put(&out[0..n]);
+// A line on standard error where the input could not be read.
+fn put_fault(input: Input) {
+    match input {
+        Input::Failed => {
+            io::write_all(2, b"fitjob: standard input cannot be read\n");
+        }
+        Input::TooLong => {}
+        Input::Held(_) => {}
+    }
 }
 
 fn main() {
     let mut space = [0u8; 65536];
+    let mut terms = [0.0; 7000];
     let mut out = [0u8; 131072];
-    match read_input(&mut space) {
-        Input::Failed => {
-            io::write_all(2, b"fitjob: standard input cannot be read\n");
-        }
-        Input::TooLong => put_too_long(&mut out),
-        Input::Held(n) => put_answer(&space[0..n], &mut out),
-    }
+    let input = read_input(&mut space);
+    put_fault(input);
+    let n = answer(input, &space, &mut terms, &mut out);
+    put(&out[0..n]);
 }

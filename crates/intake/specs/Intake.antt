@@ -3,7 +3,6 @@ use mathlib.Core.Bool.{cond}
 use Prim.Native.Nat.{ℕ, _+_}
 use lib.Dec.{eqb, leb}
 use lib.IntN.{ℤ, pos, negsuc}
-use Rattle.intake.specs.declared.Input.{Input}
 use Rattle.intake.specs.declared.Input.the-variants.{Held, TooLong, Failed}
 use Rattle.intake.specs.declared.Step.{Step}
 use Rattle.intake.specs.declared.Step.the-variants.{More, Ended}

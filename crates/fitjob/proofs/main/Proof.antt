@@ -1,6 +1,6 @@
--- `fitjob::main` is safe: what was read is within the space. Assumes nothing.
+-- `fitjob::main` is safe: what was read is within the space, and what is printed within the bytes. Assumes nothing.
 use native.Mathlib.Omega.{arith}
-use Rattle.fitjob.proofs.Reading.{held-within}
+use Rattle.fitjob.proofs.Reading.{printed-within}
 use borrow.Author.Needs.{needs}
 use Rattle.fitjob.proofs.main.Statement.{statement}
 use Rattle.fitjob.proofs.main.Tie as tie
@@ -11,50 +11,35 @@ slice-aggregate-read-input c = search needs
 read-input-requires : tie.Need-read-input-requires
 read-input-requires c κs = search needs
 
-enum-told : tie.Need-enum-told
-enum-told c = search needs
+put-fault-requires : tie.Need-put-fault-requires
+put-fault-requires c κs = search needs
 
-slice-aggregate-write-all : tie.Need-slice-aggregate-write-all
-slice-aggregate-write-all c = search needs
+slice-aggregate-answer : tie.Need-slice-aggregate-answer
+slice-aggregate-answer c = search needs
 
-write-all-requires : tie.Need-write-all-requires
-write-all-requires c κs = search needs
+slice-aggregate-answer-2 : tie.Need-slice-aggregate-answer-2
+slice-aggregate-answer-2 c = search needs
 
-enum-told-2 : tie.Need-enum-told-2
-enum-told-2 c = search needs
+slice-aggregate-answer-3 : tie.Need-slice-aggregate-answer-3
+slice-aggregate-answer-3 c = search needs
 
-slice-aggregate-put-too-long : tie.Need-slice-aggregate-put-too-long
-slice-aggregate-put-too-long c = search needs
+answer-requires : tie.Need-answer-requires
+answer-requires c κs = omega (arith, c .before .before .before .before .before .read-input .ensures)
 
-put-too-long-requires : tie.Need-put-too-long-requires
-put-too-long-requires c κs = search needs
+sub-put : tie.Need-sub-put
+sub-put c = search needs
 
-enum-known-n : tie.Need-enum-known-n
-enum-known-n c = search needs
+part-put-start : tie.Need-part-put-start
+part-put-start c = search needs
 
-sub-put-answer : tie.Need-sub-put-answer
-sub-put-answer c = search needs
+part-put-end : tie.Need-part-put-end
+part-put-end c = omega (arith, printed-within _ _ _ _ _ _ _ (c .before .before .before .answer .ensures))
 
-part-put-answer-start : tie.Need-part-put-answer-start
-part-put-answer-start c = search needs
-
-part-put-answer-end : tie.Need-part-put-answer-end
-part-put-answer-end c = omega (arith, held-within _ _ _ (c .before .before .n .given .1) (c .before .before .before .before .before .read-input .ensures))
-
-slice-aggregate-put-answer : tie.Need-slice-aggregate-put-answer
-slice-aggregate-put-answer c = search needs
-
-put-answer-requires : tie.Need-put-answer-requires
-put-answer-requires c κs = search needs
+put-requires : tie.Need-put-requires
+put-requires c κs = search needs
 
 returns : tie.Need-returns
 returns c = search needs
-
-returns-2 : tie.Need-returns-2
-returns-2 c = search needs
-
-returns-3 : tie.Need-returns-3
-returns-3 c = search needs
 
 pub main-spec : {M : Type 1} → statement M
 main-spec =
@@ -62,18 +47,13 @@ main-spec =
     (tie.spec
     slice-aggregate-read-input
     read-input-requires
-    enum-told
-    slice-aggregate-write-all
-    write-all-requires
-    enum-told-2
-    slice-aggregate-put-too-long
-    put-too-long-requires
-    enum-known-n
-    sub-put-answer
-    part-put-answer-start
-    part-put-answer-end
-    slice-aggregate-put-answer
-    put-answer-requires
-    returns
-    returns-2
-    returns-3)
+    put-fault-requires
+    slice-aggregate-answer
+    slice-aggregate-answer-2
+    slice-aggregate-answer-3
+    answer-requires
+    sub-put
+    part-put-start
+    part-put-end
+    put-requires
+    returns)

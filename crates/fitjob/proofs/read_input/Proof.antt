@@ -1,7 +1,9 @@
 -- `fitjob::read_input` is safe and ends: each turn reads one byte at least, and what is held is within the space. Assumes nothing.
 use mathlib.Core.Path.{_≡_}
 use Prim.Native.Nat.{_-_, _≤_}
+use native.Mathlib.Omega.{arith}
 use lib.ListN.{length}
+use Rattle.fitjob.proofs.Reading.{ended-within, more-of}
 use borrow.Author.Needs.{needs}
 use Rattle.fitjob.proofs.read_input.Statement.{statement}
 use Rattle.fitjob.proofs.read_input.Tie as tie
@@ -27,47 +29,44 @@ part-read-end c = search needs
 read-requires : tie.Need-read-requires Inv-loop μ-loop
 read-requires c κs = search needs
 
+after-read-requires : tie.Need-after-read-requires Inv-loop μ-loop
+after-read-requires c κs = search needs
+
+enum-known-n : tie.Need-enum-known-n Inv-loop μ-loop
+enum-known-n c = search needs
+
+loop-less : tie.Need-loop-less Inv-loop μ-loop
+loop-less c =
+    let more = more-of _ _ _ _ _ (c .before .before .before .after-read .ensures) (c .before .n .given .1) in
+    omega (arith, more .0, more .1)
+
+loop-again : tie.Need-loop-again Inv-loop μ-loop
+loop-again c =
+    let more = more-of _ _ _ _ _ (c .before .before .before .after-read .ensures) (c .before .n .given .1) in
+    search (needs, more .1)
+
+enum-known-input : tie.Need-enum-known-input Inv-loop μ-loop
+enum-known-input c = search needs
+
 same-length : tie.Need-same-length Inv-loop μ-loop
 same-length c = search needs
 
 returns : tie.Need-returns Inv-loop μ-loop
-returns c = search needs
+returns c =
+    let inv = c .before .before .before .before .before .before .before .before .before .loop .inv in
+    let within = ended-within _ _ _ _ _ (c .before .before .before .after-read .ensures) (c .before .input .given .1) (inv .0) in
+    omega (arith, within, inv .2)
 
-sub-count : tie.Need-sub-count Inv-loop μ-loop
-sub-count c = search needs
-
-part-count-start : tie.Need-part-count-start Inv-loop μ-loop
-part-count-start c = search needs
-
-part-count-end : tie.Need-part-count-end Inv-loop μ-loop
-part-count-end c = search needs
-
-count-requires : tie.Need-count-requires Inv-loop μ-loop
-count-requires c κs = search needs
+read-past-requires : tie.Need-read-past-requires Inv-loop μ-loop
+read-past-requires c κs = search needs
 
 same-length-2 : tie.Need-same-length-2 Inv-loop μ-loop
 same-length-2 c = search needs
 
 returns-2 : tie.Need-returns-2 Inv-loop μ-loop
-returns-2 c = search needs
-
-add-at : tie.Need-add-at Inv-loop μ-loop
-add-at c = search needs
-
-loop-less : tie.Need-loop-less Inv-loop μ-loop
-loop-less c = search needs
-
-loop-again : tie.Need-loop-again Inv-loop μ-loop
-loop-again c = search needs
-
-read-past-requires : tie.Need-read-past-requires Inv-loop μ-loop
-read-past-requires c κs = search needs
-
-same-length-3 : tie.Need-same-length-3 Inv-loop μ-loop
-same-length-3 c = search needs
-
-returns-3 : tie.Need-returns-3 Inv-loop μ-loop
-returns-3 c = search needs
+returns-2 c =
+    let inv = c .before .before .loop .inv in
+    omega (arith, c .read-past .ensures, inv .2)
 
 pub read-input-spec : {M : Type 1} → statement M
 read-input-spec =
@@ -80,17 +79,13 @@ read-input-spec =
     part-read-start
     part-read-end
     read-requires
-    same-length
-    returns
-    sub-count
-    part-count-start
-    part-count-end
-    count-requires
-    same-length-2
-    returns-2
-    add-at
+    after-read-requires
+    enum-known-n
     loop-less
     loop-again
+    enum-known-input
+    same-length
+    returns
     read-past-requires
-    same-length-3
-    returns-3)
+    same-length-2
+    returns-2)
