@@ -2,7 +2,6 @@
 // The first job is one byte longer than a job may be, and stands here.
 ghost use Prim.Native.Nat.{_≤_};
 ghost use lib.ListN.{length};
-ghost use Rattle.report.specs.Report.{outRoom};
 
 // At most b.
 fn least(a: usize, b: usize) -> usize
@@ -14,22 +13,18 @@ fn least(a: usize, b: usize) -> usize
     a
 }
 
-fn put_job(number: u64, job: &[u8], out: &mut [u8])
-    requires { ⌜ outRoom ≤ length (now out) ⌝ }
-{
+fn put_job(number: u64, job: &[u8], terms: &mut [f64], out: &mut [u8]) {
     text::put_word(b"job");
     text::put_count(number);
     text::end_line();
-    let n = respond::respond(job, out);
+    let n = respond::respond(job, terms, out);
     text::put_word(&out[0..n]);
 }
 
 // The first n bytes as a job.
-fn put_front(number: u64, bytes: &[u8], n: usize, out: &mut [u8])
-    requires { ⌜ outRoom ≤ length (now out) ⌝ }
-{
+fn put_front(number: u64, bytes: &[u8], n: usize, terms: &mut [f64], out: &mut [u8]) {
     let m = least(n, bytes.len());
-    put_job(number, &bytes[0..m], out);
+    put_job(number, &bytes[0..m], terms, out);
 }
 
 // A length in three bytes, the high byte first.
@@ -41,8 +36,14 @@ fn job_size(high: u8, middle: u8, low: u8) -> usize
 }
 
 // One job from standard input; whether there was one.
-fn next_job(number: u64, size: &mut [u8], space: &mut [u8], out: &mut [u8]) -> bool
-    requires { ⌜ (3 ≤ length (now size)) × (65536 ≤ length (now space)) × (outRoom ≤ length (now out)) ⌝ }
+fn next_job(
+    number: u64,
+    size: &mut [u8],
+    space: &mut [u8],
+    terms: &mut [f64],
+    out: &mut [u8],
+) -> bool
+    requires { ⌜ (3 ≤ length (now size)) × (65536 ≤ length (now space)) ⌝ }
 {
     let had = io::read_full(0, size);
     if had < 3 {
@@ -50,16 +51,16 @@ fn next_job(number: u64, size: &mut [u8], space: &mut [u8], out: &mut [u8]) -> b
     }
     let n = job_size(size[0], size[1], size[2]);
     let got = io::read_full(0, &mut space[0..n]);
-    put_front(number, space, least(got, n), out);
+    put_front(number, space, least(got, n), terms, out);
     true
 }
 
-fn all_jobs(size: &mut [u8], space: &mut [u8], out: &mut [u8])
-    requires { ⌜ (3 ≤ length (now size)) × (65536 ≤ length (now space)) × (outRoom ≤ length (now out)) ⌝ }
+fn all_jobs(size: &mut [u8], space: &mut [u8], terms: &mut [f64], out: &mut [u8])
+    requires { ⌜ (3 ≤ length (now size)) × (65536 ≤ length (now space)) ⌝ }
 {
     let mut number: u64 = 1;
     while number < 1000 {
-        if !next_job(number, size, space, out) {
+        if !next_job(number, size, space, terms, out) {
             return;
         }
         number += 1;
@@ -69,8 +70,9 @@ fn all_jobs(size: &mut [u8], space: &mut [u8], out: &mut [u8])
 fn main() {
     let mut size = [0u8; 3];
     let mut space = [0u8; 65536];
+    let mut terms = [0.0; 7000];
     let mut out = [0u8; 131072];
     let long = [0u8; 65537];
-    put_job(0, &long, &mut out);
-    all_jobs(&mut size, &mut space, &mut out);
+    put_job(0, &long, &mut terms, &mut out);
+    all_jobs(&mut size, &mut space, &mut terms, &mut out);
 }

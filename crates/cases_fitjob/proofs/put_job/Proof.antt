@@ -1,5 +1,5 @@
 -- `cases_fitjob::put_job` is safe: what was written is within the buffer. Assumes nothing.
-use Rattle.respond.proofs.Telling.{written-within}
+use Rattle.respond.proofs.Telling.{respond-within}
 use borrow.Author.Needs.{needs}
 use Rattle.cases_fitjob.proofs.put_job.Statement.{statement}
 use Rattle.cases_fitjob.proofs.put_job.Tie as tie
@@ -26,13 +26,18 @@ part-put-word-start : tie.Need-part-put-word-start
 part-put-word-start c = search needs
 
 part-put-word-end : tie.Need-part-put-word-end
-part-put-word-end c = written-within _ _ _ _ (c .before .before .before .respond .ensures)
+part-put-word-end c =
+    let called = c .before .before .before .before .before in
+    respond-within _ _ _ _ _ _ (called .respond .ensures)
 
 put-word-requires-2 : tie.Need-put-word-requires-2
 put-word-requires-2 c κs = search needs
 
 same-length : tie.Need-same-length
 same-length c = search needs
+
+same-length-2 : tie.Need-same-length-2
+same-length-2 c = search needs
 
 returns : tie.Need-returns
 returns c = search needs
@@ -51,4 +56,5 @@ put-job-spec =
     part-put-word-end
     put-word-requires-2
     same-length
+    same-length-2
     returns)
