@@ -12,7 +12,8 @@ use Rattle.stages.proofs.weighing.targets_into.Statement.{statement}
 use Rattle.stages.proofs.weighing.targets_into.Tie as tie
 
 abbrev Inv-loop : tie.InvT-loop
-Inv-loop offset w z n weighted working r₀ i₀ r i = (i ≤ n) × (length r ≡ length r₀) × (r ≡ fillAt working i (targetAt offset z) (fillAt weighted i (productAt w (build (targetAt offset z) n)) r₀))
+Inv-loop offset w z n weighted working r₀ i₀ r i =
+    (i ≤ n) × (length r ≡ length r₀) × (r ≡ fillAt working i (targetAt offset z) (fillAt weighted i (productAt w (build (targetAt offset z) n)) r₀))
 
 abbrev μ-loop : tie.MeasureT-loop
 μ-loop offset w z n weighted working r₀ i₀ r i = n - i
@@ -28,7 +29,9 @@ shared-slice-read-less-offset : tie.Need-shared-slice-read-less-offset Inv-loop 
 shared-slice-read-less-offset c = omega arith
 
 less-offset-requires : tie.Need-less-offset-requires Inv-loop μ-loop
-less-offset-requires c κs = optional-at (c .before .before .before .before .before .before .before .args .n) (c .before .before .loop .i) (c .before .before .before .before .before .before .before .args .offset .now) (c .before .before .before .before .before .before .before .pre .0) (omega arith)
+less-offset-requires c κs =
+    let start = c .before .before .before .before .before .before .before in
+    optional-at (start .args .n) (c .before .before .loop .i) (start .args .offset .now) (start .pre .0) (omega arith)
 
 mul-r : tie.Need-mul-r Inv-loop μ-loop
 mul-r c = omega arith
@@ -63,9 +66,17 @@ loop-less c = omega arith
 loop-again : tie.Need-loop-again Inv-loop μ-loop
 unfolding targetAt
 loop-again c =
-    let a = c .before .before .before .before .before .before .before .before .before .args in
-    let i = c .before .before .before .before .loop .i in
-    (omega arith, simp length-set (omega arith), fillat-both (a .weighted) (a .working) (productAt (a .w .now) (build (targetAt (a .offset .now) (a .z .now)) (a .n))) (targetAt (a .offset .now) (a .z .now)) (a .r .now) i _ _ _ (omega arith) (rw (c .before .less-offset .ensures, build-at (targetAt (a .offset .now) (a .z .now)) (a .n) i (omega arith)) refl) (c .before .less-offset .ensures) (c .before .before .before .before .loop .inv .2))
+    let loop = c .before .before .before .before in
+    let start = loop .before .before .before .before .before in
+    let a = start .args in
+    let i = loop .loop .i in (
+      omega arith,
+      simp length-set (omega arith),
+      fillat-both (a .weighted) (a .working) (productAt (a .w .now) (build (targetAt (a .offset .now) (a .z .now)) (a .n)))
+          (targetAt (a .offset .now) (a .z .now)) (a .r .now) i _ _ _ (omega arith)
+          (rw (c .before .less-offset .ensures, build-at (targetAt (a .offset .now) (a .z .now)) (a .n) i (omega arith)) refl) (c .before .less-offset .ensures)
+          (loop .loop .inv .2),
+    )
 
 same-length : tie.Need-same-length Inv-loop μ-loop
 same-length c = omega arith

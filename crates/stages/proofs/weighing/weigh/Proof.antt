@@ -66,10 +66,16 @@ part-working-rows-end : tie.Need-part-working-rows-end
 part-working-rows-end c = omega arith
 
 working-rows-requires : tie.Need-working-rows-requires
-working-rows-requires c κs = omega (arith, square-few (c .before .before .before .before .before .before .before .before .before .before .before .before .before .before .before .before .before .before .before .pre .q-few))
+working-rows-requires c κs =
+    let start = c .before .before .before .before .before .before .before .before
+    .before .before .before .before .before .before .before .before .before .before .before in
+    omega (arith, square-few (start .pre .q-few))
 
 mul-targets-into : tie.Need-mul-targets-into
-mul-targets-into c = omega (arith, square-few (c .before .before .before .before .before .before .before .before .before .before .before .before .before .before .before .before .before .before .before .before .before .before .pre .q-few))
+mul-targets-into c =
+    let start = c .before .before .before .before .before .before .before .before .before .before
+    .before .before .before .before .before .before .before .before .before .before .before .before in
+    omega (arith, square-few (start .pre .q-few))
 
 sub-targets-into : tie.Need-sub-targets-into
 sub-targets-into c = omega arith
@@ -78,10 +84,16 @@ part-targets-into-start : tie.Need-part-targets-into-start
 part-targets-into-start c = omega arith
 
 part-targets-into-end : tie.Need-part-targets-into-end
-part-targets-into-end c = omega (arith, square-few (c .before .before .before .before .before .before .before .before .before .before .before .before .before .before .before .before .before .before .before .before .before .before .before .pre .q-few))
+part-targets-into-end c =
+    let start = c .before .before .before .before .before .before .before .before .before .before
+    .before .before .before .before .before .before .before .before .before .before .before .before .before in
+    omega (arith, square-few (start .pre .q-few))
 
 mul-targets-into-2 : tie.Need-mul-targets-into-2
-mul-targets-into-2 c = omega (arith, square-few (c .before .before .before .before .before .before .before .before .before .before .before .before .before .before .before .before .before .before .before .before .before .before .before .before .pre .q-few))
+mul-targets-into-2 c =
+    let start = c .before .before .before .before .before .before .before .before .before .before .before
+    .before .before .before .before .before .before .before .before .before .before .before .before .before in
+    omega (arith, square-few (start .pre .q-few))
 
 sub-targets-into-2 : tie.Need-sub-targets-into-2
 sub-targets-into-2 c = omega arith
@@ -90,12 +102,25 @@ part-targets-into-start-2 : tie.Need-part-targets-into-start-2
 part-targets-into-start-2 c = omega arith
 
 part-targets-into-end-2 : tie.Need-part-targets-into-end-2
-part-targets-into-end-2 c = omega (arith, square-few (c .before .before .before .before .before .before .before .before .before .before .before .before .before .before .before .before .before .before .before .before .before .before .before .before .pre .q-few))
+part-targets-into-end-2 c =
+    let start = c .before .before .before .before .before .before .before .before .before .before .before
+    .before .before .before .before .before .before .before .before .before .before .before .before .before in
+    omega (arith, square-few (start .pre .q-few))
 
 targets-into-requires : tie.Need-targets-into-requires
 targets-into-requires c κs =
-    let s = c .before .before .before .before .before .before .before .before .before .before .before .before .before .before .before .before .before .before .before .before .before .before .before .before .before .before in
-    (s .pre .offset-fits, omega (arith, square-few (s .pre .q-few), c .before .before .before .before .before .before .before .before .before .before .before .before .before .before .before .before .before .w-at .ensures, c .before .before .before .before .before .before .before .before .before .before .before .before .before .before .before .before .z-at .ensures, c .before .before .before .before .before .before .before .before .before .before .before .before .before .before .before .unsolved-at .ensures), omega (arith, square-few (s .pre .q-few), c .before .before .before .before .before .before .before .before .before .before .before .before .before .before .before .before .before .w-at .ensures, c .before .before .before .before .before .before .before .before .before .before .before .before .before .before .before .before .z-at .ensures, c .before .before .before .before .before .before .before .before .before .before .before .before .before .before .before .unsolved-at .ensures), omega arith, omega arith)
+    let start = c .before .before .before .before .before .before .before .before .before .before .before .before .before
+    .before .before .before .before .before .before .before .before .before .before .before .before .before in
+    let w = c .before .before .before .before .before .before .before .before .before .before .before .before .before .before .before .before .before
+    .w-at .ensures in
+    let z = c .before .before .before .before .before .before .before .before .before .before .before .before .before .before .before .before .z-at .ensures in
+    let u = c .before .before .before .before .before .before .before .before .before .before .before .before .before .before .before .unsolved-at .ensures in (
+      start .pre .offset-fits,
+      omega (arith, square-few (start .pre .q-few), w, z, u),
+      omega (arith, square-few (start .pre .q-few), w, z, u),
+      omega arith,
+      omega arith,
+    )
 
 same-length : tie.Need-same-length
 same-length c = omega arith
@@ -105,8 +130,23 @@ same-length-2 c = omega arith
 
 returns : tie.Need-returns
 returns c =
-    let s = c .before .before .before .before .before .before .before .before .before .before .before .before .before .before .before .before .before .before .before .before .before .before .before .before .before .before .before .before .before in
-    weighed-made (s .args .family) (s .args .link) (s .args .phi) (s .args .y .now) (s .args .weights .now) (s .args .offset .now) (s .args .n) (s .args .q) (s .args .in-second) _ _ _ _ _ _ _ _ _ (s .args .r .now) _ (s .args .t .now) (c .before .before .before .before .before .before .before .before .before .working-rows .last .1 .1 .1 .1 .1 .1 .1 .1 .1 .1 .0) (c .before .before .before .before .before .before .before .before .before .before .before .before .before .before .before .before .before .before .before .before .before .before .before .second-eta-row .ensures) (c .before .before .before .before .before .before .before .before .before .before .before .before .before .before .before .before .before .before .before .before .before .before .mu-row .ensures) (c .before .before .before .before .before .before .before .before .before .before .before .before .before .before .before .before .before .before .before .before .before .raw-row .ensures) (c .before .before .before .before .before .before .before .before .before .before .before .before .before .before .before .before .before .before .before .before .w-at .ensures) (c .before .before .before .before .before .before .before .before .before .before .before .before .before .before .before .before .before .before .before .z-at .ensures) (c .before .before .before .before .before .before .before .before .before .before .before .before .before .before .before .before .before .before .unsolved-at .ensures) (c .before .before .before .before .before .before .before .before .before .before .before .before .before .before .before .before .before .weighted-row .ensures) (c .before .before .before .before .before .before .before .before .before .before .before .before .before .before .before .before .working-row .ensures) (s .pre) (c .before .before .before .before .before .before .before .before .before .before .before .before .holder .ensures) (c .before .before .before .before .before .before .before .before .before .working-rows .ensures) (c .before .before .targets-into .ensures)
+    let working-rows = c .before .before .before .before .before .before .before .before .before in
+    let holder = working-rows .before .before .before in
+    let working-row = holder .before .before .before .before in
+    let weighted-row = working-row .before in
+    let unsolved-at = weighted-row .before in
+    let z-at = unsolved-at .before in
+    let w-at = z-at .before in
+    let raw-row = w-at .before in
+    let mu-row = raw-row .before in
+    let second-eta-row = mu-row .before in
+    let start = second-eta-row .before .before .before .before .before .before in
+    let args = start .args in
+    weighed-made (args .family) (args .link) (args .phi) (args .y .now) (args .weights .now) (args .offset .now) (args .n) (args .q) (args .in-second) _ _ _ _ _
+    _ _ _ _ (args .r .now) _ (args .t .now) (working-rows .working-rows .last .1 .1 .1 .1 .1 .1 .1 .1 .1 .1 .0) (second-eta-row .second-eta-row .ensures)
+    (mu-row .mu-row .ensures) (raw-row .raw-row .ensures) (w-at .w-at .ensures) (z-at .z-at .ensures) (unsolved-at .unsolved-at .ensures)
+    (weighted-row .weighted-row .ensures) (working-row .working-row .ensures) (start .pre) (holder .holder .ensures) (working-rows .working-rows .ensures)
+    (c .before .before .targets-into .ensures)
 
 pub weigh-spec : {M : Type 1} → statement M
 weigh-spec =
