@@ -6,6 +6,7 @@ head of the answer and told from the next nearer one. A place has the name of wh
 first one is start; where the file has that name already, at-ldl. A `let` that is a place and no more keeps its name if that is longer than a letter. What start
 knows, its `.args` and `.pre`, has a name where it is read six times. Lines longer than 160 are broken as rt fmt has them; a short answer with one chain is left.
 What an answer means stays: with its places written out it is the text that it was, or the file is left and told. `rt fmt` after it.
+`omega` enters 128 records, and each place that is bound is one of them: where it then misses a fact, bind the fact (`let w = c .. .w-at .ensures in`).
 With --ways a way that answers go again and again from the same place to the same place is written once, as an abbreviation above the answers:
 `abbrev fit-of : tie.After-if1 → tie.After-fit`, and the answers have `let fit = fit-of c in`."""
 import re, sys
