@@ -49,8 +49,15 @@ same-length c = search needs
 
 returns : tie.Need-returns
 returns c =
-    let s = c .before .before .before .before .before .before .before .before .before .before .before .before in
-    fixed-made (s .args .n) (s .args .p) (s .args .q) _ _ _ _ (s .args .x .now) (s .args .m .now) (s .args .r .now) (c .before .before .x-beta .last .1 .1 .1 .1 .0) (c .before .before .before .before .before .before .before .before .beta-at .ensures) (c .before .before .before .before .before .before .before .beta-end .ensures) (c .before .before .before .before .before .before .xbeta-row .ensures) (c .before .before .before .before .before .deviance-row .ensures) (omega (arith, s .pre .2, c .before .before .before .before .before .deviance-row .ensures)) (c .before .before .x-beta .kept .1 .1 .1 .1 .0) (c .before .before .x-beta .ensures)
+    let deviance-row = c .before .before .before .before .before in
+    let xbeta-row = deviance-row .before in
+    let beta-end = xbeta-row .before in
+    let beta-at = beta-end .before in
+    let start = beta-at .before .before .before .before in
+    let args = start .args in
+    fixed-made (args .n) (args .p) (args .q) _ _ _ _ (args .x .now) (args .m .now) (args .r .now) (c .before .before .x-beta .last .1 .1 .1 .1 .0)
+    (beta-at .beta-at .ensures) (beta-end .beta-end .ensures) (xbeta-row .xbeta-row .ensures) (deviance-row .deviance-row .ensures)
+    (omega (arith, start .pre .2, deviance-row .deviance-row .ensures)) (c .before .before .x-beta .kept .1 .1 .1 .1 .0) (c .before .before .x-beta .ensures)
 
 pub fixed-row-spec : {M : Type 1} → statement M
 fixed-row-spec =

@@ -11,7 +11,8 @@ fit-fronts-requires c κs =
 
 put-counts-requires : tie.Need-put-counts-requires
 put-counts-requires c κs =
-    let start = c .before .before .before .before .before .before .before .before .before .before .before .before .before .before .before .before .before .before .before .before .before .before .before .before .before .before .before in
+    let start = c .before .before .before .before .before .before .before .before .before .before .before .before
+    .before .before .before .before .before .before .before .before .before .before .before .before .before .before .before in
     start .pre .0
 
 returned-requires : tie.Need-returned-requires

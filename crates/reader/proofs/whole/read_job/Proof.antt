@@ -59,10 +59,14 @@ fill-job-requires : tie.Need-fill-job-requires
 fill-job-requires c κs =
     let told = c .before .before .before .before .before .before .before .before .before .before .before .before in
     let found = told .before .before in
-    let looked = found .before .before in
+    let if1 = found .before in
+    let looked = if1 .before in
     let v = surveyed _ (found .survey-in .result) (found .survey-in .ensures) (told .enum-told .given .1) in (
       sound-is _ (v .0),
-      ((ap (λ (x : Survey). x .counts) (v .1), ap (λ (x : Survey). x .places) (v .1)), sym (looked .room-in .ensures) ∙ not-false (looked .room-in .result) (found .before .if1 .left)),
+      (
+        (ap (λ (x : Survey). x .counts) (v .1), ap (λ (x : Survey). x .places) (v .1)),
+        sym (looked .room-in .ensures) ∙ not-false (looked .room-in .result) (if1 .if1 .left),
+      ),
     )
 
 header-in-requires : tie.Need-header-in-requires
@@ -100,9 +104,11 @@ same-length-16 c = refl
 returns-2 : tie.Need-returns-2
 returns-2 c =
     let found = c .before .before .before .before in
-    let looked = found .before .before in
-    let room = sym (looked .room-in .ensures) ∙ not-false (looked .room-in .result) (found .before .if1 .left) in
-    refuses _ _ _ _ _ (c .refusal2 .ensures) (with-room _ _ room ∙ (sym (survey-fault _ (found .survey-in .result) (found .survey-in .ensures)) ∙ c .before .before .fault .given .1))
+    let if1 = found .before in
+    let looked = if1 .before in
+    let room = sym (looked .room-in .ensures) ∙ not-false (looked .room-in .result) (if1 .if1 .left) in
+    refuses _ _ _ _ _ (c .refusal2 .ensures)
+    (with-room _ _ room ∙ (sym (survey-fault _ (found .survey-in .result) (found .survey-in .ensures)) ∙ c .before .before .fault .given .1))
 
 same-length-17 : tie.Need-same-length-17
 same-length-17 c =
@@ -149,8 +155,9 @@ returns-3 c =
     let filled = c .before .before .before .before .before .before .before .before .before .before .before .before .before .before .before .before .before in
     let told = filled .before .before .before .before .before .before .before .before .before .before .before .before .before in
     let found = told .before .before in
-    let looked = found .before .before in
-    let room = sym (looked .room-in .ensures) ∙ not-false (looked .room-in .result) (found .before .if1 .left) in
+    let if1 = found .before in
+    let looked = if1 .before in
+    let room = sym (looked .room-in .ensures) ∙ not-false (looked .room-in .result) (if1 .if1 .left) in
     let v = surveyed _ (found .survey-in .result) (found .survey-in .ensures) (told .enum-told .given .1) in
     accepts _ _ _ _ _ (with-room _ _ room ∙ v .0) (c .header-in .ensures) (ap (λ (x : Survey). x .shape) (v .1)) (filled .fill-job .ensures .1)
 

@@ -38,9 +38,11 @@ returns-4 c =
 returns-5 : tie.Need-returns-5
 unfolding roomy
 returns-5 c =
+    let if2 = c .before .before .before in
+    let if1 = if2 .before in
     rw (
-      le-leb 288 _ (c .before .before .before .before .if1 .left),
-      le-leb 512 _ (c .before .before .before .if2 .left),
+      le-leb 288 _ (if1 .if1 .left),
+      le-leb 512 _ (if2 .if2 .left),
       le-leb 512 _ (c .before .before .if3 .left),
       le-leb 512 _ (c .before .if4 .left),
       lt-leb 8192 _ (c .if5 .taken),
@@ -49,10 +51,13 @@ returns-5 c =
 returns-6 : tie.Need-returns-6
 unfolding roomy
 returns-6 c =
+    let if3 = c .before .before .before in
+    let if2 = if3 .before in
+    let if1 = if2 .before in
     rw (
-      le-leb 288 _ (c .before .before .before .before .before .if1 .left),
-      le-leb 512 _ (c .before .before .before .before .if2 .left),
-      le-leb 512 _ (c .before .before .before .if3 .left),
+      le-leb 288 _ (if1 .if1 .left),
+      le-leb 512 _ (if2 .if2 .left),
+      le-leb 512 _ (if3 .if3 .left),
       le-leb 512 _ (c .before .before .if4 .left),
       le-leb 8192 _ (c .before .if5 .left),
       lt-leb 33 _ (c .if6 .taken),
@@ -61,11 +66,15 @@ returns-6 c =
 returns-7 : tie.Need-returns-7
 unfolding roomy
 returns-7 c =
+    let if4 = c .before .before .before in
+    let if3 = if4 .before in
+    let if2 = if3 .before in
+    let if1 = if2 .before in
     rw (
-      le-leb 288 _ (c .before .before .before .before .before .before .if1 .left),
-      le-leb 512 _ (c .before .before .before .before .before .if2 .left),
-      le-leb 512 _ (c .before .before .before .before .if3 .left),
-      le-leb 512 _ (c .before .before .before .if4 .left),
+      le-leb 288 _ (if1 .if1 .left),
+      le-leb 512 _ (if2 .if2 .left),
+      le-leb 512 _ (if3 .if3 .left),
+      le-leb 512 _ (if4 .if4 .left),
       le-leb 8192 _ (c .before .before .if5 .left),
       le-leb 33 _ (c .before .if6 .left),
       lt-leb 8192 _ (c .if7 .taken),
@@ -74,11 +83,15 @@ returns-7 c =
 returns-8 : tie.Need-returns-8
 unfolding roomy
 returns-8 c =
+    let if4 = c .before .before .before in
+    let if3 = if4 .before in
+    let if2 = if3 .before in
+    let if1 = if2 .before in
     rw (
-      le-leb 288 _ (c .before .before .before .before .before .before .if1 .left),
-      le-leb 512 _ (c .before .before .before .before .before .if2 .left),
-      le-leb 512 _ (c .before .before .before .before .if3 .left),
-      le-leb 512 _ (c .before .before .before .if4 .left),
+      le-leb 288 _ (if1 .if1 .left),
+      le-leb 512 _ (if2 .if2 .left),
+      le-leb 512 _ (if3 .if3 .left),
+      le-leb 512 _ (if4 .if4 .left),
       le-leb 8192 _ (c .before .before .if5 .left),
       le-leb 33 _ (c .before .if6 .left),
       le-leb 8192 _ (c .if7 .left),

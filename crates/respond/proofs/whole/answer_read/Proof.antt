@@ -24,8 +24,11 @@ slice-aggregate-put-flat c = search needs
 put-flat-requires : tie.Need-put-flat-requires
 put-flat-requires c κs =
     let fitted = c .before .before .before .before .before .before .before in
-    let start = fitted .before .before .before .before .before .before .before .before .before .before .before .before .before .before .before .before in
-    (start .pre .0, start .pre .1 .sizes, results-room (start .args .header .settings) _ (start .pre .1 .sizes) (fitted .fit-fronts .kept .1 .1 .1 .1 .1 .1 .1 .1 .1 .1 .1 .1 .1 .0))
+    let start = fitted .before .before .before .before .before .before .before .before .before .before .before .before .before .before .before .before in (
+      start .pre .0,
+      start .pre .1 .sizes,
+      results-room (start .args .header .settings) _ (start .pre .1 .sizes) (fitted .fit-fronts .kept .1 .1 .1 .1 .1 .1 .1 .1 .1 .1 .1 .1 .1 .0),
+    )
 
 same-length : tie.Need-same-length
 same-length c = search needs

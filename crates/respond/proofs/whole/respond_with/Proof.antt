@@ -14,7 +14,9 @@ enum-known-reading c = search needs
 
 refused-line-requires : tie.Need-refused-line-requires
 refused-line-requires c κs =
-    let start = c .before .before .before .before .before .before .before .before .before .before .before .before .before .before .before .before .before .before .before .before .before .before .before .before .before .before .before .before .before .before .before .before .before .before .before .before .before .before .before .before .before in
+    let start = c .before .before .before .before .before .before .before .before .before .before .before .before
+    .before .before .before .before .before .before .before .before .before .before .before .before .before .before .before .before
+    .before .before .before .before .before .before .before .before .before .before .before .before .before in
     omega (arith, start .pre .0)
 
 enum-known-reading-2 : tie.Need-enum-known-reading-2
@@ -28,15 +30,19 @@ part-answer-read-start c = search needs
 
 part-answer-read-end : tie.Need-part-answer-read-end
 part-answer-read-end c =
-    let read = c .before .before .before .before .before .before .before .before .before .before .before .before .before .before .before .before .before .before .before .before .before in
-    let start = read .before .before .before .before .before .before .before .before .before .before .before .before .before .before .before .before .before .before .before .before in
+    let read = c .before .before .before .before .before .before .before .before .before
+    .before .before .before .before .before .before .before .before .before .before .before .before in
+    let start = read .before .before .before .before .before .before .before .before .before
+    .before .before .before .before .before .before .before .before .before .before .before in
     theta-fits _ _ _ _ (start .pre .1) (read .read-job .ensures) _ (c .before .before .reading2 .given .1)
 
 answer-read-requires : tie.Need-answer-read-requires
 answer-read-requires c κs =
     let told = c .before .before .before .before .before .before .before .before .before .before .before .before in
-    let read = told .before .before .before .before .before .before .before .before .before .before .before .before .before .before .before .before .before .before .before in
-    let start = read .before .before .before .before .before .before .before .before .before .before .before .before .before .before .before .before .before .before .before .before in
+    let read = told .before .before .before .before .before .before .before .before
+    .before .before .before .before .before .before .before .before .before .before .before in
+    let start = read .before .before .before .before .before .before .before .before .before
+    .before .before .before .before .before .before .before .before .before .before .before in
     (start .pre .0, fronts-fit _ _ _ _ (start .pre .1) (read .read-job .ensures) _ (told .reading2 .given .1) _)
 
 same-length : tie.Need-same-length
@@ -69,48 +75,59 @@ same-length-9 c = search needs
 returns : tie.Need-returns
 returns c =
     let told = c .before .before .before .before .before in
-    let read = told .before .before .before .before .before .before .before .before .before .before .before .before .before .before .before .before .before .before .before in
-    let start = read .before .before .before .before .before .before .before .before .before .before .before .before .before .before .before .before .before .before .before .before in
-    refused-response _ _ _ _ _ _ _ (read-refused _ _ _ _ (start .pre .1) (read .read-job .ensures) _ _ (told .reading .given .1)) (c .before .before .refused-line .ensures)
+    let read = told .before .before .before .before .before .before .before .before
+    .before .before .before .before .before .before .before .before .before .before .before in
+    let start = read .before .before .before .before .before .before .before .before .before
+    .before .before .before .before .before .before .before .before .before .before .before in
+    refused-response _ _ _ _ _ _ _ (read-refused _ _ _ _ (start .pre .1) (read .read-job .ensures) _ _ (told .reading .given .1))
+    (c .before .before .refused-line .ensures)
 
 same-length-10 : tie.Need-same-length-10
 same-length-10 c =
-    let read = c .before .before .before .before .before .before .before .before .before .before .before .before .before .before .before .before .before .before .before .before .before .before .before .before .before .before .before .before .before .before .before .before .before .before .before .before in
+    let read = c .before .before .before .before .before .before .before .before .before .before .before .before .before .before .before .before .before
+    .before .before .before .before .before .before .before .before .before .before .before .before .before .before .before .before .before .before .before in
     read .read-job .kept .1 .0
 
 same-length-11 : tie.Need-same-length-11
 same-length-11 c =
-    let read = c .before .before .before .before .before .before .before .before .before .before .before .before .before .before .before .before .before .before .before .before .before .before .before .before .before .before .before .before .before .before .before .before .before .before .before .before in
+    let read = c .before .before .before .before .before .before .before .before .before .before .before .before .before .before .before .before .before
+    .before .before .before .before .before .before .before .before .before .before .before .before .before .before .before .before .before .before .before in
     read .read-job .kept .1 .1 .0
 
 same-length-12 : tie.Need-same-length-12
 same-length-12 c =
-    let read = c .before .before .before .before .before .before .before .before .before .before .before .before .before .before .before .before .before .before .before .before .before .before .before .before .before .before .before .before .before .before .before .before .before .before .before .before in
+    let read = c .before .before .before .before .before .before .before .before .before .before .before .before .before .before .before .before .before
+    .before .before .before .before .before .before .before .before .before .before .before .before .before .before .before .before .before .before .before in
     read .read-job .kept .1 .1 .1 .0
 
 same-length-13 : tie.Need-same-length-13
 same-length-13 c =
-    let read = c .before .before .before .before .before .before .before .before .before .before .before .before .before .before .before .before .before .before .before .before .before .before .before .before .before .before .before .before .before .before .before .before .before .before .before .before in
+    let read = c .before .before .before .before .before .before .before .before .before .before .before .before .before .before .before .before .before
+    .before .before .before .before .before .before .before .before .before .before .before .before .before .before .before .before .before .before .before in
     read .read-job .kept .1 .1 .1 .1 .0
 
 same-length-14 : tie.Need-same-length-14
 same-length-14 c =
-    let read = c .before .before .before .before .before .before .before .before .before .before .before .before .before .before .before .before .before .before .before .before .before .before .before .before .before .before .before .before .before .before .before .before .before .before .before .before in
+    let read = c .before .before .before .before .before .before .before .before .before .before .before .before .before .before .before .before .before
+    .before .before .before .before .before .before .before .before .before .before .before .before .before .before .before .before .before .before .before in
     read .read-job .kept .1 .1 .1 .1 .1 .0
 
 same-length-15 : tie.Need-same-length-15
 same-length-15 c =
-    let read = c .before .before .before .before .before .before .before .before .before .before .before .before .before .before .before .before .before .before .before .before .before .before .before .before .before .before .before .before .before .before .before .before .before .before .before .before in
+    let read = c .before .before .before .before .before .before .before .before .before .before .before .before .before .before .before .before .before
+    .before .before .before .before .before .before .before .before .before .before .before .before .before .before .before .before .before .before .before in
     read .read-job .kept .1 .1 .1 .1 .1 .1 .0
 
 same-length-16 : tie.Need-same-length-16
 same-length-16 c =
-    let read = c .before .before .before .before .before .before .before .before .before .before .before .before .before .before .before .before .before .before .before .before .before .before .before .before .before .before .before .before .before .before .before .before .before .before .before .before in
+    let read = c .before .before .before .before .before .before .before .before .before .before .before .before .before .before .before .before .before
+    .before .before .before .before .before .before .before .before .before .before .before .before .before .before .before .before .before .before .before in
     read .read-job .kept .1 .1 .1 .1 .1 .1 .1 .0
 
 same-length-17 : tie.Need-same-length-17
 same-length-17 c =
-    let read = c .before .before .before .before .before .before .before .before .before .before .before .before .before .before .before .before .before .before .before .before .before .before .before .before .before .before .before .before .before .before .before .before .before .before .before .before in
+    let read = c .before .before .before .before .before .before .before .before .before .before .before .before .before .before .before .before .before
+    .before .before .before .before .before .before .before .before .before .before .before .before .before .before .before .before .before .before .before in
     read .read-job .kept .1 .1 .1 .1 .1 .1 .1 .1 .0
 
 same-length-18 : tie.Need-same-length-18
@@ -121,10 +138,13 @@ same-length-19 c = search needs
 
 returns-2 : tie.Need-returns-2
 returns-2 c =
-    let told = c .before .before .before .before .before .before .before .before .before .before .before .before .before .before .before .before .before in
-    let read = told .before .before .before .before .before .before .before .before .before .before .before .before .before .before .before .before .before .before .before in
-    let start = read .before .before .before .before .before .before .before .before .before .before .before .before .before .before .before .before .before .before .before .before in
-    called-response _ _ _ _ (read-job _ _ _ _ (start .pre .1) (read .read-job .ensures) _ (told .reading2 .given .1)) _ _ _ (c .before .before .before .before .answer-read .ensures)
+    let answer-read = c .before .before .before .before in
+    let told = answer-read .before .before .before .before .before .before .before .before .before .before .before .before .before in
+    let read = told .before .before .before .before .before .before .before .before
+    .before .before .before .before .before .before .before .before .before .before .before in
+    let start = read .before .before .before .before .before .before .before .before .before
+    .before .before .before .before .before .before .before .before .before .before .before in
+    called-response _ _ _ _ (read-job _ _ _ _ (start .pre .1) (read .read-job .ensures) _ (told .reading2 .given .1)) _ _ _ (answer-read .answer-read .ensures)
 
 pub respond-with-spec : {M : Type 1} → statement M
 respond-with-spec =
