@@ -1,4 +1,4 @@
-"""What gen_thin.py and gen_between.py share: a function with a first parameter by value, a list of blocks and lent slices, as the walk of its MIR names its parts."""
+"""What gen_thin.py, gen_between.py and gen_listed.py share: a function with parameters by value and then lent slices, as the walk of its MIR names its parts."""
 import re
 
 dash = lambda s: s.replace('_', '-')
@@ -27,18 +27,19 @@ def operands(places):
 
 
 class Walk:
-    """FN of a crate; `more` is how many locals it has beside the result, the parameters and the two of each slice lent on."""
+    """FN of a crate. `more` is how many locals it has beside the result, the parameters and the two of each slice lent on; `rows` has the proof's name for the type
+    of each parameter by value; after them come the slices, those by & first. An element of a slice that is neither f64 nor usize is B."""
 
-    def __init__(self, crate, fn, more):
-        self.crate, self.fn = crate, fn
-        src = open(f'crates/{crate}/src/lib.rt').read()
-        sig = re.search(r'pub (?:extern "C" )?fn %s\((.*?)\) ->' % fn, src, re.S).group(1)
-        self.lent = lent = [re.sub(r'\s', '', p.split(':', 1)[1]) for p in sig.split(',') if ':' in p][2:]
+    def __init__(self, crate, fn, more, rows='G', source='lib.rt'):
+        self.crate, self.fn, self.rows, self.head = crate, fn, rows, len(rows)
+        sig = re.search(r'(?:pub |extern "C" )*fn %s\((.*?)\) ->' % fn, open(f'crates/{crate}/src/{source}').read(), re.S).group(1)
+        types = [re.sub(r'\s', '', p.split(':', 1)[1]) for p in sig.split(',') if ':' in p]
+        self.lent = lent = types[self.head:]
         self.mut = mut = [k for k, t in enumerate(lent) if t.startswith('&mut')]
-        assert all(t in ('&[f64]', '&[usize]', '&mut[f64]') for t in lent) and mut == list(range(mut[0], len(lent))), lent
-        self.P, self.N = len(lent) + 2, len(lent) + 1  # parameters (0: by value, 1: blocks, 2..: the slices) and lifetimes
-        self.L = 1 + self.P + more + 2 * len(mut)
+        assert all(t.startswith('&[') or t == '&mut[f64]' for t in lent) and mut == list(range(mut[0], len(lent))), lent
+        self.P, self.N = len(types), len(lent)  # parameters and lifetimes
         self.first = 1 + self.P + more  # the first local of the slices lent on
+        self.L = self.first + 2 * len(mut)
 
     def lib(self, path, kind, at=None):
         """The module of a path: through the facade, unless it is the crate's own."""
@@ -49,20 +50,25 @@ class Walk:
         return '.'.join(self.lib(path, kind).split('.')[:-1])
 
     def is_mut(self, i):
-        return i >= 2 and i - 2 in self.mut
+        return i - self.head in self.mut
 
     def elem(self, i):
-        return 'B.the-row' if i == 1 else ('usize' if self.lent[i - 2] == '&[usize]' else 'f64')
+        return {'&[f64]': 'f64', '&mut[f64]': 'f64', '&[usize]': 'usize'}.get(self.lent[i - self.head], 'B.the-row')
+
+    def kind(self, i):
+        return 'mut' if self.is_mut(i) else 'shr'
+
+    def at_lifetime(self, i):
+        return '(named %d) (κs %s) %s' % (i - self.head, proj(i - self.head), self.elem(i))
 
     def of(self, i):
-        return '%s (named %d) (κs %s) %s' % ('MutSlice' if self.is_mut(i) else 'ShrSlice', i - 1, proj(i - 1), self.elem(i))
+        return f"{self.kind(i).capitalize()}Slice {self.at_lifetime(i)}"
 
     def spelt(self):
-        return tup(['LL.vals G.the-type G′.the-laws'] + ['slice-vals'] * (self.P - 1))
+        return tup([f'LL.vals {row}.the-type {row}′.the-laws' for row in self.rows] + ['slice-vals'] * self.N)
 
     def telling(self):
-        kind = lambda i: 'mut' if self.is_mut(i) else 'shr'
-        return tup(['LL.tells G.the-type G′.the-laws'] + [f"{kind(i)}-slice-tells (named {i-1}) (κs {proj(i-1)}) {self.elem(i)}" for i in range(1, self.P)])
+        return tup([f'LL.tells {row}.the-type {row}′.the-laws' for row in self.rows] + [f'{self.kind(i)}-slice-tells {self.at_lifetime(i)}' for i in range(self.head, self.P)])
 
     def uses(self, path, name):
         """The names under which a callee's theorem is cited."""
@@ -80,25 +86,25 @@ class Walk:
     def entered(self):
         """Room for the locals, and the parameters in theirs."""
         b = ''.join(f'alloc1 ! (λ l{sub(i)}. ' for i in range(self.L)) + 'alloc0 ! $ params1 ! $' + nl
-        b += f'pass1 ! (init ! {self.at(0, 1)} refl (LL.lawful G.the-type G′.the-laws 𝓤 H A W .typed (a .0) _ (are .0) .0)) ${nl}'
-        for i in range(1, self.P):
-            b += f"pass1 ! (init ! {self.at(0, i+1)} refl ({'mut' if self.is_mut(i) else 'shr'}-slice-lawful 𝓤 H A W (named {i-1}) (κs {proj(i-1)}) {self.elem(i)} .typed (a {proj(i)}) (at {proj(i)}) (are {proj(i)}) .0)) ${nl}"
+        for i, row in enumerate(self.rows):
+            b += f'pass1 ! (init ! {self.at(0, i+1)} refl (LL.lawful {row}.the-type {row}′.the-laws 𝓤 H A W .typed (a {proj(i)}) _ (are {proj(i)}) .0)) ${nl}'
+        for i in range(self.head, self.P):
+            b += f'pass1 ! (init ! {self.at(0, i+1)} refl ({self.kind(i)}-slice-lawful 𝓤 H A W {self.at_lifetime(i)} .typed (a {proj(i)}) (at {proj(i)}) (are {proj(i)}) .0)) ${nl}'
         return b + 'pass0 ! $' + nl
 
     def lent_on(self, base):
         """Each slice by &mut is lent on, in two locals of its own."""
         b = ''
         for k, j in enumerate(self.mut):
-            i = j + 2
+            i = j + self.head
             par, ref, sli = self.at(base, i + 1), self.at(base, self.first + 2 * k), self.at(base, self.first + 1 + 2 * k)
             b += f'assigns ! (addr ! (from ! (fld ! refl (hop ! (look-in ! {par} (sub ! 0 refl (whole !))) (stop !))))) (from ! (stop !)) (init ! {ref} refl (tt, tt)) ${nl}'
             b += f'assigns ! (agg ! (and-then ! {ld(ref)} (and-then ! (load ! (from ! (fld ! refl (stop !))) (look-in ! {par} (sub ! 1 refl (whole !)))) (no-more !)))) (from ! (stop !)) (init ! {sli} refl (tt, (tt, (record {{ fits = (are {proj(i)}) .0 .1 .0 }}, tt)))) ${nl}'
         return b
 
-    def lent_places(self, base):
-        """Where the slices stand that are lent on, those by & first."""
-        shared = [self.at(base, i + 1) for i in range(2, self.P) if not self.is_mut(i)]
-        return shared + [self.at(base, self.first + 1 + 2 * k) for k in range(len(self.mut))]
+    def lent_locals(self):
+        """The locals of the slices that a callee is passed, those by & first."""
+        return [i + 1 for i in range(self.head, self.P) if not self.is_mut(i)] + [self.first + 1 + 2 * k for k in range(len(self.mut))]
 
     def freed(self, base):
         """The result is returned, and every local given back."""

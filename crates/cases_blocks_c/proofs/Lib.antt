@@ -1,0 +1,2 @@
+-- What an array of blocks in memory is as a slice. Assumes nothing.
+mod Lent
