@@ -75,12 +75,13 @@ def told(word, number, counts, results, wiped):
 
 
 def fed(word, c):
-    """A call in words of eight bytes, in the order in which crates/cases_blocks_c/src/main.rt takes them; a name stands behind its length, the lists at fixed places."""
+    """A call in words of eight bytes, in the order in which crates/cases_blocks_c/src/main.rt takes them; a name stands behind its length, the lists at fixed places. Behind the
+    blocks stand others that the list must not have."""
     lists = [c[name] for name in INPUTS]
     data = struct.pack(f">Q{len(word)}s", len(word), word.encode())
     data += struct.pack(">19Q", *laid(19, dict(zip([0, 6], lists[5:7])))) + struct.pack(">41d", *laid(41, dict(zip([0, 4, 9, 14, 19, 28], [*lists[:5], lists[7]]))))
     settings = [c[name] for name in ("family", "link", "n_agq", "limit", "n", "p", "rows", "entries")]
-    blocks = [number for block in [*c["blocks"], (0, 0)][:2] for number in block]
+    blocks = [number for block in [*c["blocks"], (2, 1), (2, 1)][:2] for number in block]
     lent = [c[name] for name in [*RESULTS, *("work_" + name for name in WORK)]]
     return data + struct.pack(">33Q", *settings, len(c["blocks"]), *blocks, *map(len, lists), *lent)
 
@@ -88,7 +89,7 @@ def fed(word, c):
 def run(word, about, **changes):
     """The call that a job stands for, but for what is named."""
     c = call_of(about) | changes
-    assert len(c) == len(call_of(about)) and 1 <= len(c["blocks"]) <= 2
+    assert len(c) == len(call_of(about)) and len(c["blocks"]) <= 2
     if "--stdin" in sys.argv:
         return sys.stdout.buffer.write(fed(word, c))
     number = refusal(c)
@@ -119,7 +120,9 @@ def fits():
 
 
 def refusals():
-    """Each number of the table; the limit's codes; a code of no family or link, which is refused in its place of the table."""
+    """Each number of the table; a list that is too short; the limit's codes; a code of no family or link, which is refused in its place of the table."""
+    run("none", job(), blocks=[])
+    run("one for two", two(), blocks=[(2, 1)])
     run("k 9", job(), blocks=[(2, 9)])
     run("second k 9", two(), blocks=[(2, 1), (1, 9)])
     run("m 0", two(), blocks=[(2, 1), (0, 1)])

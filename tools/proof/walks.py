@@ -28,7 +28,7 @@ def operands(places):
 
 class Walk:
     """FN of a crate. `more` is how many locals it has beside the result, the parameters and the two of each slice lent on; `rows` has the proof's name for the type
-    of each parameter by value; after them come the slices, those by & first. An element of a slice that is neither f64 nor usize is B."""
+    of each parameter by value, N for a number; after them come the slices, those by & first. An element of a slice that is neither f64 nor usize is B."""
 
     def __init__(self, crate, fn, more, rows='G', source='lib.rt'):
         self.crate, self.fn, self.rows, self.head = crate, fn, rows, len(rows)
@@ -65,10 +65,11 @@ class Walk:
         return f"{self.kind(i).capitalize()}Slice {self.at_lifetime(i)}"
 
     def spelt(self):
-        return tup([f'LL.vals {row}.the-type {row}′.the-laws' for row in self.rows] + ['slice-vals'] * self.N)
+        return tup(['uint-vals w64' if row == 'N' else f'LL.vals {row}.the-type {row}′.the-laws' for row in self.rows] + ['slice-vals'] * self.N)
 
     def telling(self):
-        return tup([f'LL.tells {row}.the-type {row}′.the-laws' for row in self.rows] + [f'{self.kind(i)}-slice-tells {self.at_lifetime(i)}' for i in range(self.head, self.P)])
+        by_value = ['uint-tells w64' if row == 'N' else f'LL.tells {row}.the-type {row}′.the-laws' for row in self.rows]
+        return tup(by_value + [f'{self.kind(i)}-slice-tells {self.at_lifetime(i)}' for i in range(self.head, self.P)])
 
     def uses(self, path, name):
         """The names under which a callee's theorem is cited."""
@@ -87,7 +88,8 @@ class Walk:
         """Room for the locals, and the parameters in theirs."""
         b = ''.join(f'alloc1 ! (λ l{sub(i)}. ' for i in range(self.L)) + 'alloc0 ! $ params1 ! $' + nl
         for i, row in enumerate(self.rows):
-            b += f'pass1 ! (init ! {self.at(0, i+1)} refl (LL.lawful {row}.the-type {row}′.the-laws 𝓤 H A W .typed (a {proj(i)}) _ (are {proj(i)}) .0)) ${nl}'
+            lawful = '(uint-lawful 𝓤 H A W w64' if row == 'N' else f'(LL.lawful {row}.the-type {row}′.the-laws 𝓤 H A W'
+            b += f'pass1 ! (init ! {self.at(0, i+1)} refl {lawful} .typed (a {proj(i)}) _ (are {proj(i)}) .0)) ${nl}'
         for i in range(self.head, self.P):
             b += f'pass1 ! (init ! {self.at(0, i+1)} refl ({self.kind(i)}-slice-lawful 𝓤 H A W {self.at_lifetime(i)} .typed (a {proj(i)}) (at {proj(i)}) (are {proj(i)}) .0)) ${nl}'
         return b + 'pass0 ! $' + nl

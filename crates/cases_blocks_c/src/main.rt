@@ -1,4 +1,4 @@
-// Calls `blocks_c::glmm_fit_blocks` with lists of one block and of two. Prints the answer, and what stands in every array.
+// Calls `blocks_c::glmm_fit_blocks` with lists of none, one and two blocks. Prints the answer, and what stands in every array.
 // Every array holds 9.25 before a call, and a call is lent the beginnings of the arrays: what stands behind must stay. A call is fed as
 // tools/cases/blocks_c.py says.
 use blocks::Block;
@@ -8,112 +8,8 @@ use blocks_c::PlainAnswer;
 // The pattern of 9.25.
 const LENT: u64 = 0x4022_8000_0000_0000;
 
-// The fit over a list of one block. A list is lent here alone: no other function has a `&[Block]`.
-fn with_one(
-    coded: CodedSettings,
-    one: Block,
-    theta: &[f64],
-    y: &[f64],
-    weights: &[f64],
-    offset: &[f64],
-    x: &[f64],
-    starts: &[usize],
-    columns: &[usize],
-    values: &[f64],
-    beta: &mut [f64],
-    se: &mut [f64],
-    z: &mut [f64],
-    u: &mut [f64],
-    b: &mut [f64],
-    mu: &mut [f64],
-    eta: &mut [f64],
-    residual: &mut [f64],
-    v: &mut [f64],
-    rows: &mut [f64],
-    matrices: &mut [f64],
-    terms: &mut [f64],
-) -> PlainAnswer {
-    let list = [one];
-    blocks_c::glmm_fit_blocks(
-        coded,
-        &list,
-        theta,
-        y,
-        weights,
-        offset,
-        x,
-        starts,
-        columns,
-        values,
-        beta,
-        se,
-        z,
-        u,
-        b,
-        mu,
-        eta,
-        residual,
-        v,
-        rows,
-        matrices,
-        terms,
-    )
-}
-
-// The fit over a list of two blocks.
-fn with_two(
-    coded: CodedSettings,
-    one: Block,
-    two: Block,
-    theta: &[f64],
-    y: &[f64],
-    weights: &[f64],
-    offset: &[f64],
-    x: &[f64],
-    starts: &[usize],
-    columns: &[usize],
-    values: &[f64],
-    beta: &mut [f64],
-    se: &mut [f64],
-    z: &mut [f64],
-    u: &mut [f64],
-    b: &mut [f64],
-    mu: &mut [f64],
-    eta: &mut [f64],
-    residual: &mut [f64],
-    v: &mut [f64],
-    rows: &mut [f64],
-    matrices: &mut [f64],
-    terms: &mut [f64],
-) -> PlainAnswer {
-    let list = [one, two];
-    blocks_c::glmm_fit_blocks(
-        coded,
-        &list,
-        theta,
-        y,
-        weights,
-        offset,
-        x,
-        starts,
-        columns,
-        values,
-        beta,
-        se,
-        z,
-        u,
-        b,
-        mu,
-        eta,
-        residual,
-        v,
-        rows,
-        matrices,
-        terms,
-    )
-}
-
-// The fit over as many of the blocks as are asked for.
+// The fit over the list of the first `count` blocks; of a count past two, over what is left of it by 3. A list is lent here alone: no other function has a
+// `&[Block]`.
 fn call(
     coded: CodedSettings,
     count: usize,
@@ -140,36 +36,11 @@ fn call(
     matrices: &mut [f64],
     terms: &mut [f64],
 ) -> PlainAnswer {
-    if count == 1 {
-        return with_one(
-            coded,
-            one,
-            theta,
-            y,
-            weights,
-            offset,
-            x,
-            starts,
-            columns,
-            values,
-            beta,
-            se,
-            z,
-            u,
-            b,
-            mu,
-            eta,
-            residual,
-            v,
-            rows,
-            matrices,
-            terms,
-        );
-    }
-    with_two(
+    let list = [one, two];
+    let n = count % 3;
+    blocks_c::glmm_fit_blocks(
         coded,
-        one,
-        two,
+        &list[..n],
         theta,
         y,
         weights,
