@@ -6,6 +6,17 @@ use borrow.Author.Needs.{needs}
 use Rattle.respond.proofs.whole.respond_with.Statement.{statement}
 use Rattle.respond.proofs.whole.respond_with.Tie as tie
 
+-- the ways back that several answers go
+abbrev start-of : tie.After-read-job → tie.Start
+start-of c =
+    c .before .before .before .before .before .before .before .before .before .before .before .before .before .before .before .before .before .before .before
+    .before
+
+abbrev read-of : tie.After-slice-known21 → tie.After-read-job
+read-of c =
+    c .before .before .before .before .before .before .before .before .before .before .before .before .before .before .before .before .before .before .before
+    .before .before .before .before .before .before .before .before .before .before .before .before .before .before .before .before .before
+
 read-job-requires : tie.Need-read-job-requires
 read-job-requires c κs = search needs
 
@@ -32,8 +43,7 @@ part-answer-read-end : tie.Need-part-answer-read-end
 part-answer-read-end c =
     let read = c .before .before .before .before .before .before .before .before .before
     .before .before .before .before .before .before .before .before .before .before .before .before in
-    let start = read .before .before .before .before .before .before .before .before .before
-    .before .before .before .before .before .before .before .before .before .before .before in
+    let start = start-of read in
     theta-fits _ _ _ _ (start .pre .1) (read .read-job .ensures) _ (c .before .before .reading2 .given .1)
 
 answer-read-requires : tie.Need-answer-read-requires
@@ -41,8 +51,7 @@ answer-read-requires c κs =
     let told = c .before .before .before .before .before .before .before .before .before .before .before .before in
     let read = told .before .before .before .before .before .before .before .before
     .before .before .before .before .before .before .before .before .before .before .before in
-    let start = read .before .before .before .before .before .before .before .before .before
-    .before .before .before .before .before .before .before .before .before .before .before in
+    let start = start-of read in
     (start .pre .0, fronts-fit _ _ _ _ (start .pre .1) (read .read-job .ensures) _ (told .reading2 .given .1) _)
 
 same-length : tie.Need-same-length
@@ -77,57 +86,48 @@ returns c =
     let told = c .before .before .before .before .before in
     let read = told .before .before .before .before .before .before .before .before
     .before .before .before .before .before .before .before .before .before .before .before in
-    let start = read .before .before .before .before .before .before .before .before .before
-    .before .before .before .before .before .before .before .before .before .before .before in
+    let start = start-of read in
     refused-response _ _ _ _ _ _ _ (read-refused _ _ _ _ (start .pre .1) (read .read-job .ensures) _ _ (told .reading .given .1))
     (c .before .before .refused-line .ensures)
 
 same-length-10 : tie.Need-same-length-10
 same-length-10 c =
-    let read = c .before .before .before .before .before .before .before .before .before .before .before .before .before .before .before .before .before
-    .before .before .before .before .before .before .before .before .before .before .before .before .before .before .before .before .before .before .before in
+    let read = read-of c in
     read .read-job .kept .1 .0
 
 same-length-11 : tie.Need-same-length-11
 same-length-11 c =
-    let read = c .before .before .before .before .before .before .before .before .before .before .before .before .before .before .before .before .before
-    .before .before .before .before .before .before .before .before .before .before .before .before .before .before .before .before .before .before .before in
+    let read = read-of c in
     read .read-job .kept .1 .1 .0
 
 same-length-12 : tie.Need-same-length-12
 same-length-12 c =
-    let read = c .before .before .before .before .before .before .before .before .before .before .before .before .before .before .before .before .before
-    .before .before .before .before .before .before .before .before .before .before .before .before .before .before .before .before .before .before .before in
+    let read = read-of c in
     read .read-job .kept .1 .1 .1 .0
 
 same-length-13 : tie.Need-same-length-13
 same-length-13 c =
-    let read = c .before .before .before .before .before .before .before .before .before .before .before .before .before .before .before .before .before
-    .before .before .before .before .before .before .before .before .before .before .before .before .before .before .before .before .before .before .before in
+    let read = read-of c in
     read .read-job .kept .1 .1 .1 .1 .0
 
 same-length-14 : tie.Need-same-length-14
 same-length-14 c =
-    let read = c .before .before .before .before .before .before .before .before .before .before .before .before .before .before .before .before .before
-    .before .before .before .before .before .before .before .before .before .before .before .before .before .before .before .before .before .before .before in
+    let read = read-of c in
     read .read-job .kept .1 .1 .1 .1 .1 .0
 
 same-length-15 : tie.Need-same-length-15
 same-length-15 c =
-    let read = c .before .before .before .before .before .before .before .before .before .before .before .before .before .before .before .before .before
-    .before .before .before .before .before .before .before .before .before .before .before .before .before .before .before .before .before .before .before in
+    let read = read-of c in
     read .read-job .kept .1 .1 .1 .1 .1 .1 .0
 
 same-length-16 : tie.Need-same-length-16
 same-length-16 c =
-    let read = c .before .before .before .before .before .before .before .before .before .before .before .before .before .before .before .before .before
-    .before .before .before .before .before .before .before .before .before .before .before .before .before .before .before .before .before .before .before in
+    let read = read-of c in
     read .read-job .kept .1 .1 .1 .1 .1 .1 .1 .0
 
 same-length-17 : tie.Need-same-length-17
 same-length-17 c =
-    let read = c .before .before .before .before .before .before .before .before .before .before .before .before .before .before .before .before .before
-    .before .before .before .before .before .before .before .before .before .before .before .before .before .before .before .before .before .before .before in
+    let read = read-of c in
     read .read-job .kept .1 .1 .1 .1 .1 .1 .1 .1 .0
 
 same-length-18 : tie.Need-same-length-18
@@ -142,8 +142,7 @@ returns-2 c =
     let told = answer-read .before .before .before .before .before .before .before .before .before .before .before .before .before in
     let read = told .before .before .before .before .before .before .before .before
     .before .before .before .before .before .before .before .before .before .before .before in
-    let start = read .before .before .before .before .before .before .before .before .before
-    .before .before .before .before .before .before .before .before .before .before .before in
+    let start = start-of read in
     called-response _ _ _ _ (read-job _ _ _ _ (start .pre .1) (read .read-job .ensures) _ (told .reading2 .given .1)) _ _ _ (answer-read .answer-read .ensures)
 
 pub respond-with-spec : {M : Type 1} → statement M
