@@ -16,7 +16,7 @@ use Rattle.table.specs.declared.verdicts.Verdict.{Verdict}
 use Rattle.table.specs.declared.verdicts.Verdict.the-variants.{Accepted, Refused}
 use Rattle.job.specs.Job.{Read, faulty, sound, readOf}
 use Rattle.lines.specs.Lines.{Written}
-use Rattle.call.specs.Call.{Lent, lengthsOf, fitLeft, callBy, callOf}
+use Rattle.call.specs.Call.{Lent, Left, lengthsOf, fitLeft, callBy, callOf}
 use Rattle.report.specs.Report.{outRoom}
 use Rattle.jobfit.specs.Done.{zeros}
 use Rattle.output.specs.Output.{slicesFor, leftText, outputBy, outputOf, responseBy, respondOf}
@@ -25,11 +25,16 @@ use Rattle.output.specs.Output.{slicesFor, leftText, outputBy, outputOf,
 abbrev withTerms : List Float → Lent → Lent
 withTerms terms L = record { results = L .results; rows = L .rows; matrices = L .matrices; terms = terms }
 
--- what is printed of a verdict does not name the terms
-by-verdict : (v : Verdict) (t : Settings) (s : Shape) (I : Inputs) (L : Lent) (terms : List Float) → leftText (callBy v t s I (withTerms terms L)) ≡ leftText (callBy v t s I L)
+-- two calls tell the same: one answer, and the same nine results
+pub record SameTold (a b : Left) : Type 0 where
+  pub answer : a .answer ≡ b .answer
+  pub results : a .lent .results ≡ b .lent .results
+
+-- what a verdict leads to does not name the terms
+by-verdict : (v : Verdict) (t : Settings) (s : Shape) (I : Inputs) (L : Lent) (terms : List Float) → SameTold (callBy v t s I (withTerms terms L)) (callBy v t s I L)
 unfolding callBy fitLeft
-by-verdict (Refused r) t s I L terms = refl
-by-verdict (Accepted f l) t s I L terms = refl
+by-verdict (Refused r) t s I L terms = record { answer = refl; results = refl }
+by-verdict (Accepted f l) t s I L terms = record { answer = refl; results = refl }
 
 -- the table looks at their length alone
 module _ (t : Settings) (s : Shape) (I : Inputs) (L : Lent) (terms : List Float) (before : 7000 ≤ length (L .terms)) (now : 7000 ≤ length terms) where
@@ -46,9 +51,13 @@ module _ (t : Settings) (s : Shape) (I : Inputs) (L : Lent) (terms : List Float)
   same-verdict = rw (same-work, same-results) refl
 
   -- a call with other terms of at least 7,000 numbers has the same answer and results
-  pub same-text : leftText (callOf t s I (withTerms terms L)) ≡ leftText (callOf t s I L)
+  pub same-call : SameTold (callOf t s I (withTerms terms L)) (callOf t s I L)
   unfolding callOf
-  same-text = rw same-verdict (by-verdict (tableOf 1 t s I (lengthsOf L)) t s I L terms)
+  same-call = rw same-verdict (by-verdict (tableOf 1 t s I (lengthsOf L)) t s I L terms)
+
+  -- so the same is printed of it
+  pub same-text : leftText (callOf t s I (withTerms terms L)) ≡ leftText (callOf t s I L)
+  same-text = rw (same-call .answer, same-call .results) refl
 
 -- ---- what stands in the lent bytes is the output
 zeros-are : 7000 ≤ length (zeros 7000)
