@@ -100,21 +100,43 @@ measured <- function(name, formula, data, thetas, weighted = rep(1, nrow(data)),
            own = if (own) listed(fit()) else "[]")
 }
 
+# A Gaussian set with another link. glmer's Laplace deviance is another one here, so it is left out. 1e-5 is allowed: the stop test here is passed when PWRSS stands
+# still to 1e-8, and u may still move by more.
+linked <- function(name, formula, data, family, thetas) {
+    control <- glmerControl(tolPwrss = 1e-12)
+    parts <- glFormula(formula, data, family, control = control)
+    laplace <- do.call(mkGlmerDevfun, c(parts, list(nAGQ = 0L, control = control)))
+    resp <- environment(laplace)$resp
+    at <- function(theta) {
+        laplace(theta)
+        pp <- environment(laplace)$pp
+        phi <- mean((resp$y - resp$mu)^2)
+        object(theta = numbers(theta * sqrt(phi)), relative = numbers(theta), phi = number(phi), beta = numbers(pp$beta(1)),
+               se = numbers(sqrt(phi * diag(pp$unsc()))), b = numbers(pp$b(1)))
+    }
+    object(name = text(name), about = described(parts, "gaussian", family$link, resp$y, NULL), answers = listed(sapply(thetas, at)), own = "[]", allowed = "1e-5")
+}
+
 folder <- commandArgs(TRUE)
 sets <- c(
     counted("cbpp", cbind(incidence, size - incidence) ~ period + (1 | herd), cbpp, binomial(), c(0, 0.5, 0.64, 1, 5, 30)),
     counted("grouseticks", TICKS ~ cHEIGHT + (1 | LOCATION), droplevels(subset(grouseticks, YEAR == "95")), poisson(), c(0, 0.5, 1, 1.5)),
+    counted("cbpp, cloglog", cbind(incidence, size - incidence) ~ period + (1 | herd), cbpp, binomial("cloglog"), c(0.5, 1), own = FALSE),
+    counted("grouseticks, sqrt", TICKS ~ cHEIGHT + (1 | LOCATION), droplevels(subset(grouseticks, YEAR == "95")), poisson("sqrt"), c(0.5, 1), own = FALSE),
     measured("Dyestuff", Yield ~ 1 + (1 | Batch), Dyestuff, c(0, 0.5, 0.75, 2)),
     measured("sleepstudy, intercepts", Reaction ~ Days + (1 | Subject), sleepstudy, c(0, 0.5, 1.2, 4)),
     measured("sleepstudy, 16 subjects, slopes", Reaction ~ Days + (Days | Subject), droplevels(sleepstudy[1:160, ]),
              list(c(0.9, 0.02, 0.2), c(1, -0.5, 0.5))),
     measured("sleepstudy, 10 subjects, parabolas", Reaction ~ Days + (Days + I(Days^2) | Subject), droplevels(sleepstudy[1:100, ]),
              list(c(0.9, 0.1, -0.02, 0.3, 0.01, 0.05)), own = FALSE),
+    linked("sleepstudy, log link", Reaction ~ Days + (1 | Subject), sleepstudy, gaussian("log"), c(0.002, 0.01)),
+    linked("sleepstudy, inverse link", Reaction ~ Days + (1 | Subject), sleepstudy, gaussian("inverse"), c(0.00001, 0.00003)),
     measured("Dyestuff, weights of mean 1", Yield ~ 1 + (1 | Batch), Dyestuff, c(0.5, 2), rep(c(0.5, 1, 1.5), 10)),
     measured("Dyestuff, weights of mean 2", Yield ~ 1 + (1 | Batch), Dyestuff, c(0.5, 2), rep(c(1, 2, 3), 10)),
     measured("Penicillin", diameter ~ 1 + (1 | plate) + (1 | sample), Penicillin, list(c(1.5, 3.2), c(3, 6))),
     counted("examples/wafers", cbind(weak, cells - weak) ~ radius + (1 | wafer), example("wafers"), binomial(), c(0.25, 0.55, 1)),
     counted("examples/cards", weak ~ I(ring == "rim") + (1 | wafer) + (1 | card), example("cards"), binomial(), list(c(0.5, 0.5)), own = FALSE),
     counted("examples/defects", defects ~ reflow + offset(log(area)) + (1 | lot), example("defects"), poisson(), c(0.25, 0.45, 1)),
+    counted("examples/defects, identity", defects ~ 1 + (1 | lot), example("defects"), poisson("identity"), c(0.5, 2), own = FALSE),
     measured("examples/dark", current ~ warm + (warm | wafer), example("dark"), list(c(2, -0.15, 0.7), c(3, 0.5, 1))))
 cat(object(lme4 = text(packageVersion("lme4")), R = text(getRversion()), sets = listed(sets)), "\n")
