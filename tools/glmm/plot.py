@@ -31,7 +31,8 @@ def path(places, colour, more=""):
 
 
 def cut(words, most):
-    return words if len(words) <= most else words[:most - 1] + "\u2026"
+    """Too long a name without its middle: names often differ in their ends."""
+    return words if len(words) <= most else words[:most // 2] + "\u2026" + words[len(words) - (most - 1) // 2:]
 
 
 class Axis:
@@ -48,11 +49,12 @@ class Axis:
     def at(self, value):
         return self.start + self.length * ((value / 2 - self.low / 2) / (self.high / 2 - self.low / 2))
 
-    def ticks(self, most=5):
+    def ticks(self, most=7):
         """Round numbers within the axis, each with its words: steps of 1, 2 or 5 times a power of ten."""
         least = (self.high / 2 - self.low / 2) / most * 2
         power = int(f"{least:e}".split("e")[1])
-        step = next(m * s for s in (float(f"1e{power}"), float(f"1e{min(power + 1, 308)}")) for m in (1, 2, 5) if m * s >= least or m * s > 1e307)
+        step = next(float(f"{m}e{power}") for m in (1, 2, 5, 10, 20) if float(f"{m}e{power}") >= least)
+        power = int(f"{step:e}".split("e")[1])
         marks = [i * step for i in range(math.ceil(self.low / step), math.floor(self.high / step) + 1)]
         return [(mark, f"{mark:.{max(0, -power)}f}" if -5 < power < 6 else f"{mark:.4g}") for mark in marks]
 
@@ -66,8 +68,13 @@ class Caterpillar:
         self.title = title
         self.rows = sorted(rows, key=lambda row: (-row[1] if math.isfinite(row[1]) else math.inf))
         self.names = [name for name, _, _ in rows]
-        self.pitch = 20 if len(rows) <= 8 else 16
+        self.pitch = 16
         self.height = len(rows) * self.pitch + 8
+
+    def stretch(self, height):
+        """Up to this height, but not too far apart."""
+        self.pitch = max(self.pitch, min(32, (height - 8) / len(self.rows)))
+        self.height = round(len(self.rows) * self.pitch + 8)
 
     def drawn(self, left, top):
         ends = [(b - WALD * sd, b + WALD * sd) for _, b, sd in self.rows]
@@ -99,6 +106,9 @@ class Scatter:
     def __init__(self, rows):
         self.rows = [row for row in rows if math.isfinite(row[1]) and math.isfinite(row[2])]
 
+    def stretch(self, height):
+        """A square stays one."""
+
     def drawn(self, left, top):
         both = [value for _, mu, y, _ in self.rows for value in (mu, y)]
         across, up = Axis(both, left, PLOT), Axis(both, top + PLOT, -PLOT)
@@ -109,7 +119,7 @@ class Scatter:
         out.append(path(f"M{left} {top + PLOT}l{PLOT} {-PLOT}", INK, ' stroke-dasharray="3 3"'))
         out += [f'<circle cx="{across.at(mu):.1f}" cy="{up.at(y):.1f}" r="{radius:.1f}" fill="{SPOT}" fill-opacity="0.45" stroke="{SPOT}" stroke-opacity="0.8">'
                 f"<title>{safe(f'{name}: observed {decimal(y)}, fitted {decimal(mu)}')}</title></circle>" for name, mu, y, radius in self.rows]
-        return [*out, text(left + PLOT, top + PLOT + 29, "fitted", "end"), text(left - 8, top - 4, "observed", "end")]
+        return [*out, text(left + PLOT, top + PLOT + 29, "fitted", "end", ' fill="#555"'), text(left - 8, top - 10, "observed", "end", ' fill="#555"')]
 
 
 def caterpillars(job, lists, names):
@@ -164,10 +174,12 @@ def composed(panels, title, below, said):
     y += 14
     for start in range(0, len(panels), side):
         row = panels[start:start + side]
+        tall = max(panel.height for panel in row)
         for i, panel in enumerate(row):
+            panel.stretch(tall)
             left, top = EDGE + room + i * (room + PLOT + GAP), y + HEAD
             out += [text(left, top - 10, cut(panel.title, 40), more=' font-weight="bold"'), path(f"M{left} {top}h{PLOT}v{panel.height}h-{PLOT}z", "#aab"), *panel.drawn(left, top)]
-        y += HEAD + max(panel.height for panel in row) + FOOT
+        y += HEAD + tall + FOOT
     for line in textwrap.wrap(said, int((width - 2 * EDGE) / 5.7)):
         y += 15
         out.append(text(EDGE, y, line, more=' fill="#555"'))
