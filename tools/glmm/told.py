@@ -16,11 +16,10 @@ from pathlib import Path
 from form import FAMILIES, LINKS
 from reader import Refused, parse
 from sheet import short, sheet_beside
-from spread import effect_spread, own_parts, wald
+from spread import LEAST, effect_spread, own_parts, slope, variance, wald
 
 NUMBERS = Path(__file__).resolve().parents[2] / "docs" / "NUMBERS.md"
 COUNTS = "end order disp iters fits solves tries points".split()
-LEAST = 2.0**-52
 RESTLESS = 0.01  # a step, in standard errors, that a fit at rest would not take
 OWN = 1e-5  # the part of a column that the others don't give, below which six digits of se are not sure
 WHOLE = 0.001  # how far a binomial count may be from a whole number
@@ -121,15 +120,6 @@ def model(job):
     return [f"  {FAMILIES[job.family]}, {LINKS[job.link]} link" + "".join(f", {name}" for name in extra),
             f"  {counted(job.n, 'response')}, {counted(job.p, 'column')} of X, {counted(job.q, 'random effect')} ({blocks})",
             f"  theta {' '.join(map(decimal, job.theta))}, n_agq {job.n_agq}, limit {'not given' if job.limit is None else job.limit}"]
-
-
-def slope(link, mu, eta):
-    """The derivative of a mean by its predictor."""
-    return {"logit": mu * (1 - mu), "cloglog": (1 - mu) * math.exp(min(eta, 700)), "log": mu, "identity": 1, "inverse": -mu * mu, "sqrt": 2 * max(eta, 0)}[link]
-
-
-def variance(family, mu):
-    return max({"binomial": mu * (1 - mu), "poisson": mu, "gaussian": 1}[family], LEAST)
 
 
 def next_step(job, lists):
