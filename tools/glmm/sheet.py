@@ -30,7 +30,7 @@ from reader import CARRIED, LONGEST, VALID
 
 NAMES = ["family", "link", "response", "weights", "offset", "fixed", "random", "theta", "n_agq", "limit"]
 WANTED = ["family", "link", "response", "fixed", "random", "theta"]
-NUMBER = re.compile(r"[+-]?(\d+\.?\d*|\.\d+)([eE][+-]?\d+)?", re.ASCII)
+NUMBER = re.compile(r"[+-]?(\d+(\.\d*)?|\.\d+)([eE][+-]?\d+)?", re.ASCII)
 ENDING = re.compile(rb"\r\n|\r|\n")
 STRANGE = re.compile(rb"[\x00-\x08\x0e-\x1f]")  # no text has these
 QUOTED = r'"((?:[^"]|"")*)"'

@@ -135,33 +135,32 @@ def next_step(job, lists):
 
 
 def fractions(job):
-    """How many responses are no counts, and one of them in words."""
+    """The responses that are no counts, in words."""
     if FAMILIES[job.family] == "poisson":
-        found = [decimal(y) for y in job.y if y != math.floor(y)]
-    elif FAMILIES[job.family] == "binomial":
-        counts = [(y * w, w) for y, w in zip(job.y, job.weights or [1.0] * job.n) if w > 0 and math.isfinite(y * w)]
-        found = [f"{decimal(count)} of {decimal(total)}" for count, total in counts if abs(count - round(count)) > WHOLE]
-    else:
-        found = []
-    return len(found), found[:1]
+        return [decimal(y) for y in job.y if y != math.floor(y)]
+    if FAMILIES[job.family] != "binomial":
+        return []
+    counts = [(y * w, w) for y, w in zip(job.y, job.weights or [1.0] * job.n) if w > 0 and math.isfinite(y * w)]
+    return [f"{decimal(count)} of {decimal(total)}" for count, total in counts if abs(count - round(count)) > WHOLE]
 
 
 def of_data(job, names):
     """What is odd with the responses and groups."""
-    count, first = fractions(job)
-    if count:
-        yield f"{counted(count, 'response')} ({first[0]}{', ..' if count > 1 else ''}) can't be a count: the family is that of counts, and beta's se and the deviance are of use for counts only."
+    found = fractions(job)
+    if found:
+        yield (f"{counted(len(found), 'response')} can't be {'a count' if len(found) == 1 else 'counts'} ({found[0]}{', ..' if len(found) > 1 else ''}): "
+               f"{FAMILIES[job.family]} is a family of counts, and se, z and the deviance hold for counts only.")
     for b, (m, _) in enumerate(job.blocks):
         if m == 1:
-            yield f"{names.block(b)} has a single group: its effects can't be told from the fixed effects, and no theta can be chosen for it (lme4 refuses such a model)."
+            yield f"{names.block(b)} has a single group: its effects can't be told from the fixed ones, and no theta can be chosen for it (lme4 refuses such a model)."
 
 
 def of_columns(job, lists, names):
     """Columns of X that nearly follow from each other."""
     near = [(part, name) for part, name in zip(own_parts(lists["v"], job.p), names.fixed) if part < OWN]
     if near:
-        yield (f"the columns {', '.join(short(name) for _, name in near)} of X nearly follow from each other: but for a part of {decimal(min(near)[0])} the others give "
-               f"{short(min(near)[1])}. Not even the first six digits of their beta, se and z are sure. Leave one out; or, if a column's values are all nearly the same number, take that off.")
+        yield (f"the columns {', '.join(short(name) for _, name in near)} of X nearly follow from each other: but for {min(near)[0]:.1g} of its length the others give "
+               f"{short(min(near)[1])}. Six digits of their beta, se and z are not sure, or none at all. Leave one out; or, if all values of one are near some number, take that off them.")
 
 
 def warnings(job, counts, lists, names):
