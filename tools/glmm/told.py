@@ -9,7 +9,7 @@ The JSON is one object:
     warnings   a list of texts
     names      null where not fitted, else columns (of beta, se, z, v), effects (of u, b) and responses (of mu, eta, residual)
     results    null where not fitted, else every list by its name: deviance and phi as numbers, v as p rows
-    derived    null where not fitted, else lower and upper, the ends of Wald's 95 % interval of each beta, and spread, the standard deviation of each b given the rest
+    derived    null where not fitted, else lower and upper, the ends of Wald's 95 % interval of each beta, and sd, the standard deviation of each b given beta, theta, phi
 Numbers are decimals that read back to the same bits. JSON has no infinity and no NaN: these are the strings "Infinity", "-Infinity" and "NaN"."""
 import json, math, re, struct, sys, textwrap
 from pathlib import Path
@@ -273,7 +273,7 @@ def results(job, lists):
 
 def derived(job, lists):
     lower, upper = wald(lists)
-    return {"lower": lower, "upper": upper, "spread": effect_spread(job, lists)}
+    return {"lower": lower, "upper": upper, "sd": effect_spread(job, lists)}
 
 
 def description(answer, job, sheet):
