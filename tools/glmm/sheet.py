@@ -46,16 +46,17 @@ class Modelled(str):
 
 
 def decoded(data, of=""):
-    """The text of a file's bytes; `of` is said behind the number of a line."""
+    """The text of a file's bytes; `of` is said behind the number of a line (' of the table')."""
+    file = of and f"{of.removeprefix(' of ')}: "
     if data[:2] in (b"\xff\xfe", b"\xfe\xff"):
-        raise Fault(f"this is UTF-16{of}; a text is saved as UTF-8")
+        raise Fault(f"{file}this is UTF-16; a text is saved as UTF-8")
     data = data.removeprefix(b"\xef\xbb\xbf")
 
     def fault(at, said):
         return Fault(f"line {len(ENDING.findall(data, 0, at)) + 1}{of}: byte {at} is 0x{data[at]:02X}, {said}")
     found = STRANGE.search(data)
     if found and data[0] >> 4 == 1:
-        raise Fault(f"this is no text{of}: it begins as a job does")
+        raise Fault(f"{file}this is no text: it begins as a job does")
     if found:
         raise fault(found.start(), "which no text has: this is a binary file, or UTF-16; a text is saved as UTF-8")
     try:
