@@ -156,8 +156,9 @@ def headings(job, answer, file, count):
 
 
 def caption(job):
-    return ("A point is a group's b; its bar is b \u00b1 1.959964 sd, the 95 % interval of b given beta, theta and phi: the variance is the diagonal of \u039bA\u207b\u00b9\u039b', "
-            "A = \u039b'Z'WZ\u039b + I with the working weights W at the fitted means (lme4: ranef with condVar = TRUE). Blue bars leave out 0. Each panel is sorted. "
+    return ("A point is a group's b; its bar is b \u00b1 1.959964 sd, the 95 % interval of b given beta, theta and phi: "
+            "the variance is the diagonal of \u039bA\u207b\u00b9\u039b', A = \u039b'Z'WZ\u039b + I with the working weights W at the fitted means "
+            "(lme4: ranef with condVar = TRUE). Blue bars leave out 0. Each panel is sorted. "
             "On the dashed line of the last panel the observed is the fitted mean" + ("; a circle's size goes with its weight." if job.weights else "."))
 
 
@@ -178,7 +179,8 @@ def composed(panels, title, below, said):
         for i, panel in enumerate(row):
             panel.stretch(tall)
             left, top = EDGE + room + i * (room + PLOT + GAP), y + HEAD
-            out += [text(left, top - 10, cut(panel.title, 40), more=' font-weight="bold"'), path(f"M{left} {top}h{PLOT}v{panel.height}h-{PLOT}z", "#aab"), *panel.drawn(left, top)]
+            frame = path(f"M{left} {top}h{PLOT}v{panel.height}h-{PLOT}z", "#aab")
+            out += [text(left, top - 10, cut(panel.title, 40), more=' font-weight="bold"'), frame, *panel.drawn(left, top)]
         y += HEAD + tall + FOOT
     for line in textwrap.wrap(said, int((width - 2 * EDGE) / 5.7)):
         y += 15
@@ -195,5 +197,6 @@ def draw(lines, data, file=None, sheet=None):
     panels = [*caterpillars(job, answer.lists, names), scatter(job, answer.lists, names)]
     title, below = headings(job, answer, file, len(list(warnings(job, answer.counts, answer.lists, names))))
     width, height, parts = composed(panels, title, below, caption(job))
-    return (f'<svg xmlns="http://www.w3.org/2000/svg" width="{width}" height="{height}" viewBox="0 0 {width} {height}" font-family="sans-serif" font-size="{TICK}" fill="{INK}">\n'
+    return (f'<svg xmlns="http://www.w3.org/2000/svg" width="{width}" height="{height}" viewBox="0 0 {width} {height}" '
+            f'font-family="sans-serif" font-size="{TICK}" fill="{INK}">\n'
             f'<title>{safe(title)}</title>\n<rect width="100%" height="100%" fill="#fff"/>\n' + "\n".join(parts) + "\n</svg>\n")

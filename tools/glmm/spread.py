@@ -1,5 +1,5 @@
-"""What the table and the plot compute from the printed numbers of a fitted job (docs/NUMBERS.md): Wald's intervals, the spread of the random effects, and what part
-of a column of X is its own. In plain doubles: no digit of it is promised as those of `fitjob` are."""
+"""What the table and the plot compute from the printed numbers of a fitted job (docs/NUMBERS.md): Wald's intervals, the spread of the random effects, and
+what part of a column of X is its own. In plain doubles: no digit of it is promised as those of `fitjob` are."""
 import math
 from form import FAMILIES, LINKS
 
@@ -64,8 +64,8 @@ def length(values):
 
 
 def effect_spread(job, lists):
-    """The standard deviation of each b given beta, theta and phi: the root of the diagonal of Λ A^-1 Λ', with A = Λ'Z'WZΛ + I. With A = LL' it is the length of L^-1
-    times a row of Λ."""
+    """The standard deviation of each b given beta, theta and phi: the root of the diagonal of Λ A^-1 Λ', with A = Λ'Z'WZΛ + I. With A = LL' it is the
+    length of L^-1 times a row of Λ."""
     weights, rows = working_weights(job, lists), lambda_rows(job)
     spread = [{} for _ in range(job.q)]  # Λ'Z', by rows
     for row, entries in zip(rows, job.zt):
@@ -80,7 +80,8 @@ def effect_spread(job, lists):
 
 
 def own_parts(v, p):
-    """Of each column of X the part of its length, as the fit weighs it, that the other columns don't give: the root of 1/(R^-1)_jj, with the correlations R of beta by v."""
+    """Of each column of X the part of its length, as the fit weighs it, that the other columns don't give: the root of 1/(R^-1)_jj, with the correlations R
+    of beta by v."""
     scale = [math.sqrt(v[j * p + j]) if v[j * p + j] > 0 else 0.0 for j in range(p)]
     if not all(0 < s < math.inf for s in scale) or any(map(math.isnan, v)):
         return [1.0] * p

@@ -1,15 +1,16 @@
 """What `fitjob` printed, taken apart (Answer), and told in words and decimals (table) or as JSON. The words for each number are those of docs/NUMBERS.md.
 
 The JSON is one object:
-    settings   family, link, n, p, q, theta, n_agq, limit (null: not given), weights and offset (whether given), and blocks, each with its number of groups m and of
-               effects k, the column that names the groups, the effects and the groups (null where no text tells them); null where the job can't be read
+    settings   family, link, n, p, q, theta, n_agq, limit (null: not given), weights and offset (whether given), and blocks, each with its number
+               of groups m and of effects k, the column that names the groups, the effects and the groups (null where no text tells them); null where the job can't be read
     refused    null, or {number, byte, meaning, todo}
     end        null where refused, else {number, meaning, todo}
     counts     null where refused, else the numbers of the end line by their names: order, disp, iters, fits, solves, tries, points
     warnings   a list of texts
     names      null where not fitted, else columns (of beta, se, z, v), effects (of u, b) and responses (of mu, eta, residual)
     results    null where not fitted, else every list by its name: deviance and phi as numbers, v as p rows
-    derived    null where not fitted, else lower and upper, the ends of Wald's 95 % interval of each beta, and sd, the standard deviation of each b given beta, theta, phi
+    derived    null where not fitted, else lower and upper, the ends of Wald's 95 % interval of each beta, and sd, the standard
+               deviation of each b given beta, theta and phi
 Numbers are decimals that read back to the same bits. JSON has no infinity and no NaN: these are the strings "Infinity", "-Infinity" and "NaN"."""
 import json, math, re, struct, sys, textwrap
 from pathlib import Path
@@ -152,15 +153,18 @@ def of_data(job, names):
                f"{FAMILIES[job.family]} is a family of counts, and se, z and the deviance hold for counts only.")
     for b, (m, _) in enumerate(job.blocks):
         if m == 1:
-            yield f"{names.block(b)} has a single group: its effects can't be told from the fixed ones, and no theta can be chosen for it (lme4 refuses such a model)."
+            yield (f"{names.block(b)} has a single group: its effects can't be told from the fixed ones, and no theta can be chosen for it "
+                   "(lme4 refuses such a model).")
 
 
 def of_columns(job, lists, names):
     """Columns of X that nearly follow from each other."""
     near = [(part, name) for part, name in zip(own_parts(lists["v"], job.p), names.fixed) if part < OWN]
     if near:
-        yield (f"the columns {', '.join(short(name) for _, name in near)} of X nearly follow from each other: but for {min(near)[0]:.1g} of its length the others give "
-               f"{short(min(near)[1])}. Six digits of their beta, se and z are not sure, or none at all. Leave one out; or, if all values of one are near some number, take that off them.")
+        part, least = min(near)
+        yield (f"the columns {', '.join(short(name) for _, name in near)} of X nearly follow from each other: but for {part:.1g} of its length the others give "
+               f"{short(least)}. Six digits of their beta, se and z are not sure, or none at all. Leave one out; or, if all values of one are near some number, "
+               "take that off them.")
 
 
 def warnings(job, counts, lists, names):
@@ -194,7 +198,8 @@ def fitted(job, answer, names, rows):
     told = [f"  deviance  {decimal(lists['deviance'][0])} ({'Laplace' if order == 1 else f'quadrature of order {order}'})",
             f"  phi       {decimal(lists['phi'][0])}", *(line for text in warnings(job, answer.counts, lists, names) for line in wrapped(f"WARNING: {text}")), ""]
     lower, upper = wald(lists)
-    told += ["fixed effects; from .. to is Wald's 95 % interval, beta \u00b1 1.959964 se", *lined(names.fixed, {**lists, "from": lower, "to": upper}, "beta", "se", "z", "from", "to"), "",
+    told += ["fixed effects; from .. to is Wald's 95 % interval, beta \u00b1 1.959964 se",
+             *lined(names.fixed, {**lists, "from": lower, "to": upper}, "beta", "se", "z", "from", "to"), "",
              "random effects; sd is that of b given beta, theta and phi", *lined(names.effects, {**lists, "sd": effect_spread(job, lists)}, "u", "b", "sd"), ""]
     v = [[short(name), *map(decimal, lists["v"][i * job.p:(i + 1) * job.p])] for i, name in enumerate(names.fixed)]
     told += ["v, whose diagonal is se squared", *columns([["", *map(short, names.fixed)], *v])]
@@ -262,8 +267,8 @@ def plain(value):
 
 def settings(job, names):
     blocks = [{"m": m, "k": k, "column": column, "effects": effects, "groups": groups} for (m, k), (column, effects, groups) in zip(job.blocks, names.blocks)]
-    return {"family": FAMILIES[job.family], "link": LINKS[job.link], "n": job.n, "p": job.p, "q": job.q, "theta": job.theta, "n_agq": job.n_agq, "limit": job.limit,
-            "weights": job.weights is not None, "offset": job.offset is not None, "blocks": blocks}
+    return {"family": FAMILIES[job.family], "link": LINKS[job.link], "n": job.n, "p": job.p, "q": job.q, "theta": job.theta, "n_agq": job.n_agq,
+            "limit": job.limit, "weights": job.weights is not None, "offset": job.offset is not None, "blocks": blocks}
 
 
 def results(job, lists):
