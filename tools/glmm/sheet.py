@@ -200,7 +200,8 @@ class Sheet:
     def take_row(self, at, line):
         """The column names, which end the head, or a row."""
         if self.columns is None:
-            self.check_head(f"; line {at}, '{short(line, 20)}', is taken for the column names")
+            alone = "" if self.head["random"] or len(self.head) > 1 else "; a head in a file of its own is given with --model"
+            self.check_head(f"; line {at}, '{short(line, 20)}', is taken for the column names{alone}")
             self.mark = mark_of(line)
             self.columns = cells_of(line, self.mark, at)
             for column, count in Counter(self.columns).items():
@@ -211,7 +212,9 @@ class Sheet:
             raise Fault(f"line {at}: row {MOST_ROWS + 1} of the table; at most {MOST_ROWS} responses are carried")
         cells = cells_of(line, self.mark, at)
         if len(cells) != len(self.columns):
-            raise Fault(f"line {at}: {len(cells)} cells, but {len(self.columns)} columns are named ({listed(self.columns, ' ')})")
+            named = self.mark is None and line.startswith('"') and len(cells) == len(self.columns) + 1
+            raise Fault(f"line {at}: {len(cells)} cells, but {len(self.columns)} columns are named ({listed(self.columns, ' ')})"
+                        + ("; R's write.table is to be told row.names = FALSE" if named else ""))
         self.rows.append((at, cells))
 
     # ---- the head alone

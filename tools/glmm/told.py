@@ -2,7 +2,8 @@
 
 The JSON is one object:
     settings   family, link, n, p, q, theta, n_agq, limit (null: not given), weights and offset (whether given), and blocks, each with its number
-               of groups m and of effects k, the column that names the groups, the effects and the groups (null where no text tells them); null where the job can't be read
+               of groups m and of effects k, the column that names the groups, the effects and the groups (null where no text tells them); null where the
+               job can't be read
     refused    null, or {number, byte, meaning, todo}
     end        null where refused, else {number, meaning, todo}
     counts     null where refused, else the numbers of the end line by their names: order, disp, iters, fits, solves, tries, points
