@@ -152,7 +152,7 @@ def headings(job, answer, file, count):
     kind = "Laplace" if order == 1 else f"quadrature of order {order}"
     return (f"{name}{FAMILIES[job.family]}, {LINKS[job.link]} link",
             f"{counted(job.n, 'response')}, {counted(job.q, 'random effect')}, theta {thetas}, deviance {decimal(answer.lists['deviance'][0])} ({kind})"
-            + (f". {counted(count, 'WARNING')}: see the table" if count else ""))
+            + (f". {counted(count, 'warning')}: see the table" if count else ""))
 
 
 def caption(job):

@@ -13,7 +13,7 @@ The JSON is one object:
     derived    null where not fitted, else lower and upper, the ends of Wald's 95 % interval of each beta, and sd, the standard
                deviation of each b given beta, theta and phi
 Numbers are decimals that read back to the same bits. JSON has no infinity and no NaN: these are the strings "Infinity", "-Infinity" and "NaN"."""
-import json, math, re, struct, sys, textwrap
+import functools, json, math, re, struct, sys, textwrap
 from pathlib import Path
 from form import FAMILIES, LINKS
 from reader import Refused, parse
@@ -229,6 +229,12 @@ def table(answer, job, sheet=None, rows=False):
     return [*told, f"  iterations {counts['iters']}, {account}", *fitted(job, answer, Names(job, sheet), rows)]
 
 
+@functools.cache
+def remark(text):
+    """A line on standard error, once: the table and the plot of one answer may both have cause for it."""
+    print(text, file=sys.stderr)
+
+
 def understood(lines, data, file=None, sheet=None):
     """The answer, the job (None where it was refused as bytes), and the text that names its parts, which is looked for beside `file` where it is not given."""
     answer = Answer(lines)
@@ -241,9 +247,9 @@ def understood(lines, data, file=None, sheet=None):
     if job:
         answer.check(job)
     if job and sheet is None and file not in (None, "", "-"):
-        sheet, remark = sheet_beside(file, job, data)
-        if remark:
-            print(remark, file=sys.stderr)
+        sheet, told = sheet_beside(file, job, data)
+        if told:
+            remark(told)
     return answer, job, sheet
 
 
