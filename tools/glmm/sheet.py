@@ -116,8 +116,8 @@ def logarithm(value, where):
 
 def mark_of(line):
     """What stands between the cells below a line of column names; None is blanks."""
-    bare = re.sub(QUOTED, "", line)
-    return "," if "," in bare else ";" if ";" in bare else None
+    outside = re.sub(QUOTED, "", line)
+    return "," if "," in outside else ";" if ";" in outside else None
 
 
 def cells_of(line, mark, at):
