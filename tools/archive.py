@@ -1,4 +1,4 @@
-"""The proved archive of the elementary functions, linked with tools/elementary.c into one static x86-64 program."""
+"""The proved archive of the elementary functions, linked with tools/c/elementary.c into one static x86-64 program."""
 import atexit, platform, shutil, subprocess, sys, tempfile
 from pathlib import Path
 
@@ -20,5 +20,5 @@ def command():
     folder = tempfile.mkdtemp(prefix="elementary")
     atexit.register(shutil.rmtree, folder, ignore_errors=True)
     program = Path(folder) / "elementary"
-    subprocess.run([compiler, "-O2", "-fno-builtin", "-static", "tools/elementary.c", "-Ltarget/staticlib", "-Wl,--whole-archive", "-lelementary_c", "-Wl,--no-whole-archive", "-lm", "-o", str(program)], check=True)
+    subprocess.run([compiler, "-O2", "-fno-builtin", "-static", "tools/c/elementary.c", "-Ltarget/staticlib", "-Wl,--whole-archive", "-lelementary_c", "-Wl,--no-whole-archive", "-lm", "-o", str(program)], check=True)
     return [*emulator, str(program)]
