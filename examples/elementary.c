@@ -1,13 +1,10 @@
-/* Calls the proved elementary functions from C and prints each answer with its bits. */
+/* Calls the proved elementary functions from C and prints each answer with its bits. In the repository's root:
+ *     gcc -Iinclude examples/elementary.c target/staticlib/libelementary_c.a -o target/elementary && target/elementary */
 #include <inttypes.h>
 #include <stdio.h>
 #include <string.h>
 
-double glmm_sqrt(double x);
-double glmm_exp(double x);
-double glmm_ln(double x);
-double glmm_ln_1p(double x);
-double glmm_exp_m1(double x);
+#include "glmm.h"
 
 static void put(const char *name, double x, double y)
 {
