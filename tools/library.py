@@ -78,7 +78,7 @@ def built(crate):
         say(f"{file}: the released one")
         return place
     wanted("rt")
-    say(f"{file}: proving and building {crate} and what it stands on where that is not done (rt staticlib {crate}); from nothing that takes up to half an hour, docs/TIMES.md")
+    say(f"{file}: proving and building {crate} and what it stands on where that is not done; from nothing that takes up to half an hour (docs/TIMES.md)")
     proving(command_for(file))
     return ROOT / "target" / "staticlib" / file
 
