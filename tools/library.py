@@ -71,14 +71,14 @@ def found(file):
 
 @functools.cache
 def built(crate):
-    """The archive of a crate: the released one where it is of these sources; else it is proved and built, anew where a source has changed."""
+    """The archive of a crate: the released one where it is of these sources, else the one below target/ where no source has changed since; else it is proved and built."""
     file = f"lib{crate}.a"
-    place = released(file)
+    place = released(file) or made(file)
     if place:
-        say(f"{file}: the released one")
+        say(f"{file}: that of {place.parent.relative_to(ROOT)}/")
         return place
     wanted("rt")
-    say(f"{file}: proving and building {crate} and what it stands on where that is not done; from nothing that takes up to half an hour (docs/TIMES.md)")
+    say(f"{file}: proving and building {crate} and what it stands on; a minute where that is proved, up to half an hour where nothing is (docs/TIMES.md)")
     proving(command_for(file))
     return ROOT / "target" / "staticlib" / file
 
