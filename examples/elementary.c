@@ -1,5 +1,6 @@
 /* Calls the proved elementary functions from C and prints each answer with its bits. In the repository's root:
- *     gcc -Iinclude examples/elementary.c target/staticlib/libelementary_c.a -o target/elementary && target/elementary */
+ *     make && gcc -Iinclude examples/elementary.c target/package/libglmm.a -o target/elementary && target/elementary
+ * libelementary_c.a, which has these functions alone, does as well in the place of libglmm.a. */
 #include <inttypes.h>
 #include <stdio.h>
 #include <string.h>
