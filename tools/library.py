@@ -77,7 +77,8 @@ def built(crate):
     if place:
         say(f"{file}: that of {place.parent.relative_to(ROOT)}/")
         return place
-    wanted("rt")
+    if not shutil.which("rt"):
+        sys.exit(f"{Path(sys.argv[0]).name}: the Rattle toolchain (rt) is missing, and {file} is neither in release/ for these sources nor below target/ since they changed")
     say(f"{file}: proving and building {crate} and what it stands on; a minute where that is proved, up to half an hour where nothing is (docs/TIMES.md)")
     proving(command_for(file))
     return ROOT / "target" / "staticlib" / file
