@@ -15,7 +15,7 @@ ghost use Rattle.job.specs.Job.{limitFrom};
 ghost use Rattle.model.specs.Inputs.{inputs};
 ghost use Rattle.call.specs.Call.{lent};
 ghost use Rattle.layout.specs.WorkTerms.{termsLength};
-ghost use Rattle.jobcall.specs.Asked.{rowsAsked, matricesAsked};
+ghost use Rattle.lengths.specs.Asked.{rowsAsked, matricesAsked};
 ghost use Rattle.blocks_c.specs.Coded.{named, unnamed, withLink, settingsOf};
 ghost use Rattle.blocks_c.specs.Plain.{plainOf, shown, fitBlocksOf};
 
@@ -126,14 +126,14 @@ fn plain(answer: Answer) -> PlainAnswer
 pub extern "C" fn glmm_rows_length(n: usize) -> usize
     ensures { λ r. ⌜ r ≡ rowsAsked n ⌝ }
 {
-    jobcall::rows_asked(n)
+    lengths::rows_asked(n)
 }
 
 #[no_mangle]
 pub extern "C" fn glmm_matrices_length(p: usize, q: usize) -> usize
     ensures { λ r. ⌜ r ≡ matricesAsked p q ⌝ }
 {
-    jobcall::matrices_asked(p, q)
+    lengths::matrices_asked(p, q)
 }
 
 #[no_mangle]

@@ -11,7 +11,7 @@ use denote.Ref.{now}
 use Rattle.model.specs.Inputs.{inputs}
 use Rattle.call.specs.Call.{lent}
 use Rattle.layout.specs.WorkTerms.{termsLength}
-use Rattle.jobcall.specs.Asked.{rowsAsked, matricesAsked}
+use Rattle.lengths.specs.Asked.{rowsAsked, matricesAsked}
 use Rattle.blocks.specs.declared.Block.{Block}
 use Rattle.blocks.proofs.Block as block
 use Rattle.blocks_c.specs.declared.CodedSettings.{CodedSettings}
