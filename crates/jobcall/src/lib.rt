@@ -1,6 +1,6 @@
 // A call of the fit with the bytes of a job: read, refused or fitted, and told in lent buffers.
-mod counts;
 mod asked;
+mod counts;
 mod whole;
 
 pub use asked::results_asked;
