@@ -1,5 +1,5 @@
 """A tree of stubs for tools/test_fit: a copy of ./fit and of what it needs, over three small crates, with a toolchain of scripts in place of the true one."""
-import hashlib, os, shutil, subprocess, sys, time
+import hashlib, os, shutil, signal, subprocess, sys, time
 from pathlib import Path
 
 ROOT = Path(__file__).resolve().parent.parent
@@ -72,18 +72,40 @@ class Tree:
         done = subprocess.run(self.words(*words, under=under), cwd=self.top, env=self.ways(path), input=given, stdout=out, stderr=subprocess.PIPE)
         return done.returncode, (done.stdout or b"").decode(), done.stderr.decode()
 
-    def start(self, *words):
-        """A run that is not waited for."""
-        return subprocess.Popen(self.words(*words), cwd=self.top, env=self.ways("bin"), stdin=subprocess.DEVNULL, stdout=subprocess.PIPE, stderr=subprocess.PIPE)
+    def start(self, name, *words):
+        """A run that is not waited for; what it prints and says goes into files of that name."""
+        with open(self.top / f"{name}.out", "wb") as out, open(self.top / f"{name}.said", "wb") as said:
+            return subprocess.Popen(self.words(*words), cwd=self.top, env=self.ways("bin"), stdin=subprocess.DEVNULL, stdout=out, stderr=said)
+
+    def said(self, name):
+        """What a run has said, once it has said something."""
+        soon(lambda: (self.top / f"{name}.said").stat().st_size)
+        return (self.top / f"{name}.said").read_text()
 
     def started(self, count):
         """The processes that rt has noted, once there are so many."""
-        for _ in range(200):
-            found = (self.top / "started").read_text().split() if (self.top / "started").is_file() else []
-            if len(found) >= count:
-                return list(map(int, found))
-            time.sleep(0.05)
-        return []
+        def noted():
+            return list(map(int, (self.top / "started").read_text().split())) if (self.top / "started").is_file() else []
+        soon(lambda: len(noted()) >= count)
+        return noted()
+
+
+def soon(test):
+    """Whether a test holds, at once or within some seconds."""
+    for _ in range(200):
+        if test():
+            return True
+        time.sleep(0.05)
+    return False
+
+
+def ended(run):
+    """The status of a run that should end now; it is ended by force where it does not."""
+    try:
+        return run.wait(20)
+    except subprocess.TimeoutExpired:
+        run.kill()
+        return run.wait()
 
 
 def alive(number):
@@ -95,9 +117,8 @@ def alive(number):
 
 
 def gone(numbers):
-    """Whether all processes have ended, at once or soon."""
-    for _ in range(100):
-        if not any(map(alive, numbers)):
-            return True
-        time.sleep(0.05)
-    return False
+    """Whether all processes have ended, at once or soon; those that have not are ended."""
+    good = soon(lambda: not any(map(alive, numbers)))
+    for number in filter(alive, numbers):
+        os.kill(number, signal.SIGKILL)
+    return good
