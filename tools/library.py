@@ -44,7 +44,7 @@ def wanted(*tools):
 
 def released(file):
     """The file of release/ where it is of these sources, else None."""
-    return programs.released(file) if hasattr(programs, "released") else None
+    return programs.released(file)
 
 
 def made(file):
