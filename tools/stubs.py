@@ -9,7 +9,8 @@ SOURCES = {"crates/base/src/lib.rt": "fn one() -> u64 { 1 }\n", "crates/base/spe
 BELOW = ["crates/base/specs/Lib.antt", "crates/base/src/lib.rt", "crates/fitjob/src/main.rt"]  # what fitjob is built from, by paths
 TIMES = "| crate | seconds | under way | edits |\n|---|---|---|---|\n| base | 600 | 1 | |\n| fitjob | 120 | 2 | |\n"
 
-# What rt does here: it proves two crates and builds the true program; it waits for the file go, if hold is there, beside a process of its own; it fails where the file broken is.
+# What rt does here: it proves two crates and builds the true program; where the file hold is, it waits for the file go, beside a process of its own; where the
+# file broken is, it fails.
 RT = """case $1 in doc) echo {top}/kit/docs/START-HERE.md; exit;; version) echo a stub; exit;; esac
 echo $$ >> {top}/started
 if [ -e {top}/hold ]; then sleep 300 & echo $! >> {top}/started; while [ ! -e {top}/go ]; do sleep 0.05; done; kill $!; fi

@@ -18,7 +18,7 @@ NO_TEXT = re.compile(rb"[\x00-\x08\x0e-\x1f]")
 
 
 def begins_as_job(data):
-    """Whether bytes are a job by their first four bits, the version; the first bytes of version 2 are signs of texts too (#), so one that no text has is wanted as well."""
+    """Whether bytes are a job: by their first four bits, the version, and by a byte that no text has, as the first bytes of a version 2 would be signs of texts (#)."""
     return data[:1] != b"" and data[0] >> 4 in VERSIONS and NO_TEXT.search(data) is not None
 
 

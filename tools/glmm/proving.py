@@ -128,7 +128,8 @@ def prove(cause):
     if not shutil.which("rt"):
         raise Failed(f"{cause}, and the Rattle toolchain (rt), which proves and builds fitjob, is missing")
     made, progress, last = program.sources(), Progress(), collections.deque(maxlen=12)
-    say(f"{cause}: proving and building fitjob and what it stands on, {progress.total} crates, {len(progress.work)} of them new: {about(progress.rest())} on two free cores")
+    say(f"{cause}: proving and building fitjob and what it stands on, {progress.total} crates, {len(progress.work)} of them new: "
+        f"{about(progress.rest())} on two free cores")
     try:
         with running(["rt", "check", "fitjob"]) as work:
             for line in work.stdout:
