@@ -1,13 +1,11 @@
-/* Calls the proved elementary functions from C and prints each answer with its bits. */
+/* Calls the proved elementary functions from C and prints each answer with its bits. In the repository's root:
+ *     make && gcc -Iinclude examples/elementary.c target/package/libglmm.a -o target/elementary && target/elementary
+ * libelementary_c.a, which has these functions alone, does as well in the place of libglmm.a. */
 #include <inttypes.h>
 #include <stdio.h>
 #include <string.h>
 
-double glmm_sqrt(double x);
-double glmm_exp(double x);
-double glmm_ln(double x);
-double glmm_ln_1p(double x);
-double glmm_exp_m1(double x);
+#include "glmm.h"
 
 static void put(const char *name, double x, double y)
 {

@@ -1,7 +1,10 @@
 /* The fit of a generalised linear mixed model at a given theta, for C99 and C++.
  *
- * Link with libglmm_c.a (made by `rt staticlib glmm_c`, for x86-64). It has the functions of libelementary_c.a too: link one of the two. The fit over a
- * list of blocks is in libblocks_c.a (`rt staticlib blocks_c`), which may be linked beside either, or alone.
+ * For x86-64 alone. Link with libglmm, static or shared, which has every function of this header (`make install`; `pkg-config --cflags --libs glmm`).
+ * Or link one of the archives that it is made of: libglmm_c.a has all but glmm_fit_blocks; libblocks_c.a has glmm_fit_blocks and the lengths of its
+ * work buffers; libelementary_c.a has the elementary functions alone. A function that two archives have is the same in both, so a program may link
+ * them together if it allows the linker to take either (`-Wl,-z,muldefs`).
+ *
  * No heap, no files, no state: every function may be called from several threads at once as long as no two calls write to the same buffer. A call
  * is finished by a bounded amount of work, on a bounded stack (docs/EMBEDDED.md).
  *
@@ -20,6 +23,18 @@ extern "C" {
 
 /* ---- what a caller lends, and reads afterwards */
 
+/* FITTED? A RETURN VALUE OF 0 DOES NOT MEAN THAT THERE ARE RESULTS. It means that the call was accepted. Where it then ended without a fit (10 to 13),
+ * `results` is as lent, and whoever reads it reads what was there before. So ask before you read:
+ *
+ *     if (GLMM_FITTED(glmm_fit_job(.., counts, GLMM_COUNTS), counts))
+ *         use(results);
+ *
+ * `returned` is what glmm_fit_job or glmm_fit_job_theta returned, or the call itself; `counts` is what was lent to it. */
+#define GLMM_FITTED(returned, counts) ((returned) == 0 && (counts)[GLMM_NUMBER] == 0)
+
+/* The same of an answer of glmm_fit_blocks. */
+#define GLMM_ANSWER_FITTED(answer) ((answer).number == 0)
+
 /* How many numbers `counts` must have at least; the indices below say what each is. */
 #define GLMM_COUNTS 9
 enum {
@@ -36,7 +51,7 @@ enum {
 };
 
 /* The lengths of the work buffers and of the results for n observations, p columns of X and q effects; 0 where the sizes are not carried
- * (n 1 to 512, p 1 to 16, q 1 to 32). */
+ * (n 1 to 512, p 1 to 16, q 1 to 32). The first three are in libblocks_c.a too. */
 size_t glmm_rows_length(size_t n);
 size_t glmm_matrices_length(size_t p, size_t q);
 size_t glmm_terms_length(void);
@@ -59,9 +74,9 @@ size_t glmm_results_length(size_t n, size_t p, size_t q);
  * counts     at least GLMM_COUNTS numbers, of which the first GLMM_COUNTS are written by every call; a shorter one is left as lent, and 2 is
  *            returned before the job is looked at
  *
- * Returned: 0 where the call was accepted (counts[GLMM_NUMBER] is then 0, 10, 11, 12 or 13), else the refusal's number: of a job that cannot be read
- * (20 to 25, or 1; counts[GLMM_BYTE] says where), else of the table (1, 2, 7, 6, 3, 4, 5, tested in this order). After a refusal everything but
- * counts is as lent. */
+ * Returned: 0 where the call was accepted (counts[GLMM_NUMBER] is then 0, 10, 11, 12 or 13: ask GLMM_FITTED), else the refusal's number: of a job that
+ * cannot be read (20 to 25, or 1; counts[GLMM_BYTE] says where), else of the table (1, 2, 7, 6, 3, 4, 5, tested in this order). After a refusal
+ * everything but counts is as lent. */
 uint64_t glmm_fit_job(const uint8_t *job, size_t job_length,
                       double *rows, size_t rows_length,
                       double *matrices, size_t matrices_length,
@@ -79,7 +94,7 @@ uint64_t glmm_fit_job_theta(const uint8_t *job, size_t job_length,
                             double *results, size_t results_length,
                             uint64_t *counts, size_t counts_length);
 
-/* ---- the same fit with the numbers of a job in arrays of their own: link with libblocks_c.a */
+/* ---- the same fit with the numbers of a job in arrays of their own */
 
 /* A block of random effects: m groups with k effects each. */
 struct glmm_block {
@@ -128,8 +143,8 @@ struct glmm_answer {
  * rows, matrices, terms
  *            work buffers of at least the lengths above (else 7), left as glmm_fit_job leaves them
  *
- * A length that is not as told here is refused with 2, a number that is not finite with 3. The results are written where the answer's number is 0, and
- * are else as lent; after a refusal everything is. */
+ * A length that is not as told here is refused with 2, a number that is not finite with 3. The results are written where the answer's number is 0
+ * (GLMM_ANSWER_FITTED), and are else as lent; after a refusal everything is. */
 struct glmm_answer glmm_fit_blocks(struct glmm_settings settings,
                                    const struct glmm_block *blocks, size_t blocks_length,
                                    const double *theta, size_t theta_length,

@@ -1,7 +1,7 @@
 /* usage: wafers JOB [THETA ..]
- * Fits the job as it is, then looks for the theta with the lowest Laplace deviance by a golden-section search: the job is packed once, theta goes
- * beside it. The job has one theta (examples/wafers.job). With thetas given it prints each with its deviance instead. No heap: all buffers are
- * static. */
+ * Fits the job as it is, and reads the results only where it was fitted; then looks for the theta with the lowest Laplace deviance by a golden-section
+ * search: the job is packed once, theta goes beside it. The job has one theta (examples/wafers.job). With thetas given it prints each with its
+ * deviance instead. No heap: all buffers are static. */
 #include <stdio.h>
 #include <stdlib.h>
 
@@ -14,9 +14,9 @@ static uint64_t counts[GLMM_COUNTS];
 /* The deviance at theta; a fit that failed counts as worse than any. */
 static double deviance(size_t length, double theta)
 {
-    uint64_t refused = glmm_fit_job_theta(job, length, &theta, 1, rows, GLMM_MOST_ROWS, matrices, GLMM_MOST_MATRICES, terms, GLMM_TERMS, results,
-                                          GLMM_MOST_RESULTS, counts, GLMM_COUNTS);
-    return refused == 0 && counts[GLMM_NUMBER] == 0 ? results[0] : 1e300;
+    uint64_t returned = glmm_fit_job_theta(job, length, &theta, 1, rows, GLMM_MOST_ROWS, matrices, GLMM_MOST_MATRICES, terms, GLMM_TERMS, results,
+                                           GLMM_MOST_RESULTS, counts, GLMM_COUNTS);
+    return GLMM_FITTED(returned, counts) ? results[0] : 1e300;
 }
 
 /* The lowest deviance between low and high, to 1e-6 of theta. */
@@ -41,7 +41,7 @@ int main(int count, char **words)
 {
     FILE *file = count >= 2 ? fopen(words[1], "rb") : NULL;
     size_t length;
-    uint64_t refused;
+    uint64_t returned;
     double theta;
     int i;
     if (file == NULL) {
@@ -55,10 +55,10 @@ int main(int count, char **words)
             printf("%s %.17g\n", words[i], deviance(length, strtod(words[i], NULL)));
         return 0;
     }
-    refused = glmm_fit_job(job, length, rows, GLMM_MOST_ROWS, matrices, GLMM_MOST_MATRICES, terms, GLMM_TERMS, results, GLMM_MOST_RESULTS, counts,
-                           GLMM_COUNTS);
-    if (refused != 0) {
-        printf("refused %u at %u\n", (unsigned)refused, (unsigned)counts[GLMM_BYTE]);
+    returned = glmm_fit_job(job, length, rows, GLMM_MOST_ROWS, matrices, GLMM_MOST_MATRICES, terms, GLMM_TERMS, results, GLMM_MOST_RESULTS, counts,
+                            GLMM_COUNTS);
+    if (!GLMM_FITTED(returned, counts)) {
+        printf("not fitted: number %u, at byte %u\n", (unsigned)counts[GLMM_NUMBER], (unsigned)counts[GLMM_BYTE]);
         return 1;
     }
     printf("as packed: end %u, deviance %.6f, iterations %u, solves %u, tries %u\n", (unsigned)counts[GLMM_NUMBER], results[0],

@@ -42,6 +42,10 @@ def drawing(values):
 """
 
 
+if sys.argv[1:2] in (["-h"], ["--help"]):
+    print(__doc__)
+    sys.exit()
 if len(sys.argv) < 4:
-    sys.exit(__doc__)
+    print(__doc__, file=sys.stderr)
+    sys.exit(2)
 Path(sys.argv[1]).write_text(drawing(deviances(sys.argv[2], sys.argv[3:])))

@@ -13,7 +13,8 @@ A description is a JSON object:
     zt        the rows of Z', each a list of [column, value]
 In place of m, k and zt every block may have "group", the group of each response (any JSON value; groups are numbered as they first appear), and
 "z", a row of k numbers for each response (left out: one effect, an intercept).
-A number is a JSON number, or a string: "nan", "inf", "-inf", or 16 hexadecimal digits of its pattern."""
+A number is a JSON number, or a string: "nan", "inf", "-inf", or 16 hexadecimal digits of its pattern.
+For a job whose header lies, version, n, p and count (of blocks) may be given too."""
 import json, math, struct
 
 FAMILIES = ["binomial", "poisson", "gaussian", "gamma"]
@@ -72,14 +73,15 @@ def job_bytes(about):
 
 def block_rows(block):
     """m, k and the rows of Z' of a block that is given by groups."""
-    labels = list(dict.fromkeys(json.dumps(g) for g in block["group"]))
-    z = block.get("z") or [[1.0]] * len(block["group"])
+    groups = [json.dumps(group) for group in block["group"]]
+    places = {group: g for g, group in enumerate(dict.fromkeys(groups))}
+    z = block.get("z") or [[1.0]] * len(groups)
     k = len(z[0])
-    rows = [[] for _ in range(len(labels) * k)]
-    for i, group in enumerate(block["group"]):
+    rows = [[] for _ in range(len(places) * k)]
+    for i, group in enumerate(groups):
         for e in range(k):
-            rows[labels.index(json.dumps(group)) * k + e].append([i, z[i][e]])
-    return {"m": len(labels), "k": k}, rows
+            rows[places[group] * k + e].append([i, z[i][e]])
+    return {"m": len(places), "k": k}, rows
 
 
 def from_groups(about):

@@ -1,14 +1,30 @@
-"""What `fitjob` printed, taken apart (Answer), and told in words and decimals (table). The words for each number are those of docs/NUMBERS.md."""
-import math, re, struct, sys, textwrap
+"""What `fitjob` printed, taken apart (Answer), and told in words and decimals (table) or as JSON. The words for each number are those of docs/NUMBERS.md.
+
+The JSON is one object:
+    settings   family, link, n, p, q, theta, n_agq, limit (null: not given), weights and offset (whether given), and blocks, each with its number
+               of groups m and of effects k, the column that names the groups, the effects and the groups (null where no text tells them); null where the
+               job can't be read
+    refused    null, or {number, byte, meaning, todo}
+    end        null where refused, else {number, meaning, todo}
+    counts     null where refused, else the numbers of the end line by their names: order, disp, iters, fits, solves, tries, points
+    warnings   a list of texts
+    names      null where not fitted, else columns (of beta, se, z, v), effects (of u, b) and responses (of mu, eta, residual)
+    results    null where not fitted, else every list by its name: deviance and phi as numbers, v as p rows
+    derived    null where not fitted, else lower and upper, the ends of Wald's 95 % interval of each beta, and sd, the standard
+               deviation of each b given beta, theta and phi
+Numbers are decimals that read back to the same bits. JSON has no infinity and no NaN: these are the strings "Infinity", "-Infinity" and "NaN"."""
+import functools, json, math, re, struct, sys, textwrap
 from pathlib import Path
 from form import FAMILIES, LINKS
 from reader import Refused, parse
-from sheet import sheet_beside
+from sheet import short, sheet_beside
+from spread import LEAST, effect_spread, own_parts, slope, variance, wald
 
 NUMBERS = Path(__file__).resolve().parents[2] / "docs" / "NUMBERS.md"
 COUNTS = "end order disp iters fits solves tries points".split()
-LEAST = 2.0**-52
 RESTLESS = 0.01  # a step, in standard errors, that a fit at rest would not take
+OWN = 1e-5  # the part of a column that the others don't give, below which six digits of se are not sure
+WHOLE = 0.001  # how far a binomial count may be from a whole number
 LISTS = "deviance phi beta se z u b mu eta residual v".split()
 
 
@@ -55,8 +71,9 @@ class Answer:
 
 
 def meanings():
-    """Number: what it means, and what to do."""
-    found = re.findall(r"(?m)^\| (\d+) \| (.*) \| (.*) \|$", NUMBERS.read_text())
+    """Number: what it means, and what to do; from the tables with this head."""
+    tables = re.findall(r"(?m)^\| No\. \| what it means \| what to do \|\n.*\n((?:\|.*\n)+)", NUMBERS.read_text(encoding="utf-8"))
+    found = re.findall(r"(?m)^\| (\d+) \| (.*) \| (.*) \|$", "".join(tables))
     return {int(number): (means, do) for number, means, do in found}
 
 
@@ -76,7 +93,7 @@ def columns(rows):
 
 def lined(names, lists, *wanted):
     """One line for each name, with its number in each wanted list."""
-    return columns([["", *wanted], *([name, *map(decimal, values)] for name, values in zip(names, zip(*(lists[w] for w in wanted))))])
+    return columns([["", *wanted], *([short(name), *map(decimal, values)] for name, values in zip(names, zip(*(lists[w] for w in wanted))))])
 
 
 class Names:
@@ -88,6 +105,10 @@ class Names:
             f"block {b} group {g} effect {e}" for b, (m, k) in enumerate(job.blocks) for g in range(m) for e in range(k)]
         groups = list(zip(*sheet.groups)) if sheet else [()] * job.n
         self.rows = [" ".join([str(i), *of]) for i, of in enumerate(groups)]
+        self.blocks = list(zip(sheet.factors, sheet.terms, sheet.levels)) if sheet else [(None, None, None)] * len(job.blocks)
+
+    def block(self, b):
+        return f"block {b}" if self.blocks[b][0] is None else f"the block of {short(self.blocks[b][0])}"
 
 
 def counted(count, name):
@@ -103,15 +124,6 @@ def model(job):
             f"  theta {' '.join(map(decimal, job.theta))}, n_agq {job.n_agq}, limit {'not given' if job.limit is None else job.limit}"]
 
 
-def slope(link, mu, eta):
-    """The derivative of a mean by its predictor."""
-    return {"logit": mu * (1 - mu), "cloglog": (1 - mu) * math.exp(min(eta, 700)), "log": mu, "identity": 1, "inverse": -mu * mu, "sqrt": 2 * max(eta, 0)}[link]
-
-
-def variance(family, mu):
-    return max({"binomial": mu * (1 - mu), "poisson": mu, "gaussian": 1}[family], LEAST)
-
-
 def next_step(job, lists):
     """How far one more step would move beta, about: the largest of v times the score of the fixed effects, in standard errors."""
     score, phi = [0.0] * job.p, max(lists["phi"][0], LEAST)
@@ -124,8 +136,40 @@ def next_step(job, lists):
     return math.nan if any(map(math.isnan, far)) else max(far, default=0.0)
 
 
-def warnings(job, counts, lists):
-    """What a reader of this fit should know (docs/NUMBERS.md, last section)."""
+def fractions(job):
+    """The responses that are no counts, in words."""
+    if FAMILIES[job.family] == "poisson":
+        return [decimal(y) for y in job.y if y != math.floor(y)]
+    if FAMILIES[job.family] != "binomial":
+        return []
+    counts = [(y * w, w) for y, w in zip(job.y, job.weights or [1.0] * job.n) if w > 0 and math.isfinite(y * w)]
+    return [f"{decimal(count)} of {decimal(total)}" for count, total in counts if abs(count - round(count)) > WHOLE]
+
+
+def of_data(job, names):
+    """What is odd with the responses and groups."""
+    found = fractions(job)
+    if found:
+        yield (f"{counted(len(found), 'response')} can't be {'a count' if len(found) == 1 else 'counts'} ({found[0]}{', ..' if len(found) > 1 else ''}): "
+               f"{FAMILIES[job.family]} is a family of counts, and se, z and the deviance hold for counts only.")
+    for b, (m, _) in enumerate(job.blocks):
+        if m == 1:
+            yield (f"{names.block(b)} has a single group: its effects can't be told from the fixed ones, and no theta can be chosen for it "
+                   "(lme4 refuses such a model).")
+
+
+def of_columns(job, lists, names):
+    """Columns of X that nearly follow from each other."""
+    near = [(part, name) for part, name in zip(own_parts(lists["v"], job.p), names.fixed) if part < OWN]
+    if near:
+        part, least = min(near)
+        yield (f"the columns {', '.join(short(name) for _, name in near)} of X nearly follow from each other: but for {part:.1g} of its length the others give "
+               f"{short(least)}. Six digits of their beta, se and z are not sure, or none at all. Leave one out; or, if all values of one are near some number, "
+               "take that off them.")
+
+
+def warnings(job, counts, lists, names):
+    """What a reader of this fit should know (docs/NUMBERS.md, 'What the table warns of')."""
     order, deviance = counts["order"], lists["deviance"][0]
     if order > 1:
         yield ("the order is above 1: this deviance is no measure for choosing theta, and not to be compared with one of another n_agq. "
@@ -140,38 +184,44 @@ def warnings(job, counts, lists):
     if not step <= RESTLESS:
         yield (f"the fit stopped early: one more step would move beta by about {decimal(step)} standard errors. The stop test passes also where every "
                "working response is met exactly, as with responses that are all 0. Don't use these estimates (docs/NUMBERS.md).")
+    yield from of_columns(job, lists, names)
     if counts["disp"] == 0:
         yield "the dispersion did not settle in 240 rounds: phi and what follows from it are those of the last round."
     if counts["tries"] > counts["solves"]:
         yield "steps were halved: where the last one was, beta, u and b are the full step's, mu and eta the halved one's."
     if job.weights and not all(w > 0 for w in job.weights):
         yield "a weight is not above 0: in the fit it acts as 2^-52, in the deviance as it is."
+    yield from of_data(job, names)
 
 
 def fitted(job, answer, names, rows):
     lists, order = answer.lists, answer.counts["order"]
     told = [f"  deviance  {decimal(lists['deviance'][0])} ({'Laplace' if order == 1 else f'quadrature of order {order}'})",
-            f"  phi       {decimal(lists['phi'][0])}", *(line for text in warnings(job, answer.counts, lists) for line in wrapped(f"WARNING: {text}")), ""]
-    told += ["fixed effects", *lined(names.fixed, lists, "beta", "se", "z"), "", "random effects", *lined(names.effects, lists, "u", "b"), ""]
-    v = [[name, *map(decimal, lists["v"][i * job.p:(i + 1) * job.p])] for i, name in enumerate(names.fixed)]
-    told += ["v, whose diagonal is se squared", *columns([["", *names.fixed], *v])]
+            f"  phi       {decimal(lists['phi'][0])}", *(line for text in warnings(job, answer.counts, lists, names) for line in wrapped(f"WARNING: {text}")), ""]
+    lower, upper = wald(lists)
+    told += ["fixed effects; from .. to is Wald's 95 % interval, beta \u00b1 1.959964 se",
+             *lined(names.fixed, {**lists, "from": lower, "to": upper}, "beta", "se", "z", "from", "to"), "",
+             "random effects; sd is that of b given beta, theta and phi", *lined(names.effects, {**lists, "sd": effect_spread(job, lists)}, "u", "b", "sd"), ""]
+    v = [[short(name), *map(decimal, lists["v"][i * job.p:(i + 1) * job.p])] for i, name in enumerate(names.fixed)]
+    told += ["v, whose diagonal is se squared", *columns([["", *map(short, names.fixed)], *v])]
     if rows:
         told += ["", "responses, counted from 0", *lined(names.rows, {**lists, "y": job.y}, "y", "mu", "eta", "residual")]
     return told
 
 
+def words_for(number):
+    """What a number of an answer means, and what to do."""
+    return meanings().get(number, ("a number that is not known here", "look into docs/NUMBERS.md"))
+
+
 def table(answer, job, sheet=None, rows=False):
     """The lines of the table; `job` (reader.py) is None where it was refused as bytes."""
-    words = meanings()
     if answer.refused:
         number, byte = answer.refused
-        means, do = words.get(number, ("a number that is not known here", "look into docs/NUMBERS.md"))
+        means, do = words_for(number)
         return [*wrapped(f"refused {number} at byte {byte}: {means}"), *wrapped(f"What to do: {do}")]
-    if job is None:
-        raise Unreadable("an end, for a job that can't be read")
-    answer.check(job)
     counts = answer.counts
-    means, do = words.get(counts["end"], ("a number that is not known here", "look into docs/NUMBERS.md"))
+    means, do = words_for(counts["end"])
     account = "inner fits {fits}, solves {solves}, tries {tries}, points {points}".format(**counts)
     told = [*model(job), "", *wrapped(f"end {counts['end']}: {means}")]
     if counts["end"] != 0:
@@ -179,13 +229,86 @@ def table(answer, job, sheet=None, rows=False):
     return [*told, f"  iterations {counts['iters']}, {account}", *fitted(job, answer, Names(job, sheet), rows)]
 
 
-def tell(text, data, file=None, rows=False):
-    """Prints the table of what was printed for the job `data`; names come from the text beside `file`, where there is one."""
+@functools.cache
+def remark(text):
+    """A line on standard error, once: the table and the plot of one answer may both have cause for it."""
+    print(text, file=sys.stderr)
+
+
+def understood(lines, data, file=None, sheet=None):
+    """The answer, the job (None where it was refused as bytes), and the text that names its parts, which is looked for beside `file` where it is not given."""
+    answer = Answer(lines)
     try:
         job = parse(data)
     except Refused:
         job = None
-    sheet, remark = sheet_beside(file, job, data) if job and file else (None, None)
-    if remark:
-        print(remark, file=sys.stderr)
-    print("\n".join(table(Answer(text), job, sheet, rows)))
+    if job is None and not answer.refused:
+        raise Unreadable("an end, for a job that can't be read")
+    if job:
+        answer.check(job)
+    if job and sheet is None and file not in (None, "", "-"):
+        sheet, told = sheet_beside(file, job, data)
+        if told:
+            remark(told)
+    return answer, job, sheet
+
+
+def tell(lines, data, file=None, rows=False, sheet=None):
+    """Prints the table of what was printed for the job `data`; names come from `sheet`, else from the text beside `file`, where there is one."""
+    answer, job, sheet = understood(lines, data, file, sheet)
+    told = "\n".join(table(answer, job, sheet, rows))
+    coded = getattr(sys.stdout, "encoding", None) or "utf-8"
+    print(told.encode(coded, "backslashreplace").decode(coded))
+
+
+# ---- JSON
+
+def plain(value):
+    """What JSON can hold: a number that is none as a string."""
+    if isinstance(value, float) and not math.isfinite(value):
+        return "NaN" if math.isnan(value) else "Infinity" if value > 0 else "-Infinity"
+    if isinstance(value, dict):
+        return {name: plain(part) for name, part in value.items()}
+    return [plain(part) for part in value] if isinstance(value, (list, tuple)) else value
+
+
+def settings(job, names):
+    blocks = [{"m": m, "k": k, "column": column, "effects": effects, "groups": groups} for (m, k), (column, effects, groups) in zip(job.blocks, names.blocks)]
+    return {"family": FAMILIES[job.family], "link": LINKS[job.link], "n": job.n, "p": job.p, "q": job.q, "theta": job.theta, "n_agq": job.n_agq,
+            "limit": job.limit, "weights": job.weights is not None, "offset": job.offset is not None, "blocks": blocks}
+
+
+def results(job, lists):
+    rows = [lists["v"][i * job.p:(i + 1) * job.p] for i in range(job.p)]
+    return {**lists, "deviance": lists["deviance"][0], "phi": lists["phi"][0], "v": rows}
+
+
+def derived(job, lists):
+    lower, upper = wald(lists)
+    return {"lower": lower, "upper": upper, "sd": effect_spread(job, lists)}
+
+
+def description(answer, job, sheet):
+    """The object of the JSON."""
+    names, lists = Names(job, sheet) if job else None, answer.lists
+    number = answer.refused[0] if answer.refused else answer.counts["end"]
+    said = dict(zip(("meaning", "todo"), words_for(number)))
+    return {"settings": settings(job, names) if job else None,
+            "refused": {"number": number, "byte": answer.refused[1], **said} if answer.refused else None,
+            "end": None if answer.refused else {"number": number, **said},
+            "counts": {name: count for name, count in answer.counts.items() if name != "end"} or None,
+            "warnings": list(warnings(job, answer.counts, lists, names)) if lists else [],
+            "names": {"columns": names.fixed, "effects": names.effects, "responses": names.rows} if lists else None,
+            "results": results(job, lists) if lists else None,
+            "derived": derived(job, lists) if lists else None}
+
+
+def as_json(lines, data, file=None, sheet=None):
+    """What was printed for the job `data` as one JSON object; each name's part stands on a line of its own."""
+    whole = plain(description(*understood(lines, data, file, sheet)))
+
+    def item(part):
+        if isinstance(part, dict):
+            return "{\n    " + ",\n    ".join(f"{json.dumps(name)}: {json.dumps(value)}" for name, value in part.items()) + "\n  }"
+        return json.dumps(part)
+    return "{\n  " + ",\n  ".join(f"{json.dumps(name)}: {item(part)}" for name, part in whole.items()) + "\n}\n"

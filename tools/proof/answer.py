@@ -15,6 +15,9 @@ With PATHS, a file that paths.py printed for FN: ⟨NAME⟩ is the path from c t
   END"""
 import re, sys
 sys.dont_write_bytecode = True
+if sys.argv[1:2] in (["-h"], ["--help"]):
+    print(__doc__)
+    sys.exit()
 from common import root, proof_of
 
 if len(sys.argv) not in (3, 4):

@@ -3,6 +3,9 @@
 The fields of FN's `args`, in order: what `c .. .args .NAME` may be."""
 import re, sys
 sys.dont_write_bytecode = True
+if sys.argv[1:2] in (["-h"], ["--help"]):
+    print(__doc__)
+    sys.exit()
 from common import root, Generated
 
 if len(sys.argv) != 3:

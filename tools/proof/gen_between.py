@@ -10,6 +10,9 @@ LAW r a L l : r ≡ END a → left a L ≡ l → .. . The slices are &[f64], &[u
 Nothing is kept of a parameter: what a lent slice owns goes to CALLEE, and what that says of the last values is what FN says of them."""
 import sys
 sys.dont_write_bytecode=True
+if sys.argv[1:2] in (["-h"], ["--help"]):
+    print(__doc__)
+    sys.exit()
 from walks import Walk, last, lst, mv, nl, operands
 if len(sys.argv)!=15: sys.exit(__doc__)
 crate,fn,maker,callee,finish,T,B,S,A,R,D,E,LAW,OPEN=sys.argv[1:]

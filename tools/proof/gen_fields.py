@@ -4,6 +4,9 @@ Writes crates/job/proofs/head/FN/Proof.antt: the walk of a function of job/src/h
 takes fields of these widths (4,2,3,..) one after another, and answers the RECORD of them, which is SPEC of the bytes.
   gen_fields.py head_in Head headOf 4,2,3,1,1,5,13,5,4,10        gen_fields.py piece_in Piece pieceOf 7,4,5 at"""
 import sys
+if sys.argv[1:2] in (["-h"], ["--help"]):
+    print(__doc__)
+    sys.exit()
 
 WHY = "A reader is made at {0}, and the fields are taken one after another."
 

@@ -7,6 +7,9 @@ that says nothing of what it answers. CALLEE has no `requires`. The slices are &
 CRATE's proofs/Lent.antt says that the front of the array is lent and comes back. Nothing is kept of a parameter: what a lent slice owns goes to CALLEE."""
 import sys
 sys.dont_write_bytecode=True
+if sys.argv[1:2] in (["-h"], ["--help"]):
+    print(__doc__)
+    sys.exit()
 from walks import Walk, last, ld, lst, mv, nl, operands, sub
 if len(sys.argv)!=7: sys.exit(__doc__)
 crate,fn,callee,T,B,R=sys.argv[1:]

@@ -9,6 +9,9 @@ MAKER's `ensures` says: λ r. ⌜ r ≡ DEF (now (blocks .entry)) ⌝. The slice
 Nothing is kept of a parameter: what a lent slice owns goes to a callee, and what CALLEE says of the last values is what FN says of them."""
 import sys
 sys.dont_write_bytecode=True
+if sys.argv[1:2] in (["-h"], ["--help"]):
+    print(__doc__)
+    sys.exit()
 from walks import Walk, last, lst, mv, nl, operands
 if len(sys.argv)!=10: sys.exit(__doc__)
 crate,fn,maker,callee,T,B,S,A,D=sys.argv[1:]

@@ -11,6 +11,9 @@ With --ways a way that answers go again and again from the same place to the sam
 `abbrev fit-of : tie.After-if1 → tie.After-fit`, and the answers have `let fit = fit-of c in`."""
 import re, sys
 sys.dont_write_bytecode = True
+if sys.argv[1:2] in (["-h"], ["--help"]):
+    print(__doc__)
+    sys.exit()
 from common import root, proof_of, Generated, records, needs, chain
 
 WIDTH, OFTEN = 160, 6

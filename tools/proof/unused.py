@@ -3,6 +3,9 @@
 Names that a .antt file brings in by `use ..{..}` and does not use (--mend takes them out), and laws (`pub` names of proofs/) that nothing cites.
 A `ghost use` of a .rt file is looked at too."""
 import glob, re, sys
+if sys.argv[1:2] in (["-h"], ["--help"]):
+    print(__doc__)
+    sys.exit()
 
 mend = "--mend" in sys.argv
 crates = [a for a in sys.argv[1:] if not a.startswith("-")] or ["*"]

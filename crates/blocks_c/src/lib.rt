@@ -1,5 +1,5 @@
 // The fit over a lent list of blocks under C's calling convention, for include/glmm.h: a slice is a pointer and a length, a record is C's struct.
-// Nothing is required of any argument.
+// Nothing is required of any argument. The lengths of the work buffers stand here again, by the definitions of glmm_c's: an archive has the functions of one crate.
 use blocks::Block;
 use model::Answer;
 use model::Family;
@@ -14,6 +14,8 @@ ghost use Rattle.model.specs.Names.{linkCoded};
 ghost use Rattle.job.specs.Job.{limitFrom};
 ghost use Rattle.model.specs.Inputs.{inputs};
 ghost use Rattle.call.specs.Call.{lent};
+ghost use Rattle.layout.specs.WorkTerms.{termsLength};
+ghost use Rattle.lengths.specs.Asked.{rowsAsked, matricesAsked};
 ghost use Rattle.blocks_c.specs.Coded.{named, unnamed, withLink, settingsOf};
 ghost use Rattle.blocks_c.specs.Plain.{plainOf, shown, fitBlocksOf};
 
@@ -118,6 +120,27 @@ fn plain(answer: Answer) -> PlainAnswer
         tries: account.tries,
         points: account.points,
     }
+}
+
+#[no_mangle]
+pub extern "C" fn glmm_rows_length(n: usize) -> usize
+    ensures { λ r. ⌜ r ≡ rowsAsked n ⌝ }
+{
+    lengths::rows_asked(n)
+}
+
+#[no_mangle]
+pub extern "C" fn glmm_matrices_length(p: usize, q: usize) -> usize
+    ensures { λ r. ⌜ r ≡ matricesAsked p q ⌝ }
+{
+    lengths::matrices_asked(p, q)
+}
+
+#[no_mangle]
+pub extern "C" fn glmm_terms_length() -> usize
+    ensures { λ r. ⌜ r ≡ termsLength ⌝ }
+{
+    layout::terms_length()
 }
 
 // One call of the fit: `blocks::fit_blocks` of the settings that are named.

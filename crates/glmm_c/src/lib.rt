@@ -8,20 +8,21 @@ ghost use Rattle.elementary.specs.Log1p.{ln1pOf};
 ghost use Rattle.root.specs.Sqrt.{sqrtOf};
 ghost use Rattle.layout.specs.WorkTerms.{termsLength};
 ghost use Rattle.jobcall.specs.Told.{buffers, told, fitJobOf, fitJobThetaOf};
-ghost use Rattle.jobcall.specs.Asked.{rowsAsked, matricesAsked, resultsAsked};
+ghost use Rattle.lengths.specs.Asked.{rowsAsked, matricesAsked};
+ghost use Rattle.jobcall.specs.Results.{resultsAsked};
 
 #[no_mangle]
 pub extern "C" fn glmm_rows_length(n: usize) -> usize
     ensures { λ r. ⌜ r ≡ rowsAsked n ⌝ }
 {
-    jobcall::rows_asked(n)
+    lengths::rows_asked(n)
 }
 
 #[no_mangle]
 pub extern "C" fn glmm_matrices_length(p: usize, q: usize) -> usize
     ensures { λ r. ⌜ r ≡ matricesAsked p q ⌝ }
 {
-    jobcall::matrices_asked(p, q)
+    lengths::matrices_asked(p, q)
 }
 
 #[no_mangle]

@@ -15,7 +15,8 @@ use Rattle.elementary.specs.Log1p.{ln1pOf}
 use Rattle.root.specs.Sqrt.{sqrtOf}
 use Rattle.layout.specs.WorkTerms.{termsLength}
 use Rattle.jobcall.specs.Told.{buffers, told, fitJobOf, fitJobThetaOf}
-use Rattle.jobcall.specs.Asked.{rowsAsked, matricesAsked, resultsAsked}
+use Rattle.lengths.specs.Asked.{rowsAsked, matricesAsked}
+use Rattle.jobcall.specs.Results.{resultsAsked}
 use Rattle.glmm_c.proofs.glmm_exp as exp
 use Rattle.glmm_c.proofs.glmm_exp_m1 as exp-m1
 use Rattle.glmm_c.proofs.glmm_ln as ln

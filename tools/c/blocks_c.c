@@ -61,7 +61,7 @@ static void read_job(void)
         settings.q += blocks[i].m * blocks[i].k, thetas += blocks[i].k * (blocks[i].k + 1) / 2;
     }
     q = settings.q;
-    if (glmm_results_length(n, p, q) == 0)
+    if (glmm_rows_length(n) == 0 || glmm_matrices_length(p, q) == 0)
         return;
     take_list(THETA, thetas), take_list(Y, n), take_list(WEIGHTS, weighted * n), take_list(OFFSET, shifted * n), take_list(X, n * p), read_rows();
     lengths[BETA] = lengths[SE] = lengths[Z] = p, lengths[U] = lengths[B] = q, lengths[MU] = lengths[ETA] = lengths[RESIDUAL] = n;

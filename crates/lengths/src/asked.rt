@@ -1,11 +1,10 @@
-// The lengths of the buffers that a caller must lend; 0 where the sizes are not carried.
-use jobfit::results_length;
+// The lengths of the work buffers that a caller must lend; 0 where the sizes are not carried.
 ghost use mathlib.Core.Path.{_≡_};
 ghost use Rattle.model.specs.Shape.{within};
-ghost use Rattle.jobcall.specs.Asked.{rowsAsked, matricesAsked, resultsAsked};
+ghost use Rattle.lengths.specs.Asked.{rowsAsked, matricesAsked};
 
 // From 1 to most.
-fn in_range(most: usize, k: usize) -> bool
+pub fn in_range(most: usize, k: usize) -> bool
     ensures { λ r. ⌜ r ≡ within 1 most k ⌝ }
 {
     if k < 1 {
@@ -29,21 +28,6 @@ pub fn matrices_asked(p: usize, q: usize) -> usize
     if in_range(16, p) {
         if in_range(32, q) {
             return layout::matrices_length(p, q);
-        }
-        return 0;
-    }
-    0
-}
-
-pub fn results_asked(n: usize, p: usize, q: usize) -> usize
-    ensures { λ r. ⌜ r ≡ resultsAsked n p q ⌝ }
-{
-    if in_range(512, n) {
-        if in_range(16, p) {
-            if in_range(32, q) {
-                return results_length(n, p, q);
-            }
-            return 0;
         }
         return 0;
     }

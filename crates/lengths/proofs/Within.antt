@@ -6,7 +6,7 @@ use borrow.Author.Tests.{leb-true, lt-leb, le-leb}
 use lib.Dec.{leb}
 use Rattle.model.specs.Shape.{within}
 use Rattle.model.proofs.Tests.{both}
-use Rattle.jobcall.specs.Asked.{whenIn}
+use Rattle.lengths.specs.Asked.{whenIn}
 
 pub below-one : (most k : ℕ) → k < 1 → false ≡ within 1 most k
 below-one most k l = rw (lt-leb 1 k l) refl

@@ -1,8 +1,8 @@
 -- `jobcall::results_asked` meets its contract: the length where all three sizes are in range. Assumes nothing.
-use Rattle.jobcall.proofs.Within.{at-most, when-in, when-out}
+use Rattle.lengths.proofs.Within.{at-most, when-in, when-out}
 use borrow.Author.Needs.{needs}
-use Rattle.jobcall.proofs.lengths.results_asked.Statement.{statement}
-use Rattle.jobcall.proofs.lengths.results_asked.Tie as tie
+use Rattle.jobcall.proofs.asked.results_asked.Statement.{statement}
+use Rattle.jobcall.proofs.asked.results_asked.Tie as tie
 
 in-range-requires : tie.Need-in-range-requires
 in-range-requires c κs = search needs

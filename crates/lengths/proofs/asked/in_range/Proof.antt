@@ -1,7 +1,7 @@
--- `jobcall::in_range` meets its contract: each return is what the first test leaves. Assumes nothing.
-use Rattle.jobcall.proofs.Within.{below-one, from-one}
-use Rattle.jobcall.proofs.lengths.in_range.Statement.{statement}
-use Rattle.jobcall.proofs.lengths.in_range.Tie as tie
+-- `lengths::in_range` meets its contract: each return is what the first test leaves. Assumes nothing.
+use Rattle.lengths.proofs.Within.{below-one, from-one}
+use Rattle.lengths.proofs.asked.in_range.Statement.{statement}
+use Rattle.lengths.proofs.asked.in_range.Tie as tie
 
 returns : tie.Need-returns
 returns c = below-one (c .before .args .most) (c .before .args .k) (c .if1 .taken)

@@ -1,0 +1,2 @@
+-- The laws of the lengths that are asked for. Assumes nothing.
+pub mod Within
