@@ -14,7 +14,6 @@ use Rattle.base.specs.Sparse.{Sparse}
 use Rattle.base.proofs.Sums.{lt-or-ge}
 use Rattle.base.proofs.Fills.{length-fillat, fillat-below, fillat-above, fillat-in}
 use Rattle.base.proofs.Rows.{row-length, only-row, only-trans, fillat-only}
-use Rattle.elementary.specs.Log.{lnOf}
 use Rattle.model.specs.declared.sizes.Shape.{Shape}
 use Rattle.family.specs.declared.carried.CarriedFamily.{CarriedFamily}
 use Rattle.family.specs.declared.carried.CarriedLink.{CarriedLink}
@@ -38,7 +37,7 @@ filled-same b n f v w h o =
     (lt-or-ge i (b + n)))
     (lt-or-ge i b))
 
-module _ (family : CarriedFamily) (link : CarriedLink) (shape : Shape) (theta : List Float) (Z : Sparse) (y weights offset : List Float) (n q xbeta g : ℕ) (sigma inv : Float) (u trial : ℕ) (nodes ws : List Float)
+module _ (family : CarriedFamily) (link : CarriedLink) (shape : Shape) (theta : List Float) (Z : Sparse) (y weights offset : List Float) (n q xbeta g : ℕ) (sigma inv : Float) (u trial : ℕ) (nodes logs : List Float)
     (r r1 m m1 : List Float) (l : g < q) (a : u + q ≤ trial) (hm : trial + q + q ≤ length m) (hr : xbeta + n + n + n + n ≤ length r)
     (om : Only trial (q + q) m m1) (or : Only (xbeta + n + n) n r r1) (ot : Only g 1 (row trial q m) (row trial q m1)) where
   same-u : row u q m1 ≡ row u q m
@@ -48,8 +47,8 @@ module _ (family : CarriedFamily) (link : CarriedLink) (shape : Shape) (theta : 
   unfolding oneEffects
   same-effects node = rw same-u (filled-same g 1 _ (row trial q m) (row trial q m1) (omega (arith, row-length trial q m (omega arith))) ot)
 
-  module _ (i : ℕ) (r2 m2 : List Float) (x : Float) (p : OneIn family link shape theta Z y weights offset n q xbeta g sigma (nodes ! i) (lnOf (ws ! i)) inv u trial r1 r2 m1 m2 x) where
-    pub turn-term : x ≡ oneTermAtNode family link shape theta Z y weights offset n q xbeta g sigma inv (row u q m) r (row trial q m) nodes ws i
+  module _ (i : ℕ) (r2 m2 : List Float) (x : Float) (p : OneIn family link shape theta Z y weights offset n q xbeta g sigma (nodes ! i) (logs ! i) inv u trial r1 r2 m1 m2 x) where
+    pub turn-term : x ≡ oneTermAtNode family link shape theta Z y weights offset n q xbeta g sigma inv (row u q m) r (row trial q m) nodes logs i
     unfolding oneTermAtNode oneTermIn
     turn-term =
         p .term

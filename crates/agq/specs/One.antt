@@ -6,7 +6,6 @@ use lib.Ieee.{Float}
 use Rattle.base.specs.Number.{_⊕_}
 use Rattle.base.specs.Sum.{_!_}
 use Rattle.base.specs.List.{fillTo, fillAt}
-use Rattle.elementary.specs.Log.{lnOf}
 use Rattle.base.specs.Rows.{row, Only}
 use Rattle.base.specs.Sparse.{Sparse}
 use Rattle.model.specs.declared.sizes.Shape.{Shape}
@@ -32,10 +31,10 @@ pub record OneIn (family : CarriedFamily) (link : CarriedLink) (shape : Shape) (
   pub only : Only trial (q + q) m m'
   pub in-r : Only (xbeta + n + n) n r r'
 
--- the log term at node i
+-- the log term at node i, from the logarithms of the weights
 unfoldable pub oneTermAtNode : CarriedFamily → CarriedLink → Shape → List Float → Sparse → List Float → List Float → List Float → ℕ → ℕ → ℕ → ℕ → Float → Float → List Float → List Float → List Float → List Float → List Float → ℕ → Float
-oneTermAtNode family link shape theta Z y weights offset n q xbeta g sigma inv u r before nodes ws i =
-    oneTermIn family link shape theta Z y weights offset n q xbeta g (lnOf (ws ! i)) inv u r (oneEffects g sigma (nodes ! i) u before)
+oneTermAtNode family link shape theta Z y weights offset n q xbeta g sigma inv u r before nodes logs i =
+    oneTermIn family link shape theta Z y weights offset n q xbeta g (logs ! i) inv u r (oneEffects g sigma (nodes ! i) u before)
 
 -- what `one_terms` leaves: the log terms, and nothing else changed but the trial effects with Λ times them, and the row of means
 pub record OnesIn (f : ℕ → Float) (n q xbeta trial size : ℕ) (r r' m m' t t' : List Float) : Type 0 where

@@ -1,6 +1,5 @@
 // One effect a group: the log term of a point, and those of a group.
 use crate::gain::point_gain;
-use elementary::ln;
 use family::CarriedFamily;
 use family::CarriedLink;
 use model::Shape;
@@ -87,7 +86,7 @@ pub fn one_terms(
     xbeta: usize,
     r: &mut [f64],
     nodes: &[f64],
-    node_weights: &[f64],
+    node_logs: &[f64],
     size: usize,
     g: usize,
     sigma: f64,
@@ -98,18 +97,18 @@ pub fn one_terms(
     terms: &mut [f64],
 )
     requires { ⌜ Room shape (now theta) (now starts) (now columns) (now values) (now y) (now offset) n q xbeta (now r) trial (now m) ⌝ }
-    requires { ⌜ (g < q) × (u + q ≤ trial) × (size ≤ length (now nodes)) × (size ≤ length (now «node_weights»)) × (size ≤ length (now terms)) ⌝ }
+    requires { ⌜ (g < q) × (u + q ≤ trial) × (size ≤ length (now nodes)) × (size ≤ length (now «node_logs»)) × (size ≤ length (now terms)) ⌝ }
     ensures { λ _. ⌜
         OnesIn
         (oneTermAtNode family link shape (now (theta .entry)) (sparse (now (starts .entry)) (now (columns .entry)) (now (values .entry))) (now (y .entry))
         (now (weights .entry)) (now (offset .entry)) n q xbeta g sigma «inv_phi» (row u q (now (m .entry))) (now (r .entry)) (row trial q (now (m .entry)))
-        (now (nodes .entry)) (now («node_weights» .entry))) n q xbeta trial size (now (r .entry)) (now (r .exit)) (now (m .entry)) (now (m .exit))
+        (now (nodes .entry)) (now («node_logs» .entry))) n q xbeta trial size (now (r .entry)) (now (r .exit)) (now (m .entry)) (now (m .exit))
         (now (terms .entry)) (now (terms .exit)) ⌝ }
 {
     let mut i = 0;
     while i < size {
         let node = nodes[i];
-        let weight = ln(node_weights[i]);
+        let weight = node_logs[i];
         let term = one_point(
             family,
             link,

@@ -1,6 +1,8 @@
 -- A point of the grid: its nodes and its log weight. Document 01, "The inner fit", the sentence on the digits of a point. Assumes nothing.
+use mathlib.Core.Path.{_≡_}
 use mathlib.Core.List.{List}
-use Prim.Native.Nat.{ℕ, _/_, _%_, _^_}
+use Prim.Native.Nat.{ℕ, _/_, _%_, _^_, _<_, _≤_}
+use lib.ListN.{length}
 use lib.Ieee.{Float}
 use Rattle.base.specs.Sum.{_!_, sumTo}
 use Rattle.base.specs.List.{build}
@@ -36,3 +38,8 @@ logWeightAt o t j = logEntry (weightsOf o) (sizeOf o) t j
 -- the log weight of point t in k dimensions: the sum over them
 unfoldable pub logWeightOf : Order → ℕ → ℕ → Float
 logWeightOf o k t = sumTo k (logWeightAt o t)
+
+-- logs begins with the logarithms of an order's weights: the row that a rule works out once, for all its points
+pub record LogRow (o : Order) (logs : List Float) : Type 0 where
+  pub long : sizeOf o ≤ length logs
+  pub each : (i : ℕ) → i < sizeOf o → logs ! i ≡ lnOf (weightsOf o ! i)

@@ -24,6 +24,7 @@ use Rattle.quadrature.specs.declared.orders.Decline.{Decline}
 use Rattle.quadrature.specs.declared.orders.Order.{Order}
 use Rattle.rule.specs.Given.{Given, nOf, qOf}
 use Rattle.rule.specs.Stop.{Mode}
+use Rattle.agq_rule.specs.Point.{LogRow}
 use Rattle.agq_rule.specs.Scale.{blockScale, sectionOf}
 use Rattle.agq_rule.specs.Term.{inversePhi, groupTerm}
 use Rattle.agq_rule.specs.Steps.{Integrated, afterScale, severalGroup}
@@ -34,7 +35,6 @@ use Rattle.scale.specs.declared.scales.Scaling.the-variants.{Scaled, Unscaled}
 use Rattle.scale.proofs.SectionCopied.{square-within}
 use Rattle.agq.specs.Gained.{gainIn}
 use Rattle.several.specs.Several.{groupTermIn, TermsIn}
-use Rattle.several.proofs.Nodes.{LogsOf}
 use Rattle.several.proofs.SeveralRuled.{group-ruled}
 use Rattle.sums.specs.Stands.{Stands, givenWith}
 use Rattle.sums.specs.Summed.{groupSumOf, StepFrame, SumLeft, GroupLeft, tellsThen}
@@ -62,7 +62,7 @@ module _ (G : Given) (M : Mode) (phi : Float) (o : Order) (s k size l u trial ma
     (lent : WorkRoom (nOf G) (G .design .p) (qOf (G .design)) r m t) (stands : Stands G M r m)
     (h : s + k ≤ qOf (G .design)) (el : l ≡ inversePlace (qOf (G .design)))
     (eu : u ≡ uPlace (G .design .p) (qOf (G .design))) (et : trial ≡ trialUPlace (G .design .p) (qOf (G .design))) (em : mark ≡ markRow (nOf G)) (ex : xbeta ≡ xbetaRow (nOf G))
-    (en : nodes ≡ padded (nodesOf o)) (eg : LogsOf o logs) (es : size ≡ sizeOf o)
+    (en : nodes ≡ padded (nodesOf o)) (eg : LogRow o logs) (es : size ≡ sizeOf o)
     (wrote : Wrote mark (nOf G) (build (markAt (G .design .zt) s k) (nOf G)) r r1) where
   abbrev n : ℕ
   n = nOf G
@@ -106,7 +106,7 @@ module _ (family : CarriedFamily) (link : CarriedLink) (shape : Shape) (theta : 
   module _ (inv : Float) (l u trial mark xbeta size count : ℕ) (nodes logs r r1 r2 m m1 m2 t t' : List Float) (a : GroupSum)
       (eq : q ≡ effectsOf shape) (lent : WorkRoom n p q r m t) (few : count ≤ 7000) (em : mark ≡ markRow n)
       (eu : u ≡ uPlace p q) (et : trial ≡ trialUPlace p q) (el : l ≡ inversePlace q) (ex : xbeta ≡ xbetaRow n) (ei : inv ≡ inversePhi phi)
-      (es : size ≡ sizeOf o) (en : nodes ≡ padded (nodesOf o)) (eg : LogsOf o logs) (ea : a ≡ groupSumOf (row 0 count t')) where
+      (es : size ≡ sizeOf o) (en : nodes ≡ padded (nodesOf o)) (eg : LogRow o logs) (ea : a ≡ groupSumOf (row 0 count t')) where
     pub several-made : (s k : ℕ) → s + k ≤ q → count ≡ size ^ k → Wrote mark n (build (markAt zt s k) n) r r1 → m1 ≡ fillAt trial q (entryFrom m u) m
         → TermsIn (groupTermIn (gainIn family link shape theta zt y weights offset n q xbeta r1) s k inv nodes logs size (row l (k * k) m1) (row u q m1) (row trial q m1)) n q xbeta trial count r1 r2 m1 m2 t t'
         → SumLeft G (severalTerms phi o s k (row (inversePlace q) (k * k) m)) n p q (sizeOf o ^ k) r r2 m m2 t t' a

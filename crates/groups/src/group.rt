@@ -7,7 +7,6 @@ use layout::trial_u_at;
 use layout::u_at;
 use layout::xbeta_row;
 use model::Shape;
-use points::log_weights;
 use points::mark_group;
 use quadrature::Order;
 use quadrature::gh_rule;
@@ -25,6 +24,7 @@ ghost use Rattle.base.specs.Rows.{row};
 ghost use Rattle.layout.specs.WorkMatrices.{inversePlace};
 ghost use Rattle.stored.specs.Stored.{sparse};
 ghost use Rattle.quadrature.specs.Orders.{sizeOf};
+ghost use Rattle.agq_rule.specs.Point.{LogRow};
 ghost use Rattle.sums.specs.Stands.{Roomy, givenWith};
 ghost use Rattle.sums.specs.Summed.{SumLeft, GroupLeft};
 ghost use Rattle.groups.specs.Rules.{severalTerms, severalRule};
@@ -45,6 +45,7 @@ fn several_sums(
     p: usize,
     q: usize,
     order: Order,
+    node_logs: &[f64],
     s: usize,
     k: usize,
     phi: f64,
@@ -53,7 +54,7 @@ fn several_sums(
     t: &mut [f64],
 ) -> GroupSum
     requires { ⌜ Roomy n p q shape (now theta) (now starts) (now columns) (now values) (now offset) (now y) (now r) (now m) (now t) ⌝ }
-    requires { ⌜ (s + k ≤ q) × (sizeOf order ^ k ≤ 400) ⌝ }
+    requires { ⌜ (s + k ≤ q) × (sizeOf order ^ k ≤ 400) × (LogRow order (now «node_logs»)) ⌝ }
     ensures { λ a. ⌜
         SumLeft
         (givenWith family link shape (now (theta .entry)) (sparse (now (starts .entry)) (now (columns .entry)) (now (values .entry))) (now (y .entry))
@@ -71,9 +72,6 @@ fn several_sums(
     let rule = gh_rule(order);
     let size = rule.size;
     let nodes = rule.nodes;
-    let node_weights = rule.weights;
-    let mut node_logs = [0.0; 11];
-    log_weights(&node_weights, size, &mut node_logs);
     let count = power(size, k);
     group_terms(
         family,
@@ -91,7 +89,7 @@ fn several_sums(
         xbeta,
         r,
         &nodes,
-        &node_logs,
+        node_logs,
         size,
         s,
         k,
@@ -122,6 +120,7 @@ pub fn several_group(
     p: usize,
     q: usize,
     order: Order,
+    node_logs: &[f64],
     s: usize,
     k: usize,
     phi: f64,
@@ -130,7 +129,7 @@ pub fn several_group(
     t: &mut [f64],
 ) -> GroupSum
     requires { ⌜ Roomy n p q shape (now theta) (now starts) (now columns) (now values) (now offset) (now y) (now r) (now m) (now t) ⌝ }
-    requires { ⌜ (s + k ≤ q) × (sizeOf order ^ k ≤ 400) ⌝ }
+    requires { ⌜ (s + k ≤ q) × (sizeOf order ^ k ≤ 400) × (LogRow order (now «node_logs»)) ⌝ }
     ensures { λ a. ⌜
         GroupLeft
         (givenWith family link shape (now (theta .entry)) (sparse (now (starts .entry)) (now (columns .entry)) (now (values .entry))) (now (y .entry))
@@ -157,6 +156,7 @@ pub fn several_group(
             p,
             q,
             order,
+            node_logs,
             s,
             k,
             phi,

@@ -4,7 +4,9 @@ use agq_rule::Integral;
 use family::CarriedFamily;
 use family::CarriedLink;
 use model::Shape;
+use points::log_weights;
 use quadrature::Order;
+use quadrature::gh_rule;
 use sums::GroupSum;
 use sums::Quadrature;
 use sums::Summed;
@@ -13,6 +15,7 @@ ghost use mathlib.Core.Path.{_≡_};
 ghost use Prim.Native.Nat.{_+_, _*_, _^_, _≤_};
 ghost use Rattle.stored.specs.Stored.{sparse};
 ghost use Rattle.quadrature.specs.Orders.{sizeOf};
+ghost use Rattle.agq_rule.specs.Point.{LogRow};
 ghost use Rattle.sums.specs.Stands.{Roomy, givenWith};
 ghost use Rattle.sums.specs.Summed.{GroupLeft, StepLeft};
 ghost use Rattle.groups.specs.Rules.{Grouped, groupRule, productRule};
@@ -33,6 +36,7 @@ fn group(
     p: usize,
     q: usize,
     order: Order,
+    node_logs: &[f64],
     k: usize,
     g: usize,
     phi: f64,
@@ -41,7 +45,7 @@ fn group(
     t: &mut [f64],
 ) -> GroupSum
     requires { ⌜ Roomy n p q shape (now theta) (now starts) (now columns) (now values) (now offset) (now y) (now r) (now m) (now t) ⌝ }
-    requires { ⌜ (g * k + k ≤ q) × ((k ≡ 1 → ⊥) → sizeOf order ^ k ≤ 400) ⌝ }
+    requires { ⌜ (g * k + k ≤ q) × ((k ≡ 1 → ⊥) → sizeOf order ^ k ≤ 400) × (LogRow order (now «node_logs»)) ⌝ }
     ensures { λ a. ⌜
         GroupLeft
         (givenWith family link shape (now (theta .entry)) (sparse (now (starts .entry)) (now (columns .entry)) (now (values .entry))) (now (y .entry))
@@ -64,6 +68,7 @@ fn group(
             p,
             q,
             order,
+            node_logs,
             g,
             phi,
             r,
@@ -87,6 +92,7 @@ fn group(
         p,
         q,
         order,
+        node_logs,
         s,
         k,
         phi,
@@ -96,7 +102,7 @@ fn group(
     )
 }
 
-// All groups of k effects: the fit term plus the total of -2·log sum of each, or why there is none.
+// All groups of k effects: the fit term plus the total of -2·log sum of each, or why there is none. The logarithms of the rule's weights are taken once.
 pub fn product_step(
     family: CarriedFamily,
     link: CarriedLink,
@@ -128,6 +134,11 @@ pub fn product_step(
         (now (weights .entry)) (now (offset .entry)) n p) (productRule phi order k groups) n p q fit (now (r .entry)) (now (r .exit)) (now (m .entry))
         (now (m .exit)) (now (t .entry)) (now (t .exit)) a ⌝ }
 {
+    let rule = gh_rule(order);
+    let size = rule.size;
+    let node_weights = rule.weights;
+    let mut node_logs = [0.0; 11];
+    log_weights(&node_weights, size, &mut node_logs);
     let mut total = 0.0;
     let mut points = 0;
     let mut g = 0;
@@ -147,6 +158,7 @@ pub fn product_step(
             p,
             q,
             order,
+            &node_logs,
             k,
             g,
             phi,

@@ -23,6 +23,7 @@ use Rattle.quadrature.specs.declared.orders.Decline.{Decline}
 use Rattle.quadrature.specs.declared.orders.Order.{Order}
 use Rattle.rule.specs.Given.{Given, nOf, qOf}
 use Rattle.rule.specs.Stop.{Mode}
+use Rattle.agq_rule.specs.Point.{LogRow}
 use Rattle.agq_rule.specs.Scale.{blockScale}
 use Rattle.agq_rule.specs.Term.{inversePhi, jointTerm}
 use Rattle.agq_rule.specs.Steps.{answers, pointsBefore, jointTotal, afterJoint}
@@ -34,7 +35,6 @@ use Rattle.scale.specs.declared.scales.Scaling.the-variants.{Scaled, Unscaled}
 use Rattle.scale.proofs.ScaleFound.{joint-scale}
 use Rattle.agq.specs.Gained.{gainIn}
 use Rattle.several.specs.Several.{jointTermIn, TermsIn}
-use Rattle.several.proofs.Nodes.{LogsOf}
 use Rattle.several.proofs.SeveralRuled.{joint-ruled}
 use Rattle.sums.specs.Stands.{Stands, givenWith}
 use Rattle.sums.specs.Summed.{carry, groupSumOf, integratedOf, StepFrame, SumLeft, StepLeft}
@@ -71,7 +71,7 @@ module _ (G : Given) (M : Mode) (phi fit : Float) (o : Order) (c : Scaling) (L :
 module _ (G : Given) (M : Mode) (phi : Float) (o : Order) (size l u mark xbeta : ℕ) (nodes logs r r1 m t : List Float)
     (lent : WorkRoom (nOf G) (G .design .p) (qOf (G .design)) r m t) (stands : Stands G M r m) (el : l ≡ inversePlace (qOf (G .design)))
     (eu : u ≡ uPlace (G .design .p) (qOf (G .design))) (em : mark ≡ markRow (nOf G)) (ex : xbeta ≡ xbetaRow (nOf G))
-    (en : nodes ≡ padded (nodesOf o)) (eg : LogsOf o logs) (es : size ≡ sizeOf o)
+    (en : nodes ≡ padded (nodesOf o)) (eg : LogRow o logs) (es : size ≡ sizeOf o)
     (wrote : Wrote mark (nOf G) (build oneAt (nOf G)) r r1) where
   all-hat : row u (qOf (G .design)) m ≡ M .u
   all-hat = rw eu (stands .u)
@@ -98,7 +98,7 @@ module _ (family : CarriedFamily) (link : CarriedLink) (shape : Shape) (theta : 
   module _ (inv : Float) (l u trial mark xbeta size count : ℕ) (nodes logs r r1 r2 m m1 m2 t t' : List Float) (a : GroupSum)
       (eq : q ≡ effectsOf shape) (lent : WorkRoom n p q r m t) (few : count ≤ 7000) (em : mark ≡ markRow n)
       (eu : u ≡ uPlace p q) (et : trial ≡ trialUPlace p q) (el : l ≡ inversePlace q) (ex : xbeta ≡ xbetaRow n) (ei : inv ≡ inversePhi phi)
-      (es : size ≡ sizeOf o) (en : nodes ≡ padded (nodesOf o)) (eg : LogsOf o logs) (ea : a ≡ groupSumOf (row 0 count t')) where
+      (es : size ≡ sizeOf o) (en : nodes ≡ padded (nodesOf o)) (eg : LogRow o logs) (ea : a ≡ groupSumOf (row 0 count t')) where
     pub joint-made : count ≡ size ^ q → Wrote mark n (build oneAt n) r r1
         → TermsIn (jointTermIn (gainIn family link shape theta zt y weights offset n q xbeta r1) q inv nodes logs size (row l (q * q) m) (row u q m)) n q xbeta trial count r1 r2 m m2 t t'
         → SumLeft G (jointTerms phi o (row (inversePlace q) (q * q) m)) n p q (sizeOf o ^ q) r r2 m m2 t t' a

@@ -1,5 +1,5 @@
 -- The nodes and the log weight of a point, from rows that hold an order's: every digit is below the order. Assumes nothing.
-use mathlib.Core.Path.{_≡_, sym, ap}
+use mathlib.Core.Path.{_≡_, sym, ap, _∙_}
 use mathlib.Core.Bool.{true}
 use mathlib.Core.List.{List}
 use Prim.Native.Nat.{ℕ, _/_, _^_, _<_, _≤_}
@@ -7,17 +7,17 @@ use native.Mathlib.Nat.{mod-lt}
 use native.Mathlib.Omega.{arith}
 use lib.ListN.{length}
 use lib.Ieee.{Float}
-use Rattle.base.specs.Sum.{_!_, allTo, finiteAt}
+use Rattle.base.specs.Sum.{allTo, finiteAt}
 use Rattle.base.specs.List.{build, fillTo}
 use Rattle.base.proofs.Sums.{sum-cong, all-at, all-of}
-use Rattle.base.proofs.Fills.{build-at, build-cong, fill-in}
+use Rattle.base.proofs.Fills.{build-at, build-cong, length-fill, fill-in}
 use Rattle.elementary.specs.Log.{lnOf}
 use Rattle.quadrature.specs.Orders.{sizeOf}
 use Rattle.quadrature.specs.Rules.{nodesOf, weightsOf, padded}
 use Rattle.quadrature.specs.declared.orders.Order.{Order}
 use Rattle.quadrature.proofs.Chosen.{size-from}
 use Rattle.quadrature.proofs.Padded.{node-padded, weight-padded}
-use Rattle.agq_rule.specs.Point.{digit, digitEntry, nodeAt, pointOf, logEntry, logWeightAt, logWeightOf}
+use Rattle.agq_rule.specs.Point.{digit, digitEntry, nodeAt, pointOf, logEntry, logWeightAt, logWeightOf, LogRow}
 use Rattle.points.specs.Grid.{logAt}
 use Rattle.several.specs.Several.{nodesAt, logWeightIn}
 
@@ -40,15 +40,15 @@ pub nodes-ruled : (o : Order) (k t : ℕ) → nodesAt (padded (nodesOf o)) (size
 unfolding nodesAt pointOf nodeAt digitEntry
 nodes-ruled o k t = build-cong (digitEntry (padded (nodesOf o)) (sizeOf o) t) (nodeAt o t) k (λ j l. node-padded o (digit (sizeOf o) t j) (order-digit o t j))
 
--- logs begins with the logarithms of its weights
-abbrev pub LogsOf : Order → List Float → Type 0
-LogsOf o logs = (i : ℕ) → i < sizeOf o → logs ! i ≡ lnOf (weightsOf o ! i)
-
-pub logs-ruled : (o : Order) (size : ℕ) (ws before logs : List Float) → size ≡ sizeOf o → ws ≡ padded (weightsOf o) → size ≤ length before → logs ≡ fillTo size (logAt ws) before → LogsOf o logs
+-- what `log_weights` leaves of a rule's weights is their row
+pub logs-ruled : (o : Order) (size : ℕ) (ws before logs : List Float) → size ≡ sizeOf o → ws ≡ padded (weightsOf o) → size ≤ length before → logs ≡ fillTo size (logAt ws) before → LogRow o logs
 unfolding logAt
-logs-ruled o size ws before logs many weight long e i l =
-    rw (e, fill-in size (logAt ws) before long i (omega arith), weight) (ap (λ (x : Float). lnOf x) (weight-padded o i l))
+logs-ruled o size ws before logs many weight long e =
+    record {
+      long = omega (arith, ap length e ∙ length-fill size (logAt ws) before);
+      each = λ i l. rw (e, fill-in size (logAt ws) before long i (omega arith), weight) (ap (λ (x : Float). lnOf x) (weight-padded o i l));
+    }
 
-pub weight-ruled : (o : Order) (logs : List Float) (k t : ℕ) → LogsOf o logs → logWeightIn logs (sizeOf o) k t ≡ logWeightOf o k t
+pub weight-ruled : (o : Order) (logs : List Float) (k t : ℕ) → LogRow o logs → logWeightIn logs (sizeOf o) k t ≡ logWeightOf o k t
 unfolding logWeightIn logWeightOf logWeightAt logEntry digitEntry
-weight-ruled o logs k t h = sum-cong k (digitEntry logs (sizeOf o) t) (logWeightAt o t) (λ j l. h (digit (sizeOf o) t j) (order-digit o t j))
+weight-ruled o logs k t h = sum-cong k (digitEntry logs (sizeOf o) t) (logWeightAt o t) (λ j l. h .each (digit (sizeOf o) t j) (order-digit o t j))

@@ -12,21 +12,21 @@ use Rattle.quadrature.specs.Rules.{nodesOf, padded}
 use Rattle.quadrature.specs.declared.orders.Order.{Order}
 use Rattle.rule.specs.Given.{Given, qOf, nOf}
 use Rattle.rule.specs.Stop.{Mode}
-use Rattle.agq_rule.specs.Point.{pointOf}
+use Rattle.agq_rule.specs.Point.{pointOf, LogRow}
 use Rattle.agq_rule.specs.Term.{inversePhi, termOf, movedAt, trialBy, groupTermAt, groupTerm, jointPenalty, jointTermAt, jointTerm}
 use Rattle.points.specs.Gain.{oneAt, markAt}
 use Rattle.agq.proofs.OneTurns.{filled-same}
 use Rattle.agq.proofs.Ruled.{group-gain, joint-gain}
 use Rattle.agq.specs.Gained.{gainIn}
 use Rattle.several.specs.Several.{movedEffects, groupEffects, groupTermWith, groupTermIn, jointEffects, jointTermWith, jointTermIn}
-use Rattle.several.proofs.Nodes.{LogsOf, nodes-ruled, weight-ruled}
+use Rattle.several.proofs.Nodes.{nodes-ruled, weight-ruled}
 use Rattle.several.proofs.Terms.{whole-filled}
 
--- the rows hold Xβ and the deviances at the mode; the nodes are those of the order, padded, and the logarithms begin with those of its weights
+-- the rows hold Xβ and the deviances at the mode; the nodes are those of the order, padded, and logs is the row of its weights
 module _ (G : Given) (M : Mode) (phi : Float) (o : Order) (xbeta : ℕ) (r nodes logs : List Float) (size : ℕ)
     (fixed : row xbeta (nOf G) r ≡ build (xBetaAt (G .design .x) (G .design .p) (M .beta)) (nOf G))
     (devs : row (xbeta + nOf G) (nOf G) r ≡ M .devs)
-    (node : nodes ≡ padded (nodesOf o)) (log : LogsOf o logs) (many : size ≡ sizeOf o) where
+    (node : nodes ≡ padded (nodesOf o)) (log : LogRow o logs) (many : size ≡ sizeOf o) where
   abbrev gain : List Float → Float
   gain = gainIn (G .family) (G .link) (G .design .shape) (G .design .theta) (G .design .zt) (G .y) (G .weights) (G .design .offset) (nOf G) (qOf (G .design)) xbeta r
 

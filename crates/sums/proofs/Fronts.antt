@@ -34,6 +34,7 @@ use Rattle.quadrature.proofs.Padded.{node-padded, node-finite}
 use Rattle.rule.specs.Given.{Given}
 use Rattle.rule.specs.Stop.{Mode}
 use Rattle.scale.specs.Tells.{entryFrom}
+use Rattle.agq_rule.specs.Point.{LogRow}
 use Rattle.agq_rule.specs.Steps.{Integrated}
 use Rattle.sums.specs.Stands.{Stands}
 use Rattle.sums.specs.Summed.{summedBy, groupSumOf, tellsThen, StepFrame, SumLeft, GroupLeft}
@@ -112,6 +113,9 @@ module _ (o : Order) (z : Rule) (e : z ≡ ruleOf o) where
 
   pub rule-weights-long : z .size ≤ length (z .weights)
   rule-weights-long = rw (rule-size o z e, rule-weights o z e) (weights-long o)
+
+  pub rule-logs-long : {logs : List Float} → LogRow o logs → z .size ≤ length logs
+  rule-logs-long log = rw (rule-size o z e) (log .long)
 
   pub rule-some : 3 ≤ z .size
   rule-some = rw (rule-size o z e) (size-from o)

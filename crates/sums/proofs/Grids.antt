@@ -1,12 +1,11 @@
 -- What the points of several effects ask for: their places, their nodes, the logarithms of their weights and how many they are. Assumes nothing.
-use mathlib.Core.Path.{_≡_, refl, ap, _∙_}
+use mathlib.Core.Path.{_≡_, refl, ap}
 use mathlib.Core.List.{List}
 use Prim.Native.Nat.{ℕ, _+_, _*_, _^_, _≤_}
 use native.Mathlib.Omega.{arith}
 use lib.ListN.{length}
 use lib.Ieee.{Float}
 use Rattle.base.specs.List.{fillTo}
-use Rattle.base.proofs.Fills.{length-fill}
 use Rattle.layout.specs.Layout.{WorkRoom}
 use Rattle.layout.specs.WorkMatrices.{inversePlace, uPlace, trialUPlace}
 use Rattle.layout.specs.WorkTerms.{termsLength}
@@ -15,10 +14,11 @@ use Rattle.quadrature.specs.Rules.{ruleOf}
 use Rattle.quadrature.specs.declared.rules.Rule.{Rule}
 use Rattle.quadrature.specs.declared.orders.Order.{Order}
 use Rattle.quadrature.proofs.Chosen.{size-to}
+use Rattle.agq_rule.specs.Point.{LogRow}
 use Rattle.points.specs.Grid.{logAt}
 use Rattle.scale.proofs.SectionCopied.{square-within}
 use Rattle.several.specs.Several.{Grid}
-use Rattle.several.proofs.Nodes.{LogsOf, logs-ruled}
+use Rattle.several.proofs.Nodes.{logs-ruled}
 use Rattle.sums.proofs.Fronts.{rule-size, rule-weights, rule-some, rule-nodes-long, rule-weights-long, rule-finite}
 
 pub grid-places : (p q s k l u trial : ℕ) → s + k ≤ q → l ≡ inversePlace q → u ≡ uPlace p q → trial ≡ trialUPlace p q → (l + k * k ≤ u) × (l + k * k ≤ trial) × (u + q ≤ trial)
@@ -38,7 +38,7 @@ grid-of {n} {p} {q} o z s k l u trial m' e lent em h el eu et =
       finite-nodes = rule-finite o z e;
     }
 
--- the logarithms of the weights, written over a list of eleven
+-- the row of the weights' logarithms, written over a list of eleven
 module _ (o : Order) (z : Rule) (before : List Float) (e : z ≡ ruleOf o) (long : length before ≡ 11) where
   few : z .size ≤ length before
   few = omega (arith, rule-size o z e, size-to o)
@@ -46,12 +46,8 @@ module _ (o : Order) (z : Rule) (before : List Float) (e : z ≡ ruleOf o) (long
   pub logs-room : (z .size ≤ length (z .weights)) × (z .size ≤ length before)
   logs-room = (rule-weights-long o z e, few)
 
-  module _ (logs : List Float) (w : logs ≡ fillTo (z .size) (logAt (z .weights)) before) where
-    pub logs-long : z .size ≤ length logs
-    logs-long = omega (arith, few, ap length w ∙ length-fill (z .size) (logAt (z .weights)) before)
-
-    pub logs-of : LogsOf o logs
-    logs-of = logs-ruled o (z .size) (z .weights) before logs (rule-size o z e) (rule-weights o z e) few w
+  pub logs-of : (logs : List Float) → logs ≡ fillTo (z .size) (logAt (z .weights)) before → LogRow o logs
+  logs-of logs w = logs-ruled o (z .size) (z .weights) before logs (rule-size o z e) (rule-weights o z e) few w
 
 -- how many points there are
 pub count-few : (o : Order) (z : Rule) (k most c : ℕ) → z ≡ ruleOf o → sizeOf o ^ k ≤ most → c ≡ z .size ^ k → c ≤ most

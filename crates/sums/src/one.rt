@@ -20,6 +20,7 @@ use scale::one_sigma;
 ghost use Prim.Native.Nat.{_<_};
 ghost use Rattle.stored.specs.Stored.{sparse};
 ghost use Rattle.quadrature.specs.Orders.{sizeOf};
+ghost use Rattle.agq_rule.specs.Point.{LogRow};
 ghost use Rattle.sums.specs.Stands.{Roomy, givenWith};
 ghost use Rattle.sums.specs.Summed.{SumLeft, GroupLeft};
 ghost use Rattle.sums.specs.Rules.{oneTerms, oneRule};
@@ -40,6 +41,7 @@ fn one_sums(
     p: usize,
     q: usize,
     order: Order,
+    node_logs: &[f64],
     g: usize,
     sigma: f64,
     phi: f64,
@@ -48,7 +50,7 @@ fn one_sums(
     t: &mut [f64],
 ) -> GroupSum
     requires { ⌜ Roomy n p q shape (now theta) (now starts) (now columns) (now values) (now offset) (now y) (now r) (now m) (now t) ⌝ }
-    requires { ⌜ g < q ⌝ }
+    requires { ⌜ (g < q) × (LogRow order (now «node_logs»)) ⌝ }
     ensures { λ a. ⌜
         SumLeft
         (givenWith family link shape (now (theta .entry)) (sparse (now (starts .entry)) (now (columns .entry)) (now (values .entry))) (now (y .entry))
@@ -65,7 +67,6 @@ fn one_sums(
     let rule = gh_rule(order);
     let size = rule.size;
     let nodes = rule.nodes;
-    let node_weights = rule.weights;
     one_terms(
         family,
         link,
@@ -82,7 +83,7 @@ fn one_sums(
         xbeta,
         r,
         &nodes,
-        &node_weights,
+        node_logs,
         size,
         g,
         sigma,
@@ -111,6 +112,7 @@ pub fn one_group(
     p: usize,
     q: usize,
     order: Order,
+    node_logs: &[f64],
     g: usize,
     phi: f64,
     r: &mut [f64],
@@ -118,7 +120,7 @@ pub fn one_group(
     t: &mut [f64],
 ) -> GroupSum
     requires { ⌜ Roomy n p q shape (now theta) (now starts) (now columns) (now values) (now offset) (now y) (now r) (now m) (now t) ⌝ }
-    requires { ⌜ g < q ⌝ }
+    requires { ⌜ (g < q) × (LogRow order (now «node_logs»)) ⌝ }
     ensures { λ a. ⌜
         GroupLeft
         (givenWith family link shape (now (theta .entry)) (sparse (now (starts .entry)) (now (columns .entry)) (now (values .entry))) (now (y .entry))
@@ -145,6 +147,7 @@ pub fn one_group(
             p,
             q,
             order,
+            node_logs,
             g,
             sigma,
             phi,

@@ -14,14 +14,14 @@ use Rattle.agq.proofs.one.one_terms.Statement.{statement}
 use Rattle.agq.proofs.one.one_terms.Tie as tie
 
 abbrev Inv-loop : tie.InvT-loop
-Inv-loop family link shape theta starts columns values y weights offset n q xbeta r₀ nodes node-weights size g sigma inv-phi u trial m₀ terms₀ i₀ r m terms i =
+Inv-loop family link shape theta starts columns values y weights offset n q xbeta r₀ nodes node-logs size g sigma inv-phi u trial m₀ terms₀ i₀ r m terms i =
     (i ≤ size) × (length terms ≡ length terms₀)
     × (terms ≡ fillTo i
     (oneTermAtNode family link shape theta (sparse starts columns values) y weights offset n q xbeta g sigma inv-phi (row u q m₀) r₀ (row trial q m₀) nodes
-    node-weights) terms₀) × (Only trial (q + q) m₀ m) × (Only (xbeta + n + n) n r₀ r) × (Only g 1 (row trial q m₀) (row trial q m))
+    node-logs) terms₀) × (Only trial (q + q) m₀ m) × (Only (xbeta + n + n) n r₀ r) × (Only g 1 (row trial q m₀) (row trial q m))
 
 abbrev μ-loop : tie.MeasureT-loop
-μ-loop family link shape theta starts columns values y weights offset n q xbeta r₀ nodes node-weights size g sigma inv-phi u trial m₀ terms₀ i₀ r m terms i =
+μ-loop family link shape theta starts columns values y weights offset n q xbeta r₀ nodes node-logs size g sigma inv-phi u trial m₀ terms₀ i₀ r m terms i =
     size - i
 
 loop-holds : tie.Need-loop-holds Inv-loop μ-loop
@@ -35,20 +35,17 @@ mul-node c =
 shared-slice-read-node : tie.Need-shared-slice-read-node Inv-loop μ-loop
 shared-slice-read-node c = omega arith
 
-mul-ln : tie.Need-mul-ln Inv-loop μ-loop
-mul-ln c =
+mul-weight : tie.Need-mul-weight Inv-loop μ-loop
+mul-weight c =
     let start = c .before .before .before .before .before .before .before .before .before .before .before .before .before .before .before in
     omega (arith, c .before .loop-test .taken, start .pre .1, start .good .1 .1 .1 .1 .1 .1 .1 .1 .1 .1 .1 .1 .1 .1 .0)
 
-shared-slice-read-ln : tie.Need-shared-slice-read-ln Inv-loop μ-loop
-shared-slice-read-ln c = omega arith
-
-ln-requires : tie.Need-ln-requires Inv-loop μ-loop
-ln-requires c κs = omega arith
+shared-slice-read-weight : tie.Need-shared-slice-read-weight Inv-loop μ-loop
+shared-slice-read-weight c = omega arith
 
 one-point-requires : tie.Need-one-point-requires Inv-loop μ-loop
 one-point-requires c κs =
-    let loop = c .before .before .before .before .before .before in
+    let loop = c .before .before .before .before .before in
     let start = loop .before .before .before .before .before .before .before .before .before .before .before .before .before in
     let p = start .pre .0 in
     let l = loop .loop in (
@@ -67,20 +64,20 @@ one-point-requires c κs =
 
 mul-terms : tie.Need-mul-terms Inv-loop μ-loop
 mul-terms c =
-    let loop-test = c .before .before .before .before .before .before .before .before .before .before in
+    let loop-test = c .before .before .before .before .before .before .before .before .before in
     let start = loop-test .before .before .before .before .before .before .before .before .before .before .before .before .before .before in
     omega (arith, loop-test .loop-test .taken, start .pre .1, start .good .1 .1 .1 .1 .1 .1 .1 .1 .1 .1 .1 .1 .1 .1 .0)
 
 slice-write-terms : tie.Need-slice-write-terms Inv-loop μ-loop
 slice-write-terms c =
-    let loop-test = c .before .before .before .before .before .before .before .before .before .before in
+    let loop-test = c .before .before .before .before .before .before .before .before .before in
     let loop = loop-test .before in
     let start = loop .before .before .before .before .before .before .before .before .before .before .before .before .before in
     omega (arith, loop-test .loop-test .taken, start .pre .1, loop .loop .inv .1)
 
 add-i : tie.Need-add-i Inv-loop μ-loop
 add-i c =
-    let loop-test = c .before .before .before .before .before .before .before .before .before .before in
+    let loop-test = c .before .before .before .before .before .before .before .before .before in
     let start = loop-test .before .before .before .before .before .before .before .before .before .before .before .before .before .before in
     omega (arith, loop-test .loop-test .taken, start .pre .1, start .good .1 .1 .1 .1 .1 .1 .1 .1 .1 .1 .1 .1 .1 .1 .0)
 
@@ -90,32 +87,30 @@ loop-less c = omega arith
 loop-again : tie.Need-loop-again Inv-loop μ-loop
 loop-again c =
     let one-point = c .before .before .before .before in
-    let ln = one-point .before .before .before in
-    let loop-test = ln .before .before .before in
+    let loop-test = one-point .before .before .before .before .before in
     let loop = loop-test .before in
     let start = loop .before .before .before .before .before .before .before .before .before .before .before .before .before in
     let pre = start .pre in
     let a = start .args in
     let l = loop .loop in
-    let p = rw (ln .ln .ensures) at (one-point .one-point .ensures) in (
+    let p = one-point .one-point .ensures in (
       omega (arith, loop-test .loop-test .taken),
       simp length-set (l .inv .1),
       rw (turn-term (a .family) (a .link) (a .shape) (a .theta .now) (sparse (a .starts .now) (a .columns .now) (a .values .now)) (a .y .now)
-          (a .weights .now) (a .offset .now) (a .n) (a .q) (a .xbeta) (a .g) (a .sigma) (a .inv-phi) (a .u) (a .trial) (a .nodes .now)
-          (a .node-weights .now) (a .r .now) (l .r) (a .m .now) (l .m) (pre .1 .0) (pre .1 .1) (pre .0 .in-m) (pre .0 .in-r) (l .inv .3) (l .inv .4)
-          (l .inv .5) (l .i) _ _ _ p)
+          (a .weights .now) (a .offset .now) (a .n) (a .q) (a .xbeta) (a .g) (a .sigma) (a .inv-phi) (a .u) (a .trial) (a .nodes .now) (a .node-logs .now)
+          (a .r .now) (l .r) (a .m .now) (l .m) (pre .1 .0) (pre .1 .1) (pre .0 .in-m) (pre .0 .in-r) (l .inv .3) (l .inv .4) (l .inv .5) (l .i) _ _ _ p)
           (fill-step
           (oneTermAtNode (a .family) (a .link) (a .shape) (a .theta .now) (sparse (a .starts .now) (a .columns .now) (a .values .now)) (a .y .now)
           (a .weights .now) (a .offset .now) (a .n) (a .q) (a .xbeta) (a .g) (a .sigma) (a .inv-phi) (row (a .u) (a .q) (a .m .now)) (a .r .now)
-          (row (a .trial) (a .q) (a .m .now)) (a .nodes .now) (a .node-weights .now)) (a .terms .now) (l .i) (l .terms) (l .inv .2)),
+          (row (a .trial) (a .q) (a .m .now)) (a .nodes .now) (a .node-logs .now)) (a .terms .now) (l .i) (l .terms) (l .inv .2)),
       turn-m (a .family) (a .link) (a .shape) (a .theta .now) (sparse (a .starts .now) (a .columns .now) (a .values .now)) (a .y .now) (a .weights .now)
-          (a .offset .now) (a .n) (a .q) (a .xbeta) (a .g) (a .sigma) (a .inv-phi) (a .u) (a .trial) (a .nodes .now) (a .node-weights .now) (a .r .now) (l .r)
+          (a .offset .now) (a .n) (a .q) (a .xbeta) (a .g) (a .sigma) (a .inv-phi) (a .u) (a .trial) (a .nodes .now) (a .node-logs .now) (a .r .now) (l .r)
           (a .m .now) (l .m) (pre .1 .0) (pre .1 .1) (pre .0 .in-m) (pre .0 .in-r) (l .inv .3) (l .inv .4) (l .inv .5) (l .i) _ _ _ p,
       turn-r (a .family) (a .link) (a .shape) (a .theta .now) (sparse (a .starts .now) (a .columns .now) (a .values .now)) (a .y .now) (a .weights .now)
-          (a .offset .now) (a .n) (a .q) (a .xbeta) (a .g) (a .sigma) (a .inv-phi) (a .u) (a .trial) (a .nodes .now) (a .node-weights .now) (a .r .now) (l .r)
+          (a .offset .now) (a .n) (a .q) (a .xbeta) (a .g) (a .sigma) (a .inv-phi) (a .u) (a .trial) (a .nodes .now) (a .node-logs .now) (a .r .now) (l .r)
           (a .m .now) (l .m) (pre .1 .0) (pre .1 .1) (pre .0 .in-m) (pre .0 .in-r) (l .inv .3) (l .inv .4) (l .inv .5) (l .i) _ _ _ p,
       turn-trial (a .family) (a .link) (a .shape) (a .theta .now) (sparse (a .starts .now) (a .columns .now) (a .values .now)) (a .y .now) (a .weights .now)
-          (a .offset .now) (a .n) (a .q) (a .xbeta) (a .g) (a .sigma) (a .inv-phi) (a .u) (a .trial) (a .nodes .now) (a .node-weights .now) (a .r .now) (l .r)
+          (a .offset .now) (a .n) (a .q) (a .xbeta) (a .g) (a .sigma) (a .inv-phi) (a .u) (a .trial) (a .nodes .now) (a .node-logs .now) (a .r .now) (l .r)
           (a .m .now) (l .m) (pre .1 .0) (pre .1 .1) (pre .0 .in-m) (pre .0 .in-r) (l .inv .3) (l .inv .4) (l .inv .5) (l .i) _ _ _ p,
     )
 
@@ -142,9 +137,8 @@ one-terms-spec =
     loop-holds
     mul-node
     shared-slice-read-node
-    mul-ln
-    shared-slice-read-ln
-    ln-requires
+    mul-weight
+    shared-slice-read-weight
     one-point-requires
     mul-terms
     slice-write-terms

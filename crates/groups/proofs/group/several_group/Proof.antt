@@ -9,7 +9,7 @@ use Rattle.groups.proofs.group.several_group.Tie as tie
 
 block-scale-requires : tie.Need-block-scale-requires
 block-scale-requires c κs =
-    let start = c .before .before .before .before .before .before .before .before .before .before .before .before in
+    let start = c .before .before .before .before .before .before .before .before .before .before .before .before .before in
     scale-room (start .args .s) (start .args .k) (start .pre .0 .lent) (start .pre .1 .0)
 
 enum-known-d : tie.Need-enum-known-d
@@ -21,7 +21,7 @@ enum-told c = search needs
 several-sums-requires : tie.Need-several-sums-requires
 several-sums-requires c κs =
     let block-scale = c .before .before .before .before .before .before .before .before .before in
-    let start = block-scale .before .before .before .before .before .before .before .before .before .before .before .before .before in (
+    let start = block-scale .before .before .before .before .before .before .before .before .before .before .before .before .before .before in (
       roomy-kept (start .pre .0) refl (block-scale .block-scale .ensures .matrices-only .len) (block-scale .block-scale .ensures .terms-only .len),
       start .pre .1,
     )
@@ -35,7 +35,7 @@ same-length-2 c = c .before .before .before .before .before .before .before .blo
 returns : tie.Need-returns
 returns c =
     let block-scale = c .before .before .before .before .before .before .before in
-    let start = block-scale .before .before .before .before .before .before .before .before .before .before .before .before .before in
+    let start = block-scale .before .before .before .before .before .before .before .before .before .before .before .before .before .before in
     let args = start .args in
     several-unscaled (args .family) (args .link) (args .shape) (args .theta .now) (sparse (args .starts .now) (args .columns .now) (args .values .now))
     (args .y .now) (args .weights .now) (args .offset .now) (args .n) (args .p) (args .q) (args .order) (args .phi) (args .s) (args .k) _ _ _ _ _ _
@@ -61,7 +61,7 @@ returns-2 c =
     let several-sums = c .before .before .before .before .before .before in
     let at-enum-told = several-sums .before .before .before .before in
     let block-scale = at-enum-told .before .before .before .before .before .before in
-    let start = block-scale .before .before .before .before .before .before .before .before .before .before .before .before .before in
+    let start = block-scale .before .before .before .before .before .before .before .before .before .before .before .before .before .before in
     let args = start .args in
     several-scaled (args .family) (args .link) (args .shape) (args .theta .now) (sparse (args .starts .now) (args .columns .now) (args .values .now))
     (args .y .now) (args .weights .now) (args .offset .now) (args .n) (args .p) (args .q) (args .order) (args .phi) (args .s) (args .k) _ _ _ _ _ _

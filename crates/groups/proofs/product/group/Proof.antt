@@ -8,8 +8,8 @@ use Rattle.groups.proofs.product.group.Tie as tie
 one-group-requires : tie.Need-one-group-requires
 one-group-requires c κs =
     let if1 = c .before .before .before in
-    let start = if1 .before .before .before .before .before .before .before .before .before .before .before in
-    (start .pre .0, lone-within (start .args .q) (start .args .k) (start .args .g) (if1 .if1 .taken) (start .pre .1 .0))
+    let start = if1 .before .before .before .before .before .before .before .before .before .before .before .before in
+    (start .pre .0, (lone-within (start .args .q) (start .args .k) (start .args .g) (if1 .if1 .taken) (start .pre .1 .0), start .pre .1 .2))
 
 same-length : tie.Need-same-length
 same-length c = c .before .before .before .before .before .before .one-group .ensures .frame .rows-only .len
@@ -24,7 +24,7 @@ returns : tie.Need-returns
 returns c =
     let one-group = c .before .before .before .before .before .before in
     let if1 = one-group .before .before .before .before in
-    let start = if1 .before .before .before .before .before .before .before .before .before .before .before in
+    let start = if1 .before .before .before .before .before .before .before .before .before .before .before .before in
     let args = start .args in
     group-one _ (args .phi) (args .order) (args .n) (args .p) (args .q) (args .k) (args .g) _ _ _ _ _ _ _ (if1 .if1 .taken) (one-group .one-group .ensures)
 
@@ -34,8 +34,8 @@ mul-s c = search needs
 several-group-requires : tie.Need-several-group-requires
 several-group-requires c κs =
     let if1 = c .before .before .before in
-    let start = if1 .before .before .before .before .before .before .before .before .before .before .before in
-    (start .pre .0, (start .pre .1 .0, start .pre .1 .1 (if1 .if1 .left)))
+    let start = if1 .before .before .before .before .before .before .before .before .before .before .before .before in
+    (start .pre .0, (start .pre .1 .0, start .pre .1 .1 (if1 .if1 .left), start .pre .1 .2))
 
 same-length-4 : tie.Need-same-length-4
 same-length-4 c = c .before .before .before .before .before .before .several-group .ensures .frame .rows-only .len
@@ -50,7 +50,7 @@ returns-2 : tie.Need-returns-2
 returns-2 c =
     let several-group = c .before .before .before .before .before .before in
     let if1 = several-group .before .before .before .before in
-    let start = if1 .before .before .before .before .before .before .before .before .before .before .before in
+    let start = if1 .before .before .before .before .before .before .before .before .before .before .before .before in
     let args = start .args in
     group-several _ (args .phi) (args .order) (args .n) (args .p) (args .q) (args .k) (args .g) _ _ _ _ _ _ _ _ (if1 .if1 .left) refl
     (several-group .several-group .ensures)

@@ -7,8 +7,8 @@ use Rattle.base.proofs.Fills.{length-fill}
 use Rattle.layout.proofs.Inside.{mark-in}
 use Rattle.stored.specs.Stored.{sparse}
 use Rattle.sums.proofs.Framed.{room-of}
-use Rattle.sums.proofs.Fronts.{rule-size, rule-nodes}
-use Rattle.sums.proofs.Grids.{grid-of, logs-room, logs-long, logs-of, count-few, count-in, power-room}
+use Rattle.sums.proofs.Fronts.{rule-size, rule-nodes, rule-logs-long}
+use Rattle.sums.proofs.Grids.{grid-of, logs-room, logs-of, count-few, count-in, power-room}
 use Rattle.joint.proofs.JointSummed.{joint-made}
 use borrow.Author.Needs.{needs}
 use Rattle.joint.proofs.steps.joint_sums.Statement.{statement}
@@ -87,7 +87,7 @@ joint-terms-requires c κs =
         grid-of _ _ 0 (start .args .q) _ _ _ _ (gh-rule .gh-rule .ensures) (start .pre .0 .lent) refl (omega arith) (inverse-at .inverse-at .ensures)
             (u-at .u-at .ensures) (trial-u-at .trial-u-at .ensures),
         (
-          logs-long _ _ _ (gh-rule .gh-rule .ensures) refl _ (log-weights .log-weights .ensures),
+          rule-logs-long _ _ (gh-rule .gh-rule .ensures) (logs-of _ _ _ (gh-rule .gh-rule .ensures) refl _ (log-weights .log-weights .ensures)),
           count-in (start .args .order) _ (start .args .q) 7000 _ (start .args .t .now) (gh-rule .gh-rule .ensures) (start .pre .1)
               (power .power .ensures) (omega arith) (start .pre .0 .lent .terms-long),
         ),

@@ -8,8 +8,8 @@ use Rattle.sums.proofs.one.one_group.Tie as tie
 
 one-sigma-requires : tie.Need-one-sigma-requires
 one-sigma-requires c κs =
-    let start = c .before .before .before .before .before .before .before .before .before .before .before in
-    (start .pre .0 .lent .sizes .q-few, start .pre .1, square-in (start .pre .0 .lent))
+    let start = c .before .before .before .before .before .before .before .before .before .before .before .before in
+    (start .pre .0 .lent .sizes .q-few, start .pre .1 .0, square-in (start .pre .0 .lent))
 
 enum-known-d : tie.Need-enum-known-d
 enum-known-d c = search needs
@@ -20,7 +20,7 @@ enum-known-sigma c = search needs
 one-sums-requires : tie.Need-one-sums-requires
 one-sums-requires c κs =
     let start = c .before .before .before .before .before .before .before .before
-    .before .before .before .before .before .before .before .before .before .before in
+    .before .before .before .before .before .before .before .before .before .before .before in
     (start .pre .0, start .pre .1)
 
 same-length : tie.Need-same-length
@@ -29,7 +29,7 @@ same-length c = search needs
 returns : tie.Need-returns
 returns c =
     let one-sigma = c .before .before .before in
-    let start = one-sigma .before .before .before .before .before .before .before .before .before .before .before .before in
+    let start = one-sigma .before .before .before .before .before .before .before .before .before .before .before .before .before in
     let args = start .args in
     group-declined (args .family) (args .link) (args .shape) (args .theta .now) (sparse (args .starts .now) (args .columns .now) (args .values .now))
     (args .y .now) (args .weights .now) (args .offset .now) (args .n) (args .p) (args .q) (args .order) (args .g) (args .phi) _ _ _ _
@@ -49,7 +49,7 @@ returns-2 c =
     let one-sums = c .before .before .before .before .before .before in
     let sigma = one-sums .before .before .before .before .before in
     let one-sigma = sigma .before .before in
-    let start = one-sigma .before .before .before .before .before .before .before .before .before .before .before .before in
+    let start = one-sigma .before .before .before .before .before .before .before .before .before .before .before .before .before in
     let args = start .args in
     group-summed (args .family) (args .link) (args .shape) (args .theta .now) (sparse (args .starts .now) (args .columns .now) (args .values .now))
     (args .y .now) (args .weights .now) (args .offset .now) (args .n) (args .p) (args .q) (args .order) (args .g) (args .phi) _ _ _ _
