@@ -2,26 +2,28 @@
 use mathlib.Core.Path.{_≡_, refl, sym, ap, _∙_}
 use mathlib.Core.Bool.{Bool, true, false}
 use mathlib.Core.List.{List}
-use mathlib.Core.Logic.{_↔_}
-use Prim.Native.Nat.{ℕ, zero, suc, _+_, _*_, _^_, _≤_}
+use mathlib.Core.Logic.{_↔_, _⊎_}
+use Prim.Native.Nat.{ℕ, zero, suc, _+_, _*_, _^_, _≤_, _<_}
 use native.Mathlib.Omega.{arith}
+use borrow.Author.Tests.{eq-eqb, ne-eqb}
 use lib.Dec.{eqb}
 use lib.Ieee.{Float}
 use Rattle.base.specs.Number.{finite}
+use Rattle.base.specs.Sum.{_!!_}
 use Rattle.base.specs.List.{at, build}
 use Rattle.base.proofs.Doubles.{ff}
 use Rattle.quadrature.specs.LogSum.{logSumExp}
 use Rattle.quadrature.specs.Orders.{sizeOf}
 use Rattle.quadrature.specs.declared.orders.Order.{Order}
 use Rattle.quadrature.specs.declared.orders.Decline.{Decline}
-use Rattle.quadrature.specs.declared.orders.Decline.the-variants.{Diagonal, Sum}
+use Rattle.quadrature.specs.declared.orders.Decline.the-variants.{Wish, Effects, Cap, Diagonal, Sum}
 use Rattle.quadrature.proofs.Chosen.{size-from, size-to}
-use Rattle.quadrature.proofs.Declines.{why-range}
+use Rattle.quadrature.proofs.Declines.{why-range, wish-first, effects-next, product-cap}
 use Rattle.rule.specs.Given.{Given, qOf}
 use Rattle.rule.specs.Stop.{Mode}
 use Rattle.agq_rule.specs.Scale.{badDiagonal, sigmaOf, Scale, scaled, unscaled, blockScale, sectionOf}
 use Rattle.agq_rule.specs.Term.{oneTerm, groupTerm}
-use Rattle.agq_rule.specs.Steps.{Integrated, answers, pointsBefore, afterSum, sumThen, termsThen, afterDiagonal, oneGroup, afterScale, severalGroup, groupBy, withSum, groupsFrom}
+use Rattle.agq_rule.specs.Steps.{Integrated, answers, pointsBefore, afterSum, sumThen, termsThen, afterDiagonal, oneGroup, afterScale, severalGroup, groupBy, withSum, groupsFrom, productWith, productStep, jointWith, jointStep, stepBy, quadratureOf}
 use Rattle.agq_rule.specs.Declining.{FirstDecline, here, later}
 use Rattle.agq_rule.specs.Inner.{orderBy, whyBy}
 use Rattle.agq_rule.specs.declared.answers.Integral.{Integral}
@@ -59,6 +61,28 @@ order-to (Declined w) = omega arith
 
 pub why-zero : (i : Integral) → (whyBy i ≡ 0) ↔ ((3 ≤ orderBy i) × (orderBy i ≤ 11))
 why-zero i = (λ e. (why-of-use i e, order-to i), λ l. no-reason i (l .0))
+
+-- ---- the reasons of the order choice, in its order
+module _ (G : Given) (wish : ℕ) (M : Mode) (phi : Float) where
+  wish-step : (b : Bool) → wish < 2 → stepBy b G wish M phi .answer ≡ Declined Wish
+  unfolding stepBy productStep productWith jointStep jointWith answers
+  wish-step true l = rw (wish-first wish 0 l .1 (G .design .shape .k !! 0)) refl
+  wish-step false l = rw (wish-first wish (qOf (G .design)) l .0) refl
+
+  -- a wish below 2, whatever else holds
+  pub wish-declines : wish < 2 → quadratureOf G wish M phi .answer ≡ Declined Wish
+  unfolding quadratureOf
+  wish-declines l = wish-step (eqb (G .design .shape .count) 1) l
+
+  -- then, of several blocks, no effect or more than 8
+  pub effects-decline : 2 ≤ wish → (G .design .shape .count ≡ 1 → ⊥) → (qOf (G .design) ≡ 0) ⊎ (8 < qOf (G .design)) → quadratureOf G wish M phi .answer ≡ Declined Effects
+  unfolding quadratureOf stepBy jointStep jointWith answers
+  effects-decline l n q = rw (ne-eqb (G .design .shape .count) 1 n, effects-next wish (qOf (G .design)) l q) refl
+
+  -- then, of one block, six effects or more
+  pub cap-declines : 2 ≤ wish → G .design .shape .count ≡ 1 → 6 ≤ G .design .shape .k !! 0 → quadratureOf G wish M phi .answer ≡ Declined Cap
+  unfolding quadratureOf stepBy productStep productWith answers
+  cap-declines l one k = rw (eq-eqb (G .design .shape .count) 1 one, product-cap wish (G .design .shape .k !! 0) l k) refl
 
 -- ---- what a group does, whatever would follow: it declines, or hands its log sum on
 data Fate (f : (Float → Integrated) → Integrated) : Type 0 where
