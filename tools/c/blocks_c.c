@@ -106,7 +106,7 @@ static void run(void)
     }
     eight[0] = found.number, eight[1] = found.order, eight[2] = found.flag, eight[3] = found.iterations;
     eight[4] = found.fits, eight[5] = found.solves, eight[6] = found.tries, eight[7] = found.points;
-    first_line(eight);
+    first_line(eight, found.why);
     if (found.number != 0)
         return;
     values("deviance", &found.deviance, 1), values("phi", &found.phi, 1);
@@ -118,7 +118,7 @@ static void run(void)
 static void edge(const char *name)
 {
     struct glmm_answer found = call();
-    uint64_t counted = found.order | found.flag | found.iterations | found.fits | found.solves | found.tries | found.points;
+    uint64_t counted = found.order | found.flag | found.iterations | found.fits | found.solves | found.tries | found.points | found.why;
     int blank = counted == 0 && pattern_of(found.deviance) == 0 && pattern_of(found.phi) == 0;
     printf("%s %u %s\n", name, (unsigned)found.number, as_told(found.number) && blank ? "as lent" : "NOT as lent");
 }

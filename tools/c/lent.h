@@ -58,13 +58,14 @@ static void values(const char *name, const double *first, size_t length)
     }
 }
 
-/* The first line of an answer: its number, then seven counts. */
-static void first_line(const uint64_t *eight)
+/* The first line of an answer: its number, then seven counts, then why the deviance is Laplace's. */
+static void first_line(const uint64_t *eight, uint64_t why)
 {
     static const char *const words[] = {"end", "order", "disp", "iters", "fits", "solves", "tries", "points"};
     int i;
     for (i = 0; i < 8; i++)
-        printf("%s %u%c", words[i], (unsigned)eight[i], i < 7 ? ' ' : '\n');
+        printf("%s %u ", words[i], (unsigned)eight[i]);
+    printf("why %u\n", (unsigned)why);
 }
 
 static size_t read_file(const char *name, void *to, size_t size, size_t count)
