@@ -2,7 +2,7 @@
 use mathlib.Core.Path.{_≡_, refl, sym, _∙_}
 use mathlib.Core.List.{List, [], _∷_}
 use mathlib.Core.Bool.{Bool, true, false, cond}
-use mathlib.Core.Logic.{_⊎_, inl, inr}
+use mathlib.Core.Logic.{_⊎_, inl, inr, ⊎-elim}
 use Prim.Native.Nat.{ℕ, _^_, _≤_, _<_}
 use native.Mathlib.Nat.{pow-le-pow-right}
 use native.Mathlib.Omega.{arith}
@@ -14,6 +14,7 @@ use Rattle.quadrature.specs.declared.orders.Decline.{Decline}
 use Rattle.quadrature.specs.declared.orders.Decline.the-variants.{Wish, Effects, Cap, Diagonal, Inverse, Factor, Sum}
 use Rattle.quadrature.specs.declared.orders.Choice.the-variants.{Use, Without}
 use Rattle.quadrature.specs.Orders.{sizeOf, declineNumber, firstOrder, wished, withinCap, downFrom, firstWithin, cappedFrom, productCapped, productOrder, jointCapped, jointOrder}
+use Rattle.base.proofs.Sums.{lt-or-ge}
 use Rattle.quadrature.proofs.Powers.{power-past}
 
 -- reasons are 1 to 6
@@ -134,3 +135,32 @@ unfolding productOrder productCapped wished cappedFrom
 product-cap w k l many =
     let several : k ≡ 1 → ⊥ = λ e. omega arith in
     rw (le-ltb w 2 l, ne-eqb k 1 several) (none-within k many (firstOrder w))
+
+-- ---- so an order choice declines for no other reason
+same-reason : {d e : Decline} → Without d ≡ Without e → d ≡ e
+same-reason h = cc
+
+not-both : {d : Decline} {o : Order} → Without d ≡ Use o → ⊥
+not-both h = let z : _≡_ {A = ℕ} 0 1 = cc in omega arith
+
+-- the product rule: the wish, then the cap
+pub product-declines : (w k : ℕ) (d : Decline) → productOrder w k ≡ Without d → ((d ≡ Wish) × (w < 2)) ⊎ ((d ≡ Cap) × (2 ≤ w) × (6 ≤ k))
+product-declines w k d e =
+    ⊎-elim (λ (l : w < 2). inl (same-reason (sym e ∙ wish-first w k l .1 k), l))
+    (λ (l : 2 ≤ w). ⊎-elim (λ (m : k < 6). absurd (not-both (sym e ∙ product-always w k l (omega arith) .1))) (λ (m : 6 ≤ k). inr (same-reason (sym e ∙ product-cap w k l m), l, m)) (lt-or-ge k 6))
+    (lt-or-ge w 2)
+
+-- the joint rule: the wish, then the effects
+pub joint-declines : (w q : ℕ) (d : Decline) → jointOrder w q ≡ Without d → ((d ≡ Wish) × (w < 2)) ⊎ ((d ≡ Effects) × (2 ≤ w) × ((q ≡ 0) ⊎ (8 < q)))
+joint-declines w q d e =
+    ⊎-elim (λ (l : w < 2). inl (same-reason (sym e ∙ wish-first w q l .0), l))
+    (λ (l : 2 ≤ w). inr (by l (lt-or-ge 8 q) (lt-or-ge 0 q)))
+    (lt-or-ge w 2)
+  where
+    some : 2 ≤ w → (q ≡ 0) ⊎ (8 < q) → (d ≡ Effects) × (2 ≤ w) × ((q ≡ 0) ⊎ (8 < q))
+    some l r = (same-reason (sym e ∙ effects-next w q l r), l, r)
+
+    by : 2 ≤ w → (8 < q) ⊎ (q ≤ 8) → (0 < q) ⊎ (q ≤ 0) → (d ≡ Effects) × (2 ≤ w) × ((q ≡ 0) ⊎ (8 < q))
+    by l (inl m) z = some l (inr m)
+    by l (inr m) (inl z) = absurd (not-both (sym e ∙ joint-always w q l z m .1))
+    by l (inr m) (inr z) = some l (inl (omega arith))
