@@ -10,7 +10,7 @@ use Rattle.jobfit.proofs.Behind.{next}
 
 module _ {A : Type 0} where
   -- b with the entries of xs stored from place i on
-  pub storedAt : ℕ → List A → List A → List A
+  unfoldable pub storedAt : ℕ → List A → List A → List A
   storedAt i [] b = b
   storedAt i (x ∷ xs) b = storedAt (i + 1) xs (set b i x)
 
