@@ -193,8 +193,8 @@ def classes_of(data, text):
 # ---- what must have been met, and what cannot be
 
 ROWS_AND_COLUMNS = {
-    "family and link": (NAMES, ENDS), "quadrature": (NAMES, ASKED), "why": (RULES, WHYS), "dispersion": (NAMES, FLAGS), "lists": (NAMES, DRESSES), "largest": (NAMES, LARGEST),
-    "limit": (LIMITS, ENDS), "inner fits": (ENDS[1:], ["in the first", "in a later one"])}
+    "family and link": (NAMES, ENDS), "quadrature": (NAMES, ASKED), "why": (RULES, WHYS), "dispersion": (NAMES, FLAGS), "lists": (NAMES, DRESSES),
+    "largest": (NAMES, LARGEST), "limit": (LIMITS, ENDS), "inner fits": (ENDS[1:], ["in the first", "in a later one"])}
 NAMED = {"ending": [*ENDS, *(f"refused {number}" for number in [*range(1, 8), *range(20, 26)])], "refused": CAUSES,
          "order": [("Laplace", "not asked for"), *((rule, f"order {order}") for rule in RULES for order in (3, 5, 7, 9, 11)),
                    *(("declined", cause) for cause in DECLINES)],
