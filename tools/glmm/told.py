@@ -84,7 +84,7 @@ def meanings():
 
 def reasons():
     """Why it stayed with Laplace: what the number means, and what to do."""
-    found = re.findall(r"(?m)^\| why (\d) \| (.*) \| (.*) \|$", NUMBERS.read_text())
+    found = re.findall(r"(?m)^\| why (\d) \| (.*) \| (.*) \|$", NUMBERS.read_text(encoding="utf-8"))
     return {int(number): (means, do) for number, means, do in found}
 
 
