@@ -162,7 +162,9 @@ module _ (G : Given) (M : Mode) (phi : Float) (o : Order) where
   group-fate true k g =
       let a = at (qOf (G .design)) (M .system) g g in
       one-fate (badDiagonal a) g a
-  group-fate false k g = several-fate (blockScale k (sectionOf (qOf (G .design)) (M .system) (g * k) k)) (g * k) k (scale-step k (sectionOf (qOf (G .design)) (M .system) (g * k) k))
+  group-fate false k g =
+      let B = sectionOf (qOf (G .design)) (M .system) (g * k) k in
+      several-fate (blockScale k B) (g * k) k (scale-step k B)
 
 -- ---- the first group that declines
 -- a step declined
@@ -175,15 +177,19 @@ abbrev reasonIn : Decline → Integral → Decline
 reasonIn e (Deviance d o) = e
 reasonIn e (Declined w) = w
 
+-- what follows group g, after its log sum
+abbrev onward : Given → Mode → Float → Order → (k left g : ℕ) → Float → Float → Integrated
+onward G M phi o k left g total s = groupsFrom G M phi o k left (g + 1) (withSum total s)
+
 module _ (G : Given) (M : Mode) (phi : Float) (o : Order) (k : ℕ) where
-  by-fate : (left g : ℕ) (total : Float) (d : Decline) → ((s : Float) → groupsFrom G M phi o k left (g + 1) (withSum total s) .answer ≡ Declined d → FirstDecline G M phi o k left (g + 1) (withSum total s) d)
+  by-fate : (left g : ℕ) (total : Float) (d : Decline) → ((s : Float) → onward G M phi o k left g total s .answer ≡ Declined d → FirstDecline G M phi o k left (g + 1) (withSum total s) d)
       → Fate (groupBy (eqb k 1) G M phi o k g) → groupsFrom G M phi o k (suc left) g total .answer ≡ Declined d → FirstDecline G M phi o k (suc left) g total d
   unfolding groupsFrom
   by-fate left g total d after (declines w t h) e =
-      let q : w ≡ d = ap (reasonIn d) (sym (h (λ s. groupsFrom G M phi o k left (g + 1) (withSum total s))) ∙ e) in
+      let q : w ≡ d = ap (reasonIn d) (sym (h (onward G M phi o k left g total)) ∙ e) in
       rw (← q) (here left g total w h)
   by-fate left g total d after (sums s h) e =
-      later left g total s d h (after s (sym (h (λ s. groupsFrom G M phi o k left (g + 1) (withSum total s))) ∙ e))
+      later left g total s d h (after s (sym (h (onward G M phi o k left g total)) ∙ e))
 
   -- the reason told is that of the first group that declines
   pub first-decline : (left g : ℕ) (total : Float) (d : Decline) → groupsFrom G M phi o k left g total .answer ≡ Declined d → FirstDecline G M phi o k left g total d
@@ -195,9 +201,9 @@ module _ (G : Given) (M : Mode) (phi : Float) (o : Order) (k : ℕ) where
   -- and where there is such a group, the step declines for its reason
   pub declined-first : (left g : ℕ) (total : Float) (d : Decline) → FirstDecline G M phi o k left g total d → groupsFrom G M phi o k left g total .answer ≡ Declined d
   unfolding groupsFrom
-  declined-first _ _ _ d (here left g total _ h) = h (λ s. groupsFrom G M phi o k left (g + 1) (withSum total s))
+  declined-first _ _ _ d (here left g total _ h) = h (onward G M phi o k left g total)
   declined-first _ _ _ d (later left g total s _ h r) =
-      h (λ s. groupsFrom G M phi o k left (g + 1) (withSum total s)) ∙ declined-first left (g + 1) (withSum total s) d r
+      h (onward G M phi o k left g total) ∙ declined-first left (g + 1) (withSum total s) d r
 
 -- ---- the reasons of the order choice: each is told exactly where it is the first that holds
 -- a step that has its order declines for a reason of the step
@@ -206,11 +212,11 @@ answerStep (Deviance d o) = true
 answerStep (Declined w) = ofStep w
 
 module _ (G : Given) (M : Mode) (phi : Float) (o : Order) where
-  groups-by : (k left g : ℕ) (total : Float) → ((s : Float) → answerStep (groupsFrom G M phi o k left (g + 1) (withSum total s) .answer) ≡ true) → Fate (groupBy (eqb k 1) G M phi o k g)
+  groups-by : (k left g : ℕ) (total : Float) → ((s : Float) → answerStep (onward G M phi o k left g total s .answer) ≡ true) → Fate (groupBy (eqb k 1) G M phi o k g)
       → answerStep (groupsFrom G M phi o k (suc left) g total .answer) ≡ true
   unfolding groupsFrom
-  groups-by k left g total after (declines d t h) = ap answerStep (h (λ s. groupsFrom G M phi o k left (g + 1) (withSum total s))) ∙ t
-  groups-by k left g total after (sums s h) = ap answerStep (h (λ s. groupsFrom G M phi o k left (g + 1) (withSum total s))) ∙ after s
+  groups-by k left g total after (declines d t h) = ap answerStep (h (onward G M phi o k left g total)) ∙ t
+  groups-by k left g total after (sums s h) = ap answerStep (h (onward G M phi o k left g total)) ∙ after s
 
   groups-step : (k left g : ℕ) (total : Float) → answerStep (groupsFrom G M phi o k left g total .answer) ≡ true
   unfolding groupsFrom answers
