@@ -1,4 +1,4 @@
-//! What the port counts and the Rust does not: inner fits, solves, tries, points, and which end a `None` is.
+//! What the port tells and the Rust does not: inner fits, solves, tries, points, which end a `None` is, and why the last inner fit stayed with Laplace.
 use std::sync::atomic::{AtomicUsize, Ordering::Relaxed};
 
 static FITS: AtomicUsize = AtomicUsize::new(0);
@@ -6,8 +6,9 @@ static SOLVES: AtomicUsize = AtomicUsize::new(0);
 static TRIES: AtomicUsize = AtomicUsize::new(0);
 static POINTS: AtomicUsize = AtomicUsize::new(0);
 static END: AtomicUsize = AtomicUsize::new(0);
+static WHY: AtomicUsize = AtomicUsize::new(0);
 
-/// The counts of one call, and the number that its `None` would have.
+/// The counts of one call, the number that its `None` would have, and the reason of its last quadrature, 0 where that was used.
 #[derive(Debug, Clone, Copy, PartialEq)]
 pub struct Account {
     pub fits: usize,
@@ -15,10 +16,11 @@ pub struct Account {
     pub tries: usize,
     pub points: usize,
     pub end: usize,
+    pub why: usize,
 }
 
 pub fn clear() {
-    for count in [&FITS, &SOLVES, &TRIES, &POINTS, &END] {
+    for count in [&FITS, &SOLVES, &TRIES, &POINTS, &END, &WHY] {
         count.store(0, Relaxed);
     }
 }
@@ -30,6 +32,7 @@ pub fn read() -> Account {
         tries: TRIES.load(Relaxed),
         points: POINTS.load(Relaxed),
         end: END.load(Relaxed),
+        why: WHY.load(Relaxed),
     }
 }
 
@@ -56,4 +59,9 @@ pub fn point() {
 /// From here on a `None` of the inner fit is this end.
 pub fn ends_as(number: usize) {
     END.store(number, Relaxed);
+}
+
+/// From here on an inner fit that keeps Laplace does so for this reason; 0, it does not.
+pub fn why(reason: usize) {
+    WHY.store(reason, Relaxed);
 }

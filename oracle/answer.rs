@@ -62,13 +62,13 @@ pub fn results(fitted: &GlmmCoefficients) -> [(&'static str, Vec<f64>); 11] {
 }
 
 fn lines(fitted: Option<&GlmmCoefficients>, account: Account) -> String {
-    let (end, order, flag, iterations) = match fitted {
-        Some(fitted) => (0, fitted.effective_n_agq, fitted.dispersion_converged as usize, fitted.iterations),
-        None => (account.end, 0, 0, 0),
+    let (end, order, flag, iterations, why) = match fitted {
+        Some(fitted) => (0, fitted.effective_n_agq, fitted.dispersion_converged as usize, fitted.iterations, account.why),
+        None => (account.end, 0, 0, 0, 0),
     };
     let mut text = format!(
-        "end {} order {} disp {} iters {} fits {} solves {} tries {} points {}\n",
-        end, order, flag, iterations, account.fits, account.solves, account.tries, account.points
+        "end {} order {} disp {} iters {} fits {} solves {} tries {} points {} why {}\n",
+        end, order, flag, iterations, account.fits, account.solves, account.tries, account.points, why
     );
     if let Some(fitted) = fitted {
         for (name, list) in &results(fitted) {

@@ -692,12 +692,14 @@ impl GlmmData {
                 let mut deviance = fit_term + log_det_a + u.dot(&u);
 
                 let mut effective_n_agq = 1;
+                account::why(1); // ALTERED: told, the wish is below 2
                 if n_agq > 1 {
                     if self.re_blocks.len() == 1 {
                         if let Some(d_agq) =
                             self.agq_deviance(n_agq, &a, &u, &beta, &lambda, offset, &mu, phi)
                         {
                             deviance = d_agq;
+                            account::why(0); // ALTERED: told
                             effective_n_agq = if self.re_blocks.len() == 1 {
                                 resolve_gh_order_product(n_agq, self.re_blocks[0].k).unwrap_or(1)
                             } else {
@@ -709,6 +711,7 @@ impl GlmmData {
                             self.agq_deviance_joint(n_agq, &a, &u, &beta, &lambda, offset, &mu, phi)
                         {
                             deviance = d_agq;
+                            account::why(0); // ALTERED: told
                             effective_n_agq = if self.re_blocks.len() == 1 {
                                 resolve_gh_order_product(n_agq, self.re_blocks[0].k).unwrap_or(1)
                             } else {
@@ -720,6 +723,7 @@ impl GlmmData {
                             );
                         }
                     } else {
+                        account::why(2); // ALTERED: told, too many effects
                         log::warn!(
                             "nAGQ > 1 with multiple random-effect terms requires total RE dimension q <= {} (got {}). Falling back to Laplace (nAGQ = 1).",
                             AGQ_JOINT_MAX_Q,
@@ -799,6 +803,7 @@ impl GlmmData {
             return None;
         }
 
+        account::why(3); // ALTERED: told, the cap leaves no order
         let order = resolve_gh_order_product(n_agq, k)?;
         let (z, w) = gh_rule(order)?;
         let n_nodes = z.len();
@@ -812,6 +817,7 @@ impl GlmmData {
 
         if k == 1 {
             for g in 0..m {
+                account::why(4); // ALTERED: told, a bad diagonal
                 let a_gg = csr_diag_entry(a, g)?;
                 if a_gg <= f64::EPSILON || !a_gg.is_finite() {
                     return None;
@@ -846,6 +852,7 @@ impl GlmmData {
                     account::point(); // ALTERED: counted
                 }
 
+                account::why(6); // ALTERED: told, a sum that is not finite
                 let log_inner = log_sum_exp(&log_terms);
                 if !log_inner.is_finite() {
                     return None;
@@ -857,6 +864,7 @@ impl GlmmData {
             for g in 0..m {
                 let start = g * k;
                 let a_block = csr_dense_block(a, start, k);
+                account::why(5); // ALTERED: told, a failed inverse or factor
                 let sigma = a_block.inv().ok()?;
                 let l_sigma = sigma.cholesky(UPLO::Lower).ok()?;
 
@@ -913,6 +921,7 @@ impl GlmmData {
                     account::point(); // ALTERED: counted
                 }
 
+                account::why(6); // ALTERED: told, a sum that is not finite
                 let log_inner = log_sum_exp(&log_terms);
                 if !log_inner.is_finite() {
                     return None;
@@ -945,6 +954,7 @@ impl GlmmData {
             return None;
         }
 
+        account::why(if q == 0 { 2 } else { 3 }); // ALTERED: told, no effects, or the cap leaves no order
         let order = resolve_gh_order_joint(n_agq, q)?;
         let (z, w) = gh_rule(order)?;
         let n_nodes = z.len();
@@ -957,6 +967,7 @@ impl GlmmData {
         let inv_phi = 1.0 / phi.max(f64::EPSILON);
 
         let a_dense = csr_dense_block(a, 0, q);
+        account::why(5); // ALTERED: told, a failed inverse or factor
         let sigma = a_dense.inv().ok()?;
         let l_sigma = sigma.cholesky(UPLO::Lower).ok()?;
 
@@ -1003,6 +1014,7 @@ impl GlmmData {
             account::point(); // ALTERED: counted
         }
 
+        account::why(6); // ALTERED: told, a sum that is not finite
         let log_inner = log_sum_exp(&log_terms);
         if !log_inner.is_finite() {
             return None;

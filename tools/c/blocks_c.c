@@ -1,8 +1,10 @@
 /* usage: blocks_c many FILE..
+ *        blocks_c deep FILE..
  *        blocks_c edges FILE
  * glmm_fit_blocks with the numbers of many jobs that can be read, printing for each what fitjob prints, after a line `job FILE`. Every buffer is lent
  * exactly as long as it must be, with a pattern behind it; a pattern that changed, or a buffer that was not left as the header says, is told in place of
- * the answer. `edges` calls it with a job that can be fitted and one thing amiss each, and prints for each a line: what was amiss, the answer's number,
+ * the answer. `deep` prints at the end how many bytes of stack the deepest of the calls took. `edges` calls it with a job that can be fitted and one
+ * thing amiss each, and prints for each a line: what was amiss, the answer's number,
  * and whether all was left as lent. */
 #include "lent.h"
 
@@ -72,12 +74,14 @@ static void read_job(void)
 
 static struct glmm_answer call(void)
 {
+    struct glmm_answer found;
     int i;
     for (i = BETA; i < SLICES; i++)
         fill(numbers[i], lengths[i] + GUARD);
-    return glmm_fit_blocks(settings, blocks, blocks_length, LENT(THETA), LENT(Y), LENT(WEIGHTS), LENT(OFFSET), LENT(X), starts, starts_length, columns,
-                           columns_length, LENT(VALUES), LENT(BETA), LENT(SE), LENT(Z), LENT(U), LENT(B), LENT(MU), LENT(ETA), LENT(RESIDUAL), LENT(V),
-                           LENT(ROWS), LENT(MATRICES), LENT(TERMS));
+    MEASURED(found = glmm_fit_blocks(settings, blocks, blocks_length, LENT(THETA), LENT(Y), LENT(WEIGHTS), LENT(OFFSET), LENT(X), starts, starts_length,
+                                     columns, columns_length, LENT(VALUES), LENT(BETA), LENT(SE), LENT(Z), LENT(U), LENT(B), LENT(MU), LENT(ETA),
+                                     LENT(RESIDUAL), LENT(V), LENT(ROWS), LENT(MATRICES), LENT(TERMS)));
+    return found;
 }
 
 /* Whether every buffer was left as the header says. */
@@ -106,7 +110,7 @@ static void run(void)
     }
     eight[0] = found.number, eight[1] = found.order, eight[2] = found.flag, eight[3] = found.iterations;
     eight[4] = found.fits, eight[5] = found.solves, eight[6] = found.tries, eight[7] = found.points;
-    first_line(eight);
+    first_line(eight, found.why);
     if (found.number != 0)
         return;
     values("deviance", &found.deviance, 1), values("phi", &found.phi, 1);
@@ -118,7 +122,7 @@ static void run(void)
 static void edge(const char *name)
 {
     struct glmm_answer found = call();
-    uint64_t counted = found.order | found.flag | found.iterations | found.fits | found.solves | found.tries | found.points;
+    uint64_t counted = found.order | found.flag | found.iterations | found.fits | found.solves | found.tries | found.points | found.why;
     int blank = counted == 0 && pattern_of(found.deviance) == 0 && pattern_of(found.phi) == 0;
     printf("%s %u %s\n", name, (unsigned)found.number, as_told(found.number) && blank ? "as lent" : "NOT as lent");
 }
@@ -155,8 +159,9 @@ static void edges(void)
 int main(int count, char **words)
 {
     int i, only = count == 3 && strcmp(words[1], "edges") == 0;
-    if (!only && (count < 3 || strcmp(words[1], "many") != 0)) {
-        fputs("usage: blocks_c many FILE.., or blocks_c edges FILE\n", stderr);
+    measuring = count > 2 && strcmp(words[1], "deep") == 0;
+    if (!only && !measuring && (count < 3 || strcmp(words[1], "many") != 0)) {
+        fputs("usage: blocks_c many FILE.., blocks_c deep FILE.., or blocks_c edges FILE\n", stderr);
         return 2;
     }
     for (i = 2; i < count; i++) {
@@ -168,5 +173,7 @@ int main(int count, char **words)
             run();
         }
     }
+    if (measuring)
+        printf("deepest %u\n", (unsigned)deepest);
     return 0;
 }

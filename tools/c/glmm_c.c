@@ -1,8 +1,10 @@
 /* usage: glmm_c [theta] many FILE..
+ *        glmm_c deep FILE..
  *        glmm_c edges FILE
  * The C library on many jobs, printing for each what fitjob prints, after a line `job FILE`. With `theta` the numbers of FILE.theta (doubles as this
  * machine has them) go beside the job in place of its own. Every buffer is lent exactly as long as it must be, with a pattern behind it; a pattern
- * that changed, or a work buffer that was not left as the header says, is told in place of the answer. `edges` calls it with a job that can be fitted
+ * that changed, or a work buffer that was not left as the header says, is told in place of the answer. `deep` prints at the end how many bytes of
+ * stack the deepest of the calls took. `edges` calls it with a job that can be fitted
  * and buffers one short each, and prints for each a line: what was short, what was returned, and whether all else was left as lent. */
 #include "lent.h"
 
@@ -34,7 +36,7 @@ static void answer(uint64_t refused)
         printf("refused %u at %u\n", (unsigned)refused, (unsigned)counts[GLMM_BYTE]);
         return;
     }
-    first_line(counts);
+    first_line(counts, counts[GLMM_WHY]);
     if (counts[GLMM_NUMBER] != 0)
         return;
     values("deviance", next, 1), next += 1;
@@ -62,10 +64,12 @@ static void run(size_t length, size_t thetas, int beside)
     fill(rows, of_rows + GUARD), fill(matrices, of_matrices + GUARD), fill(terms, GLMM_TERMS + GUARD), fill(results, of_results + GUARD);
     for (i = 0; i < GLMM_COUNTS + GUARD; i++)
         counts[i] = mark;
-    refused = beside ? glmm_fit_job_theta(job, length, theta, thetas, rows, of_rows, matrices, of_matrices, terms, glmm_terms_length(), results,
-                                          of_results, counts, GLMM_COUNTS)
-                     : glmm_fit_job(job, length, rows, of_rows, matrices, of_matrices, terms, glmm_terms_length(), results, of_results, counts,
-                                    GLMM_COUNTS);
+    if (beside)
+        MEASURED(refused = glmm_fit_job_theta(job, length, theta, thetas, rows, of_rows, matrices, of_matrices, terms, glmm_terms_length(), results,
+                                              of_results, counts, GLMM_COUNTS));
+    else
+        MEASURED(refused = glmm_fit_job(job, length, rows, of_rows, matrices, of_matrices, terms, glmm_terms_length(), results, of_results, counts,
+                                        GLMM_COUNTS));
     whole = kept("rows", rows, of_rows, refused == 0) & kept("matrices", matrices, of_matrices, refused == 0)
             & kept("terms", terms, GLMM_TERMS, refused == 0);
     if (refused != 0 || counts[GLMM_NUMBER] != 0)
@@ -118,12 +122,13 @@ static void edges(size_t length)
 int main(int count, char **words)
 {
     int beside = count > 1 && strcmp(words[1], "theta") == 0, i;
+    measuring = count > 2 && strcmp(words[1], "deep") == 0;
     if (count == 3 && strcmp(words[1], "edges") == 0) {
         edges(read_file(words[2], job, 1, sizeof job));
         return 0;
     }
-    if (count < 3 + beside || strcmp(words[1 + beside], "many") != 0) {
-        fputs("usage: glmm_c [theta] many FILE.., or glmm_c edges FILE\n", stderr);
+    if (count < 3 + beside || (!measuring && strcmp(words[1 + beside], "many") != 0)) {
+        fputs("usage: glmm_c [theta] many FILE.., glmm_c deep FILE.., or glmm_c edges FILE\n", stderr);
         return 2;
     }
     for (i = 2 + beside; i < count; i++) {
@@ -136,5 +141,7 @@ int main(int count, char **words)
         printf("job %s\n", words[i]);
         run(read_file(words[i], job, 1, sizeof job), thetas, beside);
     }
+    if (measuring)
+        printf("deepest %u\n", (unsigned)deepest);
     return 0;
 }

@@ -58,13 +58,14 @@ static void values(const char *name, const double *first, size_t length)
     }
 }
 
-/* The first line of an answer: its number, then seven counts. */
-static void first_line(const uint64_t *eight)
+/* The first line of an answer: its number, then seven counts, then why the deviance is Laplace's. */
+static void first_line(const uint64_t *eight, uint64_t why)
 {
     static const char *const words[] = {"end", "order", "disp", "iters", "fits", "solves", "tries", "points"};
     int i;
     for (i = 0; i < 8; i++)
-        printf("%s %u%c", words[i], (unsigned)eight[i], i < 7 ? ' ' : '\n');
+        printf("%s %u ", words[i], (unsigned)eight[i]);
+    printf("why %u\n", (unsigned)why);
 }
 
 static size_t read_file(const char *name, void *to, size_t size, size_t count)
@@ -75,3 +76,41 @@ static size_t read_file(const char *name, void *to, size_t size, size_t count)
         fclose(file);
     return length;
 }
+
+/* How deep the stack goes below a caller: `paint` covers it, a call is made, and `depth` finds the lowest byte that was written. Both have the same frame,
+ * so their rooms are the same bytes; to the compiler they are seen and written elsewhere. */
+#define ROOM 400000
+#define PAINT 0x5a
+#define SEEN(room) __asm__ __volatile__("" : : "r"(room) : "memory")
+
+__attribute__((noinline)) static void paint(void)
+{
+    uint8_t room[ROOM];
+    memset(room, PAINT, ROOM);
+    SEEN(room);
+}
+
+__attribute__((noinline)) static size_t depth(void)
+{
+    uint8_t room[ROOM];
+    size_t i = 0;
+    SEEN(room);
+    while (i < ROOM && room[i] == PAINT)
+        i++;
+    return ROOM - i;
+}
+
+/* A call that is measured, where the program was asked to; the largest depth is kept. */
+static int measuring;
+static size_t deepest;
+
+#define MEASURED(call) \
+    do { \
+        if (measuring) \
+            paint(); \
+        call; \
+        if (measuring) { \
+            size_t taken = depth(); \
+            deepest = taken > deepest ? taken : deepest; \
+        } \
+    } while (0)

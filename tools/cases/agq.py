@@ -1,8 +1,8 @@
 #!/usr/bin/env python3
 """usage: tools/cases/agq.py [NAME..]
 Writes crates/agq_cases/proofs/: for each closed job of jobs.json (or those named) a theorem that the checker proves by computing the written rule
-of the inner fit with its quadrature. Number, order, counts and deviance are what the oracle answers (tools/oracle), bit for bit; why a quadrature
-declined, which the oracle doesn't say, is in jobs.json."""
+of the inner fit with its quadrature. Number, order, counts and deviance are what the oracle answers (tools/oracle), bit for bit. The cause of a
+quadrature that declined is in jobs.json, where the oracle's reason must be its number; two causes have the number 5."""
 import json, sys
 
 sys.dont_write_bytecode = True
@@ -11,6 +11,7 @@ from form import from_groups
 
 TOLD = "reasonBy toldEnd toldInner toldWith".split()
 OPENED = [*CRATES, "quadrature", "spread", "agq_rule"]
+NUMBERS = {None: 0, "Wish": 1, "Effects": 2, "Cap": 3, "Diagonal": 4, "Inverse": 5, "Factor": 5, "Sum": 6}
 JOBS = json.loads((ROOT / "crates" / "agq_cases" / "jobs.json").read_text())
 
 
@@ -27,6 +28,8 @@ def file_of(about):
     limit = limit if limit is not None else 1000 if job["link"] == "inverse" else 100
     opened = [*definitions(OPENED)]
     why = about.get("declines")
+    if end["why"] != NUMBERS[why]:
+        sys.exit(f"agq.py: '{about['says']}' declines for {why}, but the oracle tells why {end['why']}")
     which = "noMode" if end["end"] else "because" if why else "used"
     reasons = "use Rattle.quadrature.specs.declared.orders.Decline.the-variants as reason\n" if why else ""
     uses = [f"use {module}.{{{', '.join(names)}}}" for module, names in opened]

@@ -57,15 +57,15 @@ def hexes(values):
 
 def fitted(about):
     """What the fit answers, after a look at the oracle's answer."""
-    number, order, flag, iterations, account, results = fit.call(parse(job_bytes(about)))
+    number, order, flag, iterations, account, why, results = fit.call(parse(job_bytes(about)))
     end, vectors = answer(about)
-    assert end == {"end": number, "order": order, "disp": flag, "iters": iterations, **vars(account)}, (about, end)
+    assert end == {"end": number, "order": order, "disp": flag, "iters": iterations, **vars(account), "why": why}, (about, end)
     assert vectors == {name: hexes(values) for name, values in results.items()}, about
-    return number, [order, flag, iterations, account.fits, account.solves, account.tries, account.points], results
+    return number, [order, flag, iterations, account.fits, account.solves, account.tries, account.points, why], results
 
 
 def told(word, number, counts, results, wiped):
-    named = zip(["order", "disp", "iters", "fits", "solves", "tries", "points"], counts)
+    named = zip(["order", "disp", "iters", "fits", "solves", "tries", "points", "why"], counts)
     deviance, phi = (hexes(results[name])[0] if results else "0" * 16 for name in ("deviance", "phi"))
     print(word + ":", number, *(f"{name} {count}" for name, count in named), "deviance", deviance, "phi", phi)
     for name in RESULTS:
@@ -98,11 +98,12 @@ def run(word, about, **changes):
         given.add(number)
         return told(word, number, counts, results, call_of(about))
     given.add(number)
-    told(word, number, [0] * 7, None, {})
+    told(word, number, [0] * 8, None, {})
 
 
 def fits():
-    """Number 0, of a list of one block and of two, by Laplace and by quadrature, the blocks in either order; phi of its own that settles and that doesn't; then numbers 10 to 13."""
+    """Number 0, of a list of one block and of two, by Laplace and by quadrature, the blocks in either order; phi of its own that settles and that doesn't; a quadrature that declines;
+    then numbers 10 to 13."""
     run("one", job())
     run("two", two())
     run("one, order 3", job(family="binomial", link="logit", n_agq=3, y=[0.25, 0.5, 0.0, 1.0], weights=[4.0, 2.0, 3.0, 1.0], offset=[0.1, 0.2, -0.3, 0.0]))
@@ -113,6 +114,7 @@ def fits():
                                zt=[*job()["zt"], [[i, 1.0] for i in range(4)], [[0, 0.3], [1, -0.7], [2, 1.1], [3, 0.2]]]))
     run("Gaussian", job(family="gaussian", link="identity", n_agq=5, y=[1.5, -0.25, 3.0, 0.75], weights=[4.0, 2.0, 3.0, 1.0]))
     run("unsettled", job(family="gaussian", link="identity", y=[3.0, 0.0, 5.0, 0.25]))
+    run("log sum", job(n_agq=3, weights=[-1e308, 1.0, 1.0, 1.0]))
     run("theta", job(theta=[1e200]))
     run("columns", two(x=[[1.0, 1.0]] * 4))
     run("offset", job(link="identity", offset=[1e9, 3e8, 1e200, 1e9]))

@@ -46,7 +46,7 @@ def room(job):
 def told(end, vectors):
     account = record(**{name: end[name] for name in ("fits", "solves", "tries", "points")})
     of = record(number=end["end"], deviance=number(vectors["deviance"][0]) if vectors else "zeroF", phi=number(vectors["phi"][0]) if vectors else "zeroF",
-                order=end["order"], converged="true" if end["disp"] else "false", iterations=end["iters"], account=account)
+                order=end["order"], why=end["why"], converged="true" if end["disp"] else "false", iterations=end["iters"], account=account)
     results = record(**{name: numbers(vectors[name]) for name in VECTORS}) if vectors else "L .results"
     return record(answer=of, results=results)
 

@@ -2,8 +2,8 @@
 """usage: fit.py > crates/cases_fit/stdout
        fit.py --stdin > crates/cases_fit/stdin
 What `cases_fit` must print, and the calls that it is fed: document 01's table of refusals (table.py) asked the same calls, then its fit in Python's doubles (tools/glmm/fit.py).
-Stops where the oracle (tools/oracle) answers other bits, where a number of the table is not given, or where a quadrature declines for another cause
-than the case is for. Every call leaves +0.0 in the named lengths of the work slices, or all of them as lent."""
+Stops where the oracle (tools/oracle) answers other bits or another reason for Laplace, where a number of the table is not given, or where a quadrature declines for
+another cause than the case is for. Every call leaves +0.0 in the named lengths of the work slices, or all of them as lent."""
 import struct, sys
 
 sys.dont_write_bytecode = True
@@ -67,15 +67,15 @@ def job_of(c):
 
 def fitted(c):
     """What the fit answers, after a look at the oracle's answer."""
-    number, order, flag, iterations, account, results = fit.call(read(job_bytes(job_of(c))))
+    number, order, flag, iterations, account, why, results = fit.call(read(job_bytes(job_of(c))))
     end, vectors = answer(job_of(c))
-    assert end == {"end": number, "order": order, "disp": flag, "iters": iterations, **vars(account)}, (c, end)
+    assert end == {"end": number, "order": order, "disp": flag, "iters": iterations, **vars(account), "why": why}, (c, end)
     assert vectors == {name: hexes(values) for name, values in results.items()}, c
-    return number, [order, flag, iterations, account.fits, account.solves, account.tries, account.points], results
+    return number, [order, flag, iterations, account.fits, account.solves, account.tries, account.points, why], results
 
 
 def told(word, number, counts, results, wiped):
-    named = zip(["order", "disp", "iters", "fits", "solves", "tries", "points"], counts)
+    named = zip(["order", "disp", "iters", "fits", "solves", "tries", "points", "why"], counts)
     deviance, phi = (hexes(results[name])[0] if results else "0" * 16 for name in ("deviance", "phi"))
     print(word + ":", number, *(f"{name} {count}" for name, count in named), "deviance", deviance, "phi", phi)
     for name in RESULTS:
@@ -91,9 +91,10 @@ def run(word, family, link, n_agq, blocks, places, lengths, p=2, q=2, entries=4,
     refusal = next((number for number, good in TABLE if not good(c)), None)
     if refusal:
         given.add(refusal)
-        return told(word, refusal, [0] * 7, None, None)
+        return told(word, refusal, [0] * 8, None, None)
     declines.clear()
     number, counts, results = fitted(c)
+    cause = "wish" if n_agq < 2 else cause
     assert set(declines) == ({cause} if cause else set()), (word, declines)
     given.add(number)
     told(word, number, counts, results, long(0, 0, 0, 0, 0, 0, p, q)[17:])
@@ -146,8 +147,8 @@ def quadrature():
     effects("pairs", "log", 3, [(2, 2)], 48, 1, 5)
     effects("joint 3", "log", 3, [(1, 2), (2, 1)], 48, 1, 6)
     effects("joint 9", "sqrt", 11, [(1, 2), (2, 1)], 48, 1, 6)
-    effects("nine", "log", 3, [(8, 1), (1, 1)], 48, 3, 5)
-    effects("six", "log", 3, [(1, 6)], 0, 2, 5)
+    effects("nine", "log", 3, [(8, 1), (1, 1)], 48, 3, 5, "effects")
+    effects("six", "log", 3, [(1, 6)], 0, 2, 5, "cap")
     groups("sum", "binomial", "logit", 3, 24, cause="log sum")
     effects("Inverse", "sqrt", 3, [(2, 2)], 52, 1, 5, "inverse")
     effects("Factor", "sqrt", 3, [(2, 2)], 55, 1, 5, "factor")
@@ -180,14 +181,12 @@ def refusals():
     groups("Gamma", "gamma", "log", 3, 44)
 
 
-class Declined(Exception):
-    """As fit.Declined, noted."""
-
-    def __init__(self, cause):
-        declines.append(cause)
+def noted(declined, number, cause):
+    """Every reason for Laplace is noted by its cause."""
+    declines.append(cause)
 
 
-fit.Declined = Declined
+fit.Declined.__init__ = noted
 laplace()
 quadrature()
 ends()

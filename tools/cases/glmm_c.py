@@ -15,7 +15,7 @@ from form import job_bytes
 from reader import Refused, check_table, parse
 
 NAN, INF = float("nan"), float("inf")
-LENT, MARK = 9.25, 77
+LENT, MARK, COUNTS = 9.25, 77, 10
 ARRAYS = {"rows": 72, "matrices": 152, "terms": 7008, "results": 40, "counts": 12}
 SIZES = [(1, 1, 1), (4, 2, 2), (512, 16, 32), (0, 1, 1), (513, 1, 1), (1, 0, 1), (1, 17, 1), (1, 1, 0), (1, 1, 33), (2**64 - 1, 2, 2), (2, 2**63, 2), (2, 2, 2**64 - 1),
          (512, 1, 1), (1, 16, 1), (1, 1, 32), (100, 3, 7)]
@@ -37,16 +37,16 @@ def asked(n, p, q):
 
 def fitted(about):
     """What the fit answers, after a look at the oracle's answer."""
-    number, order, flag, iterations, account, results = fit.call(parse(job_bytes(about)))
+    number, order, flag, iterations, account, why, results = fit.call(parse(job_bytes(about)))
     end, vectors = answer(about)
-    assert end == {"end": number, "order": order, "disp": flag, "iters": iterations, **vars(account)}, (about, end)
+    assert end == {"end": number, "order": order, "disp": flag, "iters": iterations, **vars(account), "why": why}, (about, end)
     assert vectors == {name: [text(x) for x in values] for name, values in results.items()}, about
-    return [number, order, flag, iterations, account.fits, account.solves, account.tries, account.points, 0], [x for name in ORDER for x in results[name]] if results else []
+    return [number, order, flag, iterations, account.fits, account.solves, account.tries, account.points, 0, why], [x for name in ORDER for x in results[name]] if results else []
 
 
 def refusal(data, theta, lent):
     """The refusal of a call and its byte, or no number; and the lengths that the job asks for."""
-    if lent["counts"] < 9:
+    if lent["counts"] < COUNTS:
         return 2, None, {}
     try:
         read = parse(data)
@@ -85,7 +85,7 @@ def run(word, about, theta=None, data=None, own=None, **lent):
     """A call with a job: its bytes where they are given, its own theta altered where another stands beside it; the buffers are as long as asked, but for those named."""
     sound = data is None
     data = job_bytes(about | ({"theta": own} if own else {})) if sound else data
-    lent = asked(len(about["y"]), len(about["x"][0]), len(about["zt"])) | {"counts": 9} | lent
+    lent = asked(len(about["y"]), len(about["x"][0]), len(about["zt"])) | {"counts": COUNTS} | lent
     if "--stdin" in sys.argv:
         return sys.stdout.buffer.write(fed(word, data, theta, lent))
     number, byte, wanted = refusal(data, theta, lent)
@@ -94,17 +94,18 @@ def run(word, about, theta=None, data=None, own=None, **lent):
         given.add(counts[0])
         return told(word, 0, counts, wanted, results)
     given.add(number)
-    told(word, number, [] if byte is None else [number, *[0] * 7, byte], {}, [])
+    told(word, number, [] if byte is None else [number, *[0] * 7, byte, 0], {}, [])
 
 
 def fits():
-    """Number 0: Laplace and quadrature, phi of its own that settles and that doesn't, two blocks, several effects; then numbers 10 to 13, which return 0."""
+    """Number 0: Laplace and quadrature, phi of its own that settles and that doesn't, two blocks, several effects, a quadrature that declines; then numbers 10 to 13, which return 0."""
     run("log", job())
     run("logit", job(family="binomial", link="logit", n_agq=3, y=[0.25, 0.5, 0.0, 1.0], weights=[4.0, 2.0, 3.0, 1.0], offset=[0.1, 0.2, -0.3, 0.0]))
     run("Gaussian", job(family="gaussian", link="identity", n_agq=5, y=[1.5, -0.25, 3.0, 0.75], weights=[4.0, 2.0, 3.0, 1.0]))
     run("unsettled", job(family="gaussian", link="identity", y=[3.0, 0.0, 5.0, 0.25]))
     run("two blocks", job(n_agq=3, blocks=[{"m": 2, "k": 1}, {"m": 1, "k": 1}], theta=[0.75, 0.5], zt=[[[0, 1.0], [2, 1.0]], [[1, 1.0], [3, 1.0]], [[0, 1.0], [1, 0.5], [3, 1.0]]]))
     run("two effects", job(n_agq=7, blocks=[{"m": 1, "k": 2}], theta=[0.5, 0.25, 0.4], x=[[1.0]] * 4, zt=[[[i, 1.0] for i in range(4)], [[0, 0.3], [1, -0.7], [2, 1.1], [3, 0.2]]]))
+    run("log sum", job(n_agq=3, weights=[-1e308, 1.0, 1.0, 1.0]))
     run("theta", job(theta=[1e200]))
     run("columns", job(x=[[1.0, 1.0]] * 4))
     run("offset", job(link="identity", offset=[1e9, 3e8, 1e200, 1e9]))
@@ -131,12 +132,12 @@ def refusals():
 
 def lengths():
     """Each buffer one short and one longer; two short at once; no room for the counts before anything else."""
-    for name, n in [*asked(4, 2, 2).items(), ("counts", 9)]:
+    for name, n in [*asked(4, 2, 2).items(), ("counts", COUNTS)]:
         run(f"{name} short", job(), **{name: n - 1})
         run(f"{name} longer", job(), **{name: n + 1})
     run("results and rows", job(), results=27, rows=63)
     run("rows and NaN", job(y=[1.0, NAN, 0.0, 5.0]), rows=63)
-    run("counts and job", job(), data=b"", counts=8)
+    run("counts and job", job(), data=b"", counts=COUNTS - 1)
     run("none", job(), rows=0, matrices=0, terms=0, results=0, counts=0)
 
 
@@ -148,7 +149,7 @@ def beside():
     run("beside longer", job(), [0.75, 0.5], own=[0.75])
     run("beside NaN", job(), [NAN], own=[0.75])
     run("beside cut", job(), [0.75], data=job_bytes(job())[:-1])
-    run("beside counts", job(), [0.75], own=[0.5], counts=8)
+    run("beside counts", job(), [0.75], own=[0.5], counts=COUNTS - 1)
 
 
 def first():

@@ -75,8 +75,8 @@ def sizes(n, p, rows, entries, limit, blocks):
 
 
 # ---- answers
-def answer(number, deviance=0.0, phi=0.0, order=0, flag=False, iterations=0, account=(0, 0, 0, 0)):
-    return [number, hexed(deviance), hexed(phi), order, flag, iterations, *account]
+def answer(number, deviance=0.0, phi=0.0, order=0, why=0, flag=False, iterations=0, account=(0, 0, 0, 0)):
+    return [number, hexed(deviance), hexed(phi), order, why, flag, iterations, *account]
 
 
 def fitted(*values):
@@ -149,9 +149,9 @@ WORK = (241, 1205, 4820, 14461)
 for code, number in enumerate([10, 11, 12, 13]):
     call("unfitted", ["unfitted"], code)
     line("unfitted", number, *answer(number, account=WORK))
-fitted(97.5, 1.0, 1, True, 5)
-fitted(float("inf"), 0.1, 11, False, 1000)
-fitted(-0.0, float("nan"), 3, True, 0)
+fitted(97.5, 1.0, 1, 6, True, 5)
+fitted(float("inf"), 0.1, 11, 0, False, 1000)
+fitted(-0.0, float("nan"), 3, 0, True, 0)
 
 call("items", ["items"], 6561)
 line("items", *[0, 0, 0, 0], *[0, 0, 0, 6561])

@@ -17,10 +17,10 @@ JOBS = json.loads((ROOT / "crates" / "rule_cases" / "jobs.json").read_text())
 
 
 def definitions(crates=CRATES):
-    """The definitions that a computation opens: (module, names)."""
+    """The definitions that a computation opens: (module, names); propositions are none of them."""
     for crate in crates:
         for path in sorted(glob.glob(str(ROOT / "crates" / crate / "specs" / "*.antt"))):
-            names = re.findall(r"(?m)^ *unfoldable pub (\S+) :", Path(path).read_text())
+            names = re.findall(r"(?m)^ *unfoldable pub (\S+) :(?!.*Type 0$)", Path(path).read_text())
             if names:
                 yield f"Rattle.{crate}.specs.{Path(path).stem}", names
 

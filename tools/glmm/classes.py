@@ -108,6 +108,7 @@ LIMITS = ["0", "1 to 999", "1000", "not given"]
 ASKED = ["Laplace", *RULES, "declined"]
 DECLINES = ["no order: product, k above 5", "no order: joint, q above 8",
             *(f"{rule}, {when}" for rule in RULES for when in ("no points", "after points", "free dispersion"))]
+WHYS = [f"why {why}" for why in range(7)]
 FLAGS = ["flag 0, Laplace", "flag 0, quadrature", "flag 1, Laplace", "flag 1, quadrature"]
 DRESSES = ["no weights, no offset", "weights, no offset", "no weights, offset", "weights, offset"]
 WAYS = ["steps halved", "a weight not above 0", "deviance NaN", "deviance infinite"]
@@ -160,6 +161,7 @@ def fitted(job, data, said, deviance):
     kind, detail = integration(job, said)
     yield "quadrature", (pair, kind)
     yield "order", (kind, detail)
+    yield "why", (rule_of(job), f"why {said['why']}")
     yield "dispersion", (pair, f"flag {said['disp']}, " + ("Laplace" if said["order"] == 1 else "quadrature"))
     yield "lists", (pair, ("weights" if job.weights else "no weights") + (", offset" if job.offset else ", no offset"))
     for name in largest(job, data, said["order"]):
@@ -191,15 +193,20 @@ def classes_of(data, text):
 # ---- what must have been met, and what cannot be
 
 ROWS_AND_COLUMNS = {
-    "family and link": (NAMES, ENDS), "quadrature": (NAMES, ASKED), "dispersion": (NAMES, FLAGS), "lists": (NAMES, DRESSES), "largest": (NAMES, LARGEST),
-    "limit": (LIMITS, ENDS), "inner fits": (ENDS[1:], ["in the first", "in a later one"])}
+    "family and link": (NAMES, ENDS), "quadrature": (NAMES, ASKED), "why": (RULES, WHYS), "dispersion": (NAMES, FLAGS), "lists": (NAMES, DRESSES),
+    "largest": (NAMES, LARGEST), "limit": (LIMITS, ENDS), "inner fits": (ENDS[1:], ["in the first", "in a later one"])}
 NAMED = {"ending": [*ENDS, *(f"refused {number}" for number in [*range(1, 8), *range(20, 26)])], "refused": CAUSES,
          "order": [("Laplace", "not asked for"), *((rule, f"order {order}") for rule in RULES for order in (3, 5, 7, 9, 11)),
                    *(("declined", cause) for cause in DECLINES)],
          "on the way": WAYS}
+DIAGONAL = "A_gg is 1 and a sum not below 0, or not finite and then end 10"
 IMPOSSIBLE = {
     ("ending", "refused 2"): "a job's lists are as long as its sizes say", ("ending", "refused 7"): "fitjob lends enough",
-    ("order", ("declined", "one effect, no points")): "A_gg is 1 and a sum not below 0, or not finite and then end 10: the first group always has its points",
+    ("order", ("declined", "one effect, no points")): DIAGONAL + ": the first group always has its points",
+    ("why", ("one effect", "why 4")): DIAGONAL,
+    **{("why", (rule, "why 2")): "the number of effects is limited with several blocks alone" for rule in RULES[:2]},
+    ("why", ("one effect", "why 3")): "orders of one dimension have no cap", ("why", ("joint", "why 3")): "8 effects at order 3 have 6,561 points, within the cap",
+    ("why", ("one effect", "why 5")): "no inverse is formed", **{("why", (rule, "why 4")): "the diagonal is looked at with one effect a group alone" for rule in RULES[1:]},
     **{("dispersion", (name, flag)): "the dispersion is fixed" for name in NAMES[:5] for flag in FLAGS[:2]},
     **{("limit", ("0", end)): "no iteration is done" for end in ENDS[:4]}}
 ALL = [*((title, (row, column)) for title, (rows, columns) in ROWS_AND_COLUMNS.items() for row in rows for column in columns),

@@ -3,13 +3,9 @@ document 000 alone, in plain loops over lists, as a second reading beside the Ru
 import math
 from families import E, GAUSSIAN, INVERSE, deviance, exp, gaussian_aic, larger, link_fun, link_inv, ln, mu_eta, over, sqrt, start_mean, variance
 from linear import Ended, cholesky, dot, forward, backward, ldl, ldl_inverse, ldl_solve, lower_inverse, total
-from rules import joint_order, log_sum_exp, product_order, rule
+from rules import DIAGONAL, SPREAD, SUM, Declined, joint_order, log_sum_exp, product_order, rule
 
 LARGEST = (2.0 - E) * 2.0**1023
-
-
-class Declined(Exception):
-    """A quadrature step that keeps Laplace, with the cause."""
 
 
 class Account:
@@ -153,7 +149,7 @@ class Mode:
         self.fit_term = problem.fit_term(self.deviance_sum)
         logs = total(ln(abs(d)) for d in step.factor[1])
         self.deviance = self.fit_term + logs + dot(step.u, step.u)
-        self.order = 1
+        self.order, self.why = 1, 0
 
 
 def laplace_fit(problem, account, phi):
@@ -179,7 +175,7 @@ def spread_factor(matrix):
     try:
         return cholesky(ldl_inverse(matrix))
     except Ended as end:
-        raise Declined("inverse" if end.args[0] == 10 else "factor")
+        raise Declined(SPREAD, "inverse" if end.args[0] == 10 else "factor")
 
 
 def grid(order, dimensions):
@@ -203,7 +199,7 @@ def log_term(log_weight, difference, inverse_phi, penalty):
 def log_inner(terms):
     value = log_sum_exp(terms)
     if not math.isfinite(value):
-        raise Declined("log sum")
+        raise Declined(SUM, "log sum")
     return -2.0 * value
 
 
@@ -215,7 +211,7 @@ def scalar_group(problem, account, mode, order, inverse_phi, g):
     """A group with one effect."""
     diagonal, u = mode.step.a[g][g], mode.step.u
     if diagonal <= E or not math.isfinite(diagonal):
-        raise Declined("diagonal")
+        raise Declined(DIAGONAL, "diagonal")
     sigma = over(1.0, sqrt(diagonal))
     terms = []
     for node, weight in zip(*rule(order)):
@@ -271,13 +267,12 @@ def inner_fit(problem, account, phi):
     mode = laplace_fit(problem, account, phi)
     job = problem.job
     single = len(job.blocks) == 1
-    order = product_order(job.n_agq, job.blocks[0][1]) if single else joint_order(job.n_agq, job.q)
-    if order is not None:
-        try:
-            mode.deviance = (product_deviance if single else joint_deviance)(problem, account, mode, order, over(1.0, larger(phi, E)))
-            mode.order = order
-        except Declined:
-            pass
+    try:
+        order = product_order(job.n_agq, job.blocks[0][1]) if single else joint_order(job.n_agq, job.q)
+        mode.deviance = (product_deviance if single else joint_deviance)(problem, account, mode, order, over(1.0, larger(phi, E)))
+        mode.order = order
+    except Declined as declined:
+        mode.why = declined.args[0]
     return mode
 
 
@@ -311,10 +306,10 @@ def results(problem, mode, phi):
 
 
 def call(job):
-    """The end's number, order, flag, iterations, the account, and the results of a fitted call."""
+    """The end's number, order, flag, iterations, the account, why it stayed with Laplace, and the results of a fitted call."""
     problem, account = Problem(job), Account()
     try:
         mode, phi, flag = fit(problem, account)
     except Ended as end:
-        return end.args[0], 0, 0, 0, account, {}
-    return 0, mode.order, flag, mode.iterations, account, results(problem, mode, phi)
+        return end.args[0], 0, 0, 0, account, 0, {}
+    return 0, mode.order, flag, mode.iterations, account, mode.why, results(problem, mode, phi)

@@ -11,6 +11,11 @@ HALVES = {  # order: the middle weight, then (node, weight) outwards
     11: (0.3694083694083694, [(0.9288689973810641, 0.24224029987396992), (1.876035020154846, 0.06613874607105782), (2.8651231606436456, 0.006720285235537264),
                               (3.9361666071299766, 0.00019567193027122338), (5.188001224374871, 8.121849790214923e-7)])}
 JOINT_MOST_Q = 8
+WISH, EFFECTS, CAP, DIAGONAL, SPREAD, SUM = range(1, 7)  # document 02, P5: why it stayed with Laplace
+
+
+class Declined(Exception):
+    """A quadrature that keeps Laplace: the number of the reason, and the cause in words."""
 
 
 def rule(order):
@@ -22,23 +27,30 @@ def rule(order):
 
 
 def order_within(wish, dimensions, most):
-    """The first order not below the wish (11 at most), stepped down until its grid has at most `most` points; None below 3."""
-    if wish < 2:
-        return None
+    """The first order not below the wish (11 at most), stepped down until its grid has at most `most` points."""
     order = next((o for o in (3, 5, 7, 9, 11) if o >= wish), 11)
     while most is not None and order**dimensions > most:
         order -= 2
         if order < 3:
-            return None
+            raise Declined(CAP, "cap")
     return order
 
 
+def wished(wish):
+    if wish < 2:
+        raise Declined(WISH, "wish")
+
+
 def product_order(wish, k):
+    wished(wish)
     return order_within(wish, k, None if k == 1 else 400)
 
 
 def joint_order(wish, q):
-    return None if q == 0 or q > JOINT_MOST_Q else order_within(wish, q, 7000)
+    wished(wish)
+    if q == 0 or q > JOINT_MOST_Q:
+        raise Declined(EFFECTS, "effects")
+    return order_within(wish, q, 7000)
 
 
 def log_sum_exp(terms):

@@ -6,7 +6,7 @@ The JSON is one object:
                job can't be read
     refused    null, or {number, byte, meaning, todo}
     end        null where refused, else {number, meaning, todo}
-    counts     null where refused, else the numbers of the end line by their names: order, disp, iters, fits, solves, tries, points
+    counts     null where refused, else the numbers of the end line by their names: order, disp, iters, fits, solves, tries, points, why
     warnings   a list of texts
     names      null where not fitted, else columns (of beta, se, z, v), effects (of u, b) and responses (of mu, eta, residual)
     results    null where not fitted, else every list by its name: deviance and phi as numbers, v as p rows
@@ -21,7 +21,7 @@ from sheet import short, sheet_beside
 from spread import LEAST, effect_spread, own_parts, slope, variance, wald
 
 NUMBERS = Path(__file__).resolve().parents[2] / "docs" / "NUMBERS.md"
-COUNTS = "end order disp iters fits solves tries points".split()
+COUNTS = "end order disp iters fits solves tries points why".split()
 RESTLESS = 0.01  # a step, in standard errors, that a fit at rest would not take
 OWN = 1e-5  # the part of a column that the others don't give, below which six digits of se are not sure
 WHOLE = 0.001  # how far a binomial count may be from a whole number
@@ -43,7 +43,7 @@ class Answer:
             self.refused = int(first.split()[1]), int(first.split()[3])
         elif re.fullmatch(" ".join(name + r" \d+" for name in COUNTS), first):
             self.counts = dict(zip(COUNTS, map(int, first.split()[1::2])))
-        else:
+        if not self.refused and not reasoned(self.counts):
             raise Unreadable(f"line 1: '{first}'")
         for at, line in enumerate(lines[1:], 2):
             self.take(at, line)
@@ -70,10 +70,21 @@ class Answer:
                 raise Unreadable(f"{len(self.lists.get(name, []))} numbers of {name}, but the job has {wanted}")
 
 
+def reasoned(counts):
+    """A fit that stayed with Laplace has a reason, and nothing else has one."""
+    return bool(counts) and counts["why"] in (range(1, 7) if counts["order"] == 1 else range(1))
+
+
 def meanings():
     """Number: what it means, and what to do; from the tables with this head."""
     tables = re.findall(r"(?m)^\| No\. \| what it means \| what to do \|\n.*\n((?:\|.*\n)+)", NUMBERS.read_text(encoding="utf-8"))
     found = re.findall(r"(?m)^\| (\d+) \| (.*) \| (.*) \|$", "".join(tables))
+    return {int(number): (means, do) for number, means, do in found}
+
+
+def reasons():
+    """Why it stayed with Laplace: what the number means, and what to do."""
+    found = re.findall(r"(?m)^\| why (\d) \| (.*) \| (.*) \|$", NUMBERS.read_text(encoding="utf-8"))
     return {int(number): (means, do) for number, means, do in found}
 
 
@@ -175,7 +186,8 @@ def warnings(job, counts, lists, names):
         yield ("the order is above 1: this deviance is no measure for choosing theta, and not to be compared with one of another n_agq. "
                "Choose theta with n_agq 1 (docs/DIFFERENCES.md).")
     if order == 1 and job.n_agq > 1:
-        yield f"n_agq {job.n_agq} was wished, but the quadrature declined or has no order for so many effects: the deviance is Laplace's."
+        means, do = reasons().get(counts["why"], ("a reason that is not known here.", "look into docs/NUMBERS.md"))
+        yield f"n_agq {job.n_agq} was wished, but the deviance is Laplace's, why {counts['why']}: {means} What to do: {do}"
     if 1 < order != job.n_agq:
         yield f"n_agq {job.n_agq} was wished, order {order} was used."
     if not math.isfinite(deviance):

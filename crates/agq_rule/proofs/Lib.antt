@@ -2,3 +2,4 @@
 pub mod Limits
 pub mod Caps
 pub mod Edges
+pub mod Whys

@@ -1,10 +1,10 @@
--- The inner fit with its quadrature. Document 01, "The inner fit", what a step that declines leaves to the fit. Assumes nothing.
+-- The inner fit with its quadrature. Document 01, "The inner fit", what a step that declines leaves to the fit; document 02, P5. Assumes nothing.
 use mathlib.Core.List.{List, _++_}
 use Prim.Native.Nat.{ℕ}
 use lib.Ieee.{Float}
 use Rattle.model.specs.Items.{Item}
 use Rattle.model.specs.declared.ends.End.{End}
-use Rattle.quadrature.specs.Orders.{sizeOf}
+use Rattle.quadrature.specs.Orders.{sizeOf, declineNumber}
 use Rattle.rule.specs.Given.{Given}
 use Rattle.rule.specs.Stop.{Mode}
 use Rattle.rule.specs.Run.{Ending, stopped, failed, Outcome, runOf}
@@ -21,6 +21,11 @@ devianceBy (Declined w) laplace = laplace
 unfoldable pub orderBy : Integral → ℕ
 orderBy (Deviance d o) = sizeOf o
 orderBy (Declined w) = 1
+
+-- why it stayed with Laplace, 0 where the rule was used
+unfoldable pub whyBy : Integral → ℕ
+whyBy (Deviance d o) = 0
+whyBy (Declined w) = declineNumber w
 
 -- how an inner fit with its quadrature ends: with a mode and what the quadrature answered, or with neither
 pub data InnerEnd : Type 0 where

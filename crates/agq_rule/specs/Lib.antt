@@ -3,4 +3,5 @@ pub mod Point
 pub mod Scale
 pub mod Term
 pub mod Steps
+pub mod Declining
 pub mod Inner

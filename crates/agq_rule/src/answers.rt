@@ -1,9 +1,10 @@
 // What a quadrature step answers, and what is reported of it.
 use quadrature::Decline;
 use quadrature::Order;
+use quadrature::decline_number;
 use quadrature::order_size;
 ghost use mathlib.Core.Path.{_≡_};
-ghost use Rattle.agq_rule.specs.Inner.{devianceBy, orderBy};
+ghost use Rattle.agq_rule.specs.Inner.{devianceBy, orderBy, whyBy};
 
 // A deviance with the order that was used, or why there is none.
 pub enum Integral {
@@ -28,5 +29,15 @@ pub fn order_by(integral: Integral) -> usize
     match integral {
         Integral::Deviance(_, order) => order_size(order),
         Integral::Declined(_) => 1,
+    }
+}
+
+// Why it stayed with Laplace: 0 where the rule was used.
+pub fn why_by(integral: Integral) -> usize
+    ensures { λ r. ⌜ r ≡ whyBy integral ⌝ }
+{
+    match integral {
+        Integral::Deviance(_, _) => 0,
+        Integral::Declined(decline) => decline_number(decline),
     }
 }

@@ -4,3 +4,4 @@ mod answers;
 pub use answers::Integral;
 pub use answers::deviance_by;
 pub use answers::order_by;
+pub use answers::why_by;

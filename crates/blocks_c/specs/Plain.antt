@@ -1,4 +1,4 @@
--- What a call over a list of blocks shows to C: an answer of plain numbers, and the lent slices. Document 01, "Numbers of an answer". Assumes nothing.
+-- What a call over a list of blocks shows to C: an answer of plain numbers, and the lent slices. Document 01, "Numbers of an answer"; document 02, P5. Assumes nothing.
 use mathlib.Core.Bool.{cond}
 use mathlib.Core.List.{List}
 use Rattle.model.specs.declared.ends.Answer.{Answer}
@@ -10,7 +10,7 @@ use Rattle.blocks_c.specs.Coded.{settingsOf}
 use Rattle.blocks_c.specs.declared.CodedSettings.{CodedSettings}
 use Rattle.blocks_c.specs.declared.PlainAnswer.{PlainAnswer}
 
--- the numbers of an answer, and of its account
+-- the numbers of an answer, of its account, and why
 unfoldable pub plainOf : Answer → PlainAnswer
 plainOf a =
     record {
@@ -24,6 +24,7 @@ plainOf a =
       solves = a .account .solves;
       tries = a .account .tries;
       points = a .account .points;
+      why = a .why;
     }
 
 -- what is returned, and the lent slices afterwards

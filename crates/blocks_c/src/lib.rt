@@ -32,7 +32,7 @@ pub struct CodedSettings {
     pub entries: usize,
 }
 
-// An answer as plain numbers; the flag is 0 or 1.
+// An answer as plain numbers; the flag is 0 or 1. What requests append stands last, so that no field moves.
 #[repr(C)]
 pub struct PlainAnswer {
     pub number: u64,
@@ -45,6 +45,7 @@ pub struct PlainAnswer {
     pub solves: u64,
     pub tries: u64,
     pub points: u64,
+    pub why: u64,
 }
 
 fn limit_in(code: usize) -> Limit
@@ -119,6 +120,7 @@ fn plain(answer: Answer) -> PlainAnswer
         solves: account.solves,
         tries: account.tries,
         points: account.points,
+        why: answer.why as u64,
     }
 }
 

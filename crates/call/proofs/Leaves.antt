@@ -19,6 +19,7 @@ use Rattle.layout.specs.WorkTerms.{termsLength}
 use Rattle.family.specs.declared.carried.CarriedFamily.{CarriedFamily}
 use Rattle.family.specs.declared.carried.CarriedLink.{CarriedLink}
 use Rattle.results.specs.Nine.{resultsOf}
+use Rattle.agq_rule.specs.Inner.{whyBy}
 use Rattle.model.specs.Inputs.{Inputs}
 use Rattle.table.specs.Table.{tableOf}
 use Rattle.table.specs.declared.verdicts.Verdict.the-variants.{Accepted, Refused}
@@ -91,3 +92,12 @@ module _ (t : Settings) (s : Shape) (I : Inputs) (L : Lent) (f : CarriedFamily) 
   zero-fitted h =
       let fit = askedFit f l t s I in
       zero-result (fit .outcome) (tally (fit .items)) (rw (accepted-left t s I L f l e) at h)
+
+  -- why it stayed with Laplace: what the quadrature of the last inner fit answered, as it was answered there
+  pub fitted-why : (d : Dispersed Fitted) → askedFit f l t s I .outcome ≡ result d → callOf t s I L .answer .why ≡ whyBy (d .last .integral)
+  unfolding fitLeft answerOf resultAnswer fittedAnswer
+  fitted-why d q = rw (accepted-left t s I L f l e, q) refl
+
+  pub unfitted-why : (end : End) → askedFit f l t s I .outcome ≡ noResult end → callOf t s I L .answer .why ≡ 0
+  unfolding fitLeft answerOf resultAnswer unfittedAnswer
+  unfitted-why end q = rw (accepted-left t s I L f l e, q) refl

@@ -6,4 +6,5 @@ pub mod CappedBy
 pub mod Told
 pub mod Unique
 pub mod Stopped
+pub mod Whys
 pub mod When

@@ -65,7 +65,7 @@ module _ (t : Settings) (s : Shape) (I : Inputs) (L : Lent) (f : CarriedFamily) 
   taken d q =
       let w = stood given (t .«n_agq») (d .phi) (d .last) limit (fit-ran given (t .«n_agq») limit d q) in
       let r = run-stops given (d .phi) limit (startMeans given) (d .last .mode) .0 (w .ending) in
-      rw (accepted-left t s I L f l e, q) (record { first = r .0; within = r .1; iterations = refl; deviance = rw (w .integral) refl; order = rw (w .integral) refl; results = refl })
+      rw (accepted-left t s I L f l e, q) (record { first = r .0; within = r .1; iterations = refl; deviance = rw (w .integral) refl; order = rw (w .integral) refl; why = rw (w .integral) refl; results = refl })
 
   pub call-first-stop : callOf t s I L .answer .number ≡ 0 → (k : Mode) × Taken given (t .«n_agq») limit (callOf t s I L .answer) (callOf t s I L .lent .results) k
   call-first-stop h = let z = zero-fitted t s I L f l e h in (z .0 .last .mode, taken (z .0) (z .1))

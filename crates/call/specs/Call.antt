@@ -21,7 +21,7 @@ use Rattle.rule.specs.Given.{Given, designOf, givenOf}
 use Rattle.rule.specs.Stop.{Mode}
 use Rattle.rule.specs.Run.{startMeans, startAt, FirstStop}
 use Rattle.agq_rule.specs.Steps.{quadratureOf}
-use Rattle.agq_rule.specs.Inner.{devianceBy, orderBy}
+use Rattle.agq_rule.specs.Inner.{devianceBy, orderBy, whyBy}
 use Rattle.results.specs.Nine.{Results, nine, resultsOf}
 use Rattle.model.specs.Inputs.{Inputs}
 use Rattle.table.specs.Table.{tableOf}
@@ -110,11 +110,12 @@ callOf t s I L = callBy (tableOf 1 t s I (lengthsOf L)) t s I L
 abbrev pub FitNumber : ℕ → Type 0
 FitNumber n = (n ≡ 0) ⊎ ((10 ≤ n) × (n ≤ 13))
 
--- an answer a with the results R is that of the mode k: k is the first stop of the run at the reported phi from the starting means, within the limit, and iterations, deviance, order and results are its own
+-- an answer a with the results R is that of the mode k: k is the first stop of the run at the reported phi from the starting means, within the limit, and iterations, deviance, order, reason and results are its own
 pub record Taken (G : Given) (wish limit : ℕ) (a : Answer) (R : Results) (k : Mode) : Type 0 where
   pub first : FirstStop G (a .phi) (startAt G (startMeans G)) k
   pub within : k .iterations ≤ limit
   pub iterations : a .iterations ≡ k .iterations
   pub deviance : a .deviance ≡ devianceBy (quadratureOf G wish k (a .phi) .answer) (k .laplace)
   pub order : a .order ≡ orderBy (quadratureOf G wish k (a .phi) .answer)
+  pub why : a .why ≡ whyBy (quadratureOf G wish k (a .phi) .answer)
   pub results : R ≡ resultsOf G k

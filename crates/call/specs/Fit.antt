@@ -1,4 +1,4 @@
--- The fit that a call asks for, over the inner fit with its quadrature, and its answer. Document 01, "The inner fit", on dispersion, and "Numbers of an answer". Assumes nothing.
+-- The fit that a call asks for, over the inner fit with its quadrature, and its answer. Document 01, "The inner fit", on dispersion, and "Numbers of an answer"; document 02, P5. Assumes nothing.
 use mathlib.Core.Bool.{Bool, true, false}
 use Prim.Native.Nat.{ℕ}
 use lib.Ieee.{Float}
@@ -10,7 +10,7 @@ use Rattle.family.specs.Family.{usesDispersion}
 use Rattle.rule.specs.Given.{Given, nOf}
 use Rattle.rule.specs.Stop.{Mode}
 use Rattle.rule.specs.Run.{startMeans}
-use Rattle.agq_rule.specs.Inner.{InnerEnd, withMode, withoutMode, Inner, devianceBy, orderBy, innerOf}
+use Rattle.agq_rule.specs.Inner.{InnerEnd, withMode, withoutMode, Inner, devianceBy, orderBy, whyBy, innerOf}
 use Rattle.agq_rule.specs.declared.answers.Integral.{Integral}
 use Rattle.dispersion.specs.Phi.{effectiveN}
 use Rattle.dispersion.specs.Rounds.{Result, result, noResult, Total, Dispersed, dispersionOf, fixedOf}
@@ -50,7 +50,7 @@ fitOf G wish L = fitBy (usesDispersion (G .family)) G wish L
 unfoldable pub resultAnswer : Result (Dispersed Fitted) → Account → Answer
 resultAnswer (noResult e) a = unfittedAnswer e a
 resultAnswer (result d) a =
-    fittedAnswer (devianceBy (d .last .integral) (d .last .mode .laplace)) (d .phi) (orderBy (d .last .integral)) (d .converged) (d .last .mode .iterations) a
+    fittedAnswer (devianceBy (d .last .integral) (d .last .mode .laplace)) (d .phi) (orderBy (d .last .integral)) (whyBy (d .last .integral)) (d .converged) (d .last .mode .iterations) a
 
 -- the answer of a fit: its account is the tally of its items
 unfoldable pub answerOf : Total (Dispersed Fitted) → Answer

@@ -51,7 +51,7 @@ use Rattle.quadrature.specs.LogSum.{maxTo, expTerm, logSumAt, logSumExp}
 use Rattle.quadrature.specs.Orders.{sizeOf, orderOf, firstOrder, wished, withinCap, nextLower, downFrom, firstWithin, cappedFrom, productCapped, productOrder, jointCapped, jointOrder}
 use Rattle.quadrature.specs.Rules.{nodesOf, weightsOf, padded, ruleOf}
 use Rattle.spread.specs.Spread.{lowerAt, spreadTerm, spreadAt}
-use Rattle.agq_rule.specs.Inner.{devianceBy, orderBy, withPoints, afterRun, innerWith, innerOf}
+use Rattle.agq_rule.specs.Inner.{devianceBy, orderBy, whyBy, withPoints, afterRun, innerWith, innerOf}
 use Rattle.agq_rule.specs.Point.{digitEntry, nodeAt, pointOf, logEntry, logWeightAt, logWeightOf}
 use Rattle.agq_rule.specs.Scale.{sigmaOf, badDiagonal, afterCholesky, choleskyScale, inverseScale, afterLdl, ldlScale, blockScale, sectionAt, sectionOf}
 use Rattle.agq_rule.specs.Steps.{answers, pointsBefore, afterSum, sumThen, termsThen, afterDiagonal, oneGroup, afterScale, severalGroup, groupBy, withSum, groupsFrom, productWith, productStep, jointTotal, afterJoint, jointWith, jointStep, stepBy, quadratureOf}
@@ -87,11 +87,11 @@ abbrev room : LentLengths
 room = record { beta = 1; se = 1; z = 1; u = 2; b = 2; mu = 3; eta = 3; residual = 3; v = 1; rows = 48; matrices = 56; terms = 7000 }
 
 abbrev answer : Lent → Told
-answer L = record { answer = record { number = 0; deviance = bits 0x4024_550b_af6c_3e17; phi = bits 0x3ff0_0000_0094_566a; order = 5; converged = true; iterations = 2; account = record { fits = 3; solves = 6; tries = 6; points = 30 } }; results = record { beta = bits 0x4004_3eac_f582_832a ∷ []; se = bits 0x3fed_7880_0fc7_839b ∷ []; z = bits 0x4005_fb79_55cf_ef79 ∷ []; u = bits 0xbfe5_b901_12fe_e743 ∷ bits 0xbfc4_1197_95bc_68d8 ∷ []; b = bits 0xbfec_3d4e_324b_5fd7 ∷ bits 0xbfca_16de_a90e_884c ∷ []; mu = bits 0x3ffa_5eb2_d1df_5668 ∷ bits 0x4002_9d3f_0af1_9aa5 ∷ bits 0x4003_6df6_003a_0ee8 ∷ []; eta = bits 0x3ffa_5eb2_d1df_5668 ∷ bits 0x4002_9d3f_0af1_9aa5 ∷ bits 0x4003_6df6_003a_0ee8 ∷ []; residual = bits 0xbfd6_4798_144a_266c ∷ bits 0xbff8_6db1_4916_687d ∷ bits 0x3ff4_91b1_ac27_02aa ∷ []; v = bits 0x3feb_242d_df10_7528 ∷ [] } }
+answer L = record { answer = record { number = 0; deviance = bits 0x4024_550b_af6c_3e17; phi = bits 0x3ff0_0000_0094_566a; order = 5; why = 0; converged = true; iterations = 2; account = record { fits = 3; solves = 6; tries = 6; points = 30 } }; results = record { beta = bits 0x4004_3eac_f582_832a ∷ []; se = bits 0x3fed_7880_0fc7_839b ∷ []; z = bits 0x4005_fb79_55cf_ef79 ∷ []; u = bits 0xbfe5_b901_12fe_e743 ∷ bits 0xbfc4_1197_95bc_68d8 ∷ []; b = bits 0xbfec_3d4e_324b_5fd7 ∷ bits 0xbfca_16de_a90e_884c ∷ []; mu = bits 0x3ffa_5eb2_d1df_5668 ∷ bits 0x4002_9d3f_0af1_9aa5 ∷ bits 0x4003_6df6_003a_0ee8 ∷ []; eta = bits 0x3ffa_5eb2_d1df_5668 ∷ bits 0x4002_9d3f_0af1_9aa5 ∷ bits 0x4003_6df6_003a_0ee8 ∷ []; residual = bits 0xbfd6_4798_144a_266c ∷ bits 0xbff8_6db1_4916_687d ∷ bits 0x3ff4_91b1_ac27_02aa ∷ []; v = bits 0x3feb_242d_df10_7528 ∷ [] } }
 
 -- in slices of these lengths
 computed : (L : Lent) → toldOf (callBy (tableOf 1 settings shape inputs room) settings shape inputs L) ≡ answer L
-unfolding toldOf add sub mul div neg lt le eq ne isNan ofBits toBits ofInt toUnsigned round ruled fillBy fillDown build matrix fillTo fillAt gridTo finite infinite negative absF maxF clampF row notFalling goodStarts columnFits goodColumns goodRow goodRows storedIn findTo placeIn stored valueAt rowSum bothSum sumTo sumFrom addWhere sumWhere allTo anyTo withDigit nearestFrom placeOf rootOf unitsOf sqrtOf expTable expRow logTable logRow reduced rowTail scaleBits excess scaled large refitted fitted small edge ended expMain aboveZero expFar expOf quotientOf restOf scaledOf upOf downOf grownOf shrunkOf grownBy shrunkBy risingOf fallingOf expm1Main aboveMinusOne expm1Of nearOne lnNear lnRow lnMain lnFar lnOf tailOf lostOf splitOf farOf ln1pMain ln1pOf nearPoly nearSum nearOf lnSum wholeOf powerOf inversePowerOf _⊞_ refusedAnswer unfittedAnswer fittedAnswer triesCap pointsCap innerCapOf countOf tally familyCoded linkCoded limitOf goodLimit goodSizes totalTo blockEffects blockThetas goodBlock goodShape linksFor among validFor varianceOf successTerm binomialTerm poissonTerm proportion devResid initializeMu clampE linkFun logistic linkInv cloglogSlope muEta logWeights gaussianTerm gaussianAic aicOf lengthsAgree aicAnswer each devAt ldlTerm ldlSum ldlPivot ldlBelow ldlRule ldlOf ldlPasses ldlEnd choleskyPivot choleskyBelow choleskyRule choleskyOf choleskyPasses choleskyEnd unitAt unitColumn ldlColumn ldlInverseAt ldlColumnAt ldlInverse choleskyColumn choleskyColumnAt choleskyInverse vAt acrossTerm downTerm unitForwardRule unitBackwardRule overDRule forwardRule backwardRule unitForward overD unitBackward forward backward ldlSolve choleskySolve turnedAt swapped rowTurned squareTurned rowsDot triangle rowBy usable positive andThen firstBad reach blockOf columnStart columnIn columnOf isEntry lambdaAt lambdaFull acrossRow downColumn timesTerm lambdaTimesAt transposedTerm lambdaTransposedAt rightTerm rightAt leftTerm systemAt columnAddedAt effectAt normalAt storedTerm ztTimesAt weightedTerm ztwzAt effectTerm zTimesAt addedAt absent plusOffset lessOffset vFrom vOf seAt seOf zValueAt zValues residualAt residualsOf itemsBefore failedAfter afterStop moved afterSearch afterSolve runFrom startMeanAt startMeans startEtaAt startEta startAt runOf ztwzOf rightColumns systemOf factorOf ztTimes sideOf wyOf unsolvedColumn solvedColumn solvedColumnAt solvedColumns normalEntry normalOf normalSideAt normalSide betaOf effectsAfter bOf zTimes rawAt rawOf reducedOf foundWith foundBeta found afterRoot solveRoot solveNormal solveReduced afterFactor solveFactor solveSystem solveWorking solveOf stops deviancesOf devianceSum fitTerm logPivotAt logPivots laplaceOf modeFit modeSum modeDevs modeOf candidateAt candidateOf fineEta meanAt meansOf squareAt addTo pwrssOf afterPwrss tryPwrss afterMeans tryMeans afterEta tryEta tryOf itemBefore afterTry triesFrom triesOf trialOf workingWeight workingWeightAt divisor workingResponse workingResponseAt workingWeights workingResponses targetAt targets weightedTargets weightedColumn maxTo expTerm logSumAt logSumExp sizeOf orderOf firstOrder wished withinCap nextLower downFrom firstWithin cappedFrom productCapped productOrder jointCapped jointOrder nodesOf weightsOf padded ruleOf lowerAt spreadTerm spreadAt devianceBy orderBy withPoints afterRun innerWith innerOf digitEntry nodeAt pointOf logEntry logWeightAt logWeightOf sigmaOf badDiagonal afterCholesky choleskyScale inverseScale afterLdl ldlScale blockScale sectionAt sectionOf answers pointsBefore afterSum sumThen termsThen afterDiagonal oneGroup afterScale severalGroup groupBy withSum groupsFrom productWith productStep jointTotal afterJoint jointWith jointStep stepBy quadratureOf meansAt effectsDeviances gainAt gainOf inversePhi deltaOf penaltyAt belongs termOf oneMoved oneTrial oneTermAt oneTerm movedAt trialBy groupPenalty groupTermAt groupTerm jointPenalty jointTermAt jointTerm effectiveN unusable estimateOf close mixed nextAt nextBy roundOf totalBefore withFlag lastFit afterRound afterFit dispersionFrom dispersionOf fixedOf refuseUnless withLink withFamily carriedPair tableOf absentOr goodInputs goodResults goodWork allFinite finiteNumbers resultsFrom resultsOf lengthsOf callGiven resultsAfter fitLeft callBy callOf resultBy totalOf innerAt fitBy fitOf resultAnswer answerOf
+unfolding toldOf add sub mul div neg lt le eq ne isNan ofBits toBits ofInt toUnsigned round ruled fillBy fillDown build matrix fillTo fillAt gridTo finite infinite negative absF maxF clampF row notFalling goodStarts columnFits goodColumns goodRow goodRows storedIn findTo placeIn stored valueAt rowSum bothSum sumTo sumFrom addWhere sumWhere allTo anyTo withDigit nearestFrom placeOf rootOf unitsOf sqrtOf expTable expRow logTable logRow reduced rowTail scaleBits excess scaled large refitted fitted small edge ended expMain aboveZero expFar expOf quotientOf restOf scaledOf upOf downOf grownOf shrunkOf grownBy shrunkBy risingOf fallingOf expm1Main aboveMinusOne expm1Of nearOne lnNear lnRow lnMain lnFar lnOf tailOf lostOf splitOf farOf ln1pMain ln1pOf nearPoly nearSum nearOf lnSum wholeOf powerOf inversePowerOf _⊞_ refusedAnswer unfittedAnswer fittedAnswer triesCap pointsCap innerCapOf countOf tally familyCoded linkCoded limitOf goodLimit goodSizes totalTo blockEffects blockThetas goodBlock goodShape linksFor among validFor varianceOf successTerm binomialTerm poissonTerm proportion devResid initializeMu clampE linkFun logistic linkInv cloglogSlope muEta logWeights gaussianTerm gaussianAic aicOf lengthsAgree aicAnswer each devAt ldlTerm ldlSum ldlPivot ldlBelow ldlRule ldlOf ldlPasses ldlEnd choleskyPivot choleskyBelow choleskyRule choleskyOf choleskyPasses choleskyEnd unitAt unitColumn ldlColumn ldlInverseAt ldlColumnAt ldlInverse choleskyColumn choleskyColumnAt choleskyInverse vAt acrossTerm downTerm unitForwardRule unitBackwardRule overDRule forwardRule backwardRule unitForward overD unitBackward forward backward ldlSolve choleskySolve turnedAt swapped rowTurned squareTurned rowsDot triangle rowBy usable positive andThen firstBad reach blockOf columnStart columnIn columnOf isEntry lambdaAt lambdaFull acrossRow downColumn timesTerm lambdaTimesAt transposedTerm lambdaTransposedAt rightTerm rightAt leftTerm systemAt columnAddedAt effectAt normalAt storedTerm ztTimesAt weightedTerm ztwzAt effectTerm zTimesAt addedAt absent plusOffset lessOffset vFrom vOf seAt seOf zValueAt zValues residualAt residualsOf itemsBefore failedAfter afterStop moved afterSearch afterSolve runFrom startMeanAt startMeans startEtaAt startEta startAt runOf ztwzOf rightColumns systemOf factorOf ztTimes sideOf wyOf unsolvedColumn solvedColumn solvedColumnAt solvedColumns normalEntry normalOf normalSideAt normalSide betaOf effectsAfter bOf zTimes rawAt rawOf reducedOf foundWith foundBeta found afterRoot solveRoot solveNormal solveReduced afterFactor solveFactor solveSystem solveWorking solveOf stops deviancesOf devianceSum fitTerm logPivotAt logPivots laplaceOf modeFit modeSum modeDevs modeOf candidateAt candidateOf fineEta meanAt meansOf squareAt addTo pwrssOf afterPwrss tryPwrss afterMeans tryMeans afterEta tryEta tryOf itemBefore afterTry triesFrom triesOf trialOf workingWeight workingWeightAt divisor workingResponse workingResponseAt workingWeights workingResponses targetAt targets weightedTargets weightedColumn maxTo expTerm logSumAt logSumExp sizeOf orderOf firstOrder wished withinCap nextLower downFrom firstWithin cappedFrom productCapped productOrder jointCapped jointOrder nodesOf weightsOf padded ruleOf lowerAt spreadTerm spreadAt devianceBy orderBy whyBy withPoints afterRun innerWith innerOf digitEntry nodeAt pointOf logEntry logWeightAt logWeightOf sigmaOf badDiagonal afterCholesky choleskyScale inverseScale afterLdl ldlScale blockScale sectionAt sectionOf answers pointsBefore afterSum sumThen termsThen afterDiagonal oneGroup afterScale severalGroup groupBy withSum groupsFrom productWith productStep jointTotal afterJoint jointWith jointStep stepBy quadratureOf meansAt effectsDeviances gainAt gainOf inversePhi deltaOf penaltyAt belongs termOf oneMoved oneTrial oneTermAt oneTerm movedAt trialBy groupPenalty groupTermAt groupTerm jointPenalty jointTermAt jointTerm effectiveN unusable estimateOf close mixed nextAt nextBy roundOf totalBefore withFlag lastFit afterRound afterFit dispersionFrom dispersionOf fixedOf refuseUnless withLink withFamily carriedPair tableOf absentOr goodInputs goodResults goodWork allFinite finiteNumbers resultsFrom resultsOf lengthsOf callGiven resultsAfter fitLeft callBy callOf resultBy totalOf innerAt fitBy fitOf resultAnswer answerOf
 computed L = refl
 
 pub holds : (L : Lent) → lengthsOf L ≡ room → toldOf (callOf settings shape inputs L) ≡ answer L

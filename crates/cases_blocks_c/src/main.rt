@@ -132,6 +132,7 @@ fn put_counts(a: PlainAnswer) {
     put_named(b" solves", a.solves);
     put_named(b" tries", a.tries);
     put_named(b" points", a.points);
+    put_named(b" why", a.why);
 }
 
 fn put_answer(a: PlainAnswer) {

@@ -121,6 +121,7 @@ fn put_answer(a: Answer) {
     put_named(b" iters", a.iterations as u64);
     let account = a.account;
     put_account(account);
+    put_named(b" why", a.why as u64);
     put_numbers(a.deviance, a.phi);
 }
 

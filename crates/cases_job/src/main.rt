@@ -213,6 +213,7 @@ fn end_lines() {
         deviance: 0.0,
         phi: 0.0,
         order: 0,
+        why: 0,
         converged: false,
         iterations: 0,
         account: Account {
@@ -227,6 +228,7 @@ fn end_lines() {
         deviance: 0.0,
         phi: 0.0,
         order: 10000000000000000000,
+        why: 6,
         converged: true,
         iterations: 9999999999999999999,
         account: Account {

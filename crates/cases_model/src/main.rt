@@ -139,6 +139,7 @@ fn put_answer(answer: Answer) {
     text::put_double(answer.deviance);
     text::put_double(answer.phi);
     put_size(answer.order);
+    put_size(answer.why);
     text::put_test(answer.converged);
     put_size(answer.iterations);
     let account = answer.account;
@@ -190,6 +191,7 @@ fn fitted() {
     put_answer(Answer::fitted(
         fed::number(),
         fed::number(),
+        fed::count(),
         fed::count(),
         fed::count() == 1,
         fed::count(),

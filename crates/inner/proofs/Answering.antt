@@ -150,6 +150,7 @@ module _ (G : Given) (wish : ℕ) (phi : Float) (L : ℕ) (mu r r1 m m1 t t1 : L
             sum = h .sum;
             deviance = ap (devianceBy (a .answer)) (h .laplace-deviance);
             order = refl;
+            why = refl;
           }
 
       counted : fit .account ⊞ pointsOf (a .points) ≡ tally (runOf G phi L mu .items ++ replicate (a .points) aPoint)

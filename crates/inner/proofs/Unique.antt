@@ -21,12 +21,12 @@ use Rattle.inner.specs.declared.answers.InnerAnswer.{InnerAnswer}
 
 -- answers with the same fields are the same
 pub same-answer : {a b : InnerAnswer} → a .end ≡ b .end → a .iterations ≡ b .iterations → a .«in_second» ≡ b .«in_second» → a .«deviance_sum» ≡ b .«deviance_sum» → a .deviance ≡ b .deviance → a .order ≡ b .order
-    → a .account ≡ b .account → a ≡ b
-same-answer e1 e2 e3 e4 e5 e6 e7 = λ i. record { end = e1 i; iterations = e2 i; «in_second» = e3 i; «deviance_sum» = e4 i; deviance = e5 i; order = e6 i; account = e7 i }
+    → a .why ≡ b .why → a .account ≡ b .account → a ≡ b
+same-answer e1 e2 e3 e4 e5 e6 e7 e8 = λ i. record { end = e1 i; iterations = e2 i; «in_second» = e3 i; «deviance_sum» = e4 i; deviance = e5 i; order = e6 i; why = e7 i; account = e8 i }
 
 told-once : (o : InnerEnd) (G : Given) (r r' m m' : List Float) (a b : InnerAnswer) → a .account ≡ b .account → AnswerTold o G r m a → AnswerTold o G r' m' b → a ≡ b
 told-once (withMode k i) G r r' m m' a b e x y =
-    same-answer (x .end ∙ sym (y .end)) (x .iterations ∙ sym (y .iterations)) (x .results .place ∙ sym (y .results .place)) (x .sum ∙ sym (y .sum)) (x .deviance ∙ sym (y .deviance)) (x .order ∙ sym (y .order)) e
+    same-answer (x .end ∙ sym (y .end)) (x .iterations ∙ sym (y .iterations)) (x .results .place ∙ sym (y .results .place)) (x .sum ∙ sym (y .sum)) (x .deviance ∙ sym (y .deviance)) (x .order ∙ sym (y .order)) (x .why ∙ sym (y .why)) e
 told-once (withoutMode f) G r r' m m' a b e x y = x ∙ rw e refl ∙ sym y
 
 -- one answer

@@ -1,4 +1,4 @@
--- What the inner fit with its quadrature answers and leaves. Document 01, "The inner fit". Assumes nothing.
+-- What the inner fit with its quadrature answers and leaves. Document 01, "The inner fit"; document 02, P5. Assumes nothing.
 use mathlib.Core.Path.{_≡_}
 use mathlib.Core.List.{List}
 use mathlib.Core.Bool.{false}
@@ -18,18 +18,18 @@ use Rattle.rule.specs.Stop.{Mode}
 use Rattle.pirls.specs.Inner.{HoldsResults}
 use Rattle.pirls.specs.declared.run.Ended.the-variants.{Stopped, Failed}
 use Rattle.pirls.specs.declared.run.InnerFit.{InnerFit}
-use Rattle.agq_rule.specs.Inner.{InnerEnd, withMode, withoutMode, devianceBy, orderBy, innerOf}
+use Rattle.agq_rule.specs.Inner.{InnerEnd, withMode, withoutMode, devianceBy, orderBy, whyBy, innerOf}
 use Rattle.agq_rule.specs.declared.answers.Integral.{Integral}
 use Rattle.sums.specs.declared.answers.Quadrature.{Quadrature}
 use Rattle.inner.specs.declared.answers.InnerAnswer.{InnerAnswer}
 
 -- an inner fit without a result: its end and its account, and zero everywhere else
 abbrev pub failedAnswer : End → Account → InnerAnswer
-failedAnswer e a = record { end = Failed e; iterations = 0; «in_second» = false; «deviance_sum» = zeroF; deviance = zeroF; order = 0; account = a }
+failedAnswer e a = record { end = Failed e; iterations = 0; «in_second» = false; «deviance_sum» = zeroF; deviance = zeroF; order = 0; why = 0; account = a }
 
 -- a fit that stopped, with what its quadrature answers: the points are counted, whatever became of them
 abbrev pub stoppedAnswer : InnerFit → Quadrature → InnerAnswer
-stoppedAnswer f a = record { end = Stopped; iterations = f .iterations; «in_second» = f .«in_second»; «deviance_sum» = f .«deviance_sum»; deviance = devianceBy (a .answer) (f .laplace); order = orderBy (a .answer); account = f .account ⊞ pointsOf (a .points) }
+stoppedAnswer f a = record { end = Stopped; iterations = f .iterations; «in_second» = f .«in_second»; «deviance_sum» = f .«deviance_sum»; deviance = devianceBy (a .answer) (f .laplace); order = orderBy (a .answer); why = whyBy (a .answer); account = f .account ⊞ pointsOf (a .points) }
 
 -- the answer holds the mode k with what the quadrature answered, i; the work slices hold what the results are made of
 pub record HoldsAnswer (G : Given) (k : Mode) (i : Integral) (rows matrices : List Float) (a : InnerAnswer) : Type 0 where
@@ -39,6 +39,7 @@ pub record HoldsAnswer (G : Given) (k : Mode) (i : Integral) (rows matrices : Li
   pub sum : a .«deviance_sum» ≡ k .devSum
   pub deviance : a .deviance ≡ devianceBy i (k .laplace)
   pub order : a .order ≡ orderBy i
+  pub why : a .why ≡ whyBy i
 
 -- the answer says how the inner fit ended
 abbrev pub AnswerTold : InnerEnd → Given → (rows matrices : List Float) → InnerAnswer → Type 0

@@ -1,6 +1,7 @@
 // What an inner fit answers after its quadrature.
 use agq_rule::deviance_by;
 use agq_rule::order_by;
+use agq_rule::why_by;
 use model::Account;
 use model::End;
 use pirls::Ended;
@@ -18,6 +19,7 @@ pub struct InnerAnswer {
     pub deviance_sum: f64,
     pub deviance: f64,
     pub order: usize,
+    pub why: usize,
     pub account: Account,
 }
 
@@ -32,11 +34,12 @@ pub fn failed_answer(end: End, account: Account) -> InnerAnswer
         deviance_sum: 0.0,
         deviance: 0.0,
         order: 0,
+        why: 0,
         account,
     }
 }
 
-// A fit that stopped, with its quadrature: declining keeps Laplace and order 1, and the points are counted either way.
+// A fit that stopped, with its quadrature: declining keeps Laplace and order 1 and tells why, and the points are counted either way.
 pub fn answer_of(fit: InnerFit, quadrature: Quadrature) -> InnerAnswer
     requires { ⌜ SumFits (fit .account) (pointsOf (quadrature .points)) ⌝ }
     ensures { λ a. ⌜ a ≡ stoppedAnswer fit quadrature ⌝ }
@@ -46,6 +49,7 @@ pub fn answer_of(fit: InnerFit, quadrature: Quadrature) -> InnerAnswer
     let account = fit.account.plus(points);
     let deviance = deviance_by(integral, fit.laplace);
     let order = order_by(integral);
+    let why = why_by(integral);
     InnerAnswer {
         end: Ended::Stopped,
         iterations: fit.iterations,
@@ -53,6 +57,7 @@ pub fn answer_of(fit: InnerFit, quadrature: Quadrature) -> InnerAnswer
         deviance_sum: fit.deviance_sum,
         deviance,
         order,
+        why,
         account,
     }
 }

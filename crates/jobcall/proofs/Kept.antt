@@ -27,7 +27,7 @@ use Rattle.call.specs.Call.{Lent, lengthsOf, callOf}
 use Rattle.call.proofs.Leaves.{refused-left, askedFit, unfitted-answer, fitted-number}
 use Rattle.jobfit.specs.Done.{lentFor, done, resultsBy, doneOf, doneFor}
 use Rattle.jobfit.proofs.Lent.{refusal-some}
-use Rattle.jobcall.specs.Told.{Buffers, returnedBy, toldBy, answered, counted, withTheta, fitJobOf, fitJobThetaOf}
+use Rattle.jobcall.specs.Told.{Buffers, countsLength, returnedBy, toldBy, answered, counted, withTheta, fitJobOf, fitJobThetaOf}
 
 -- all but the counts is as lent
 pub record AsLent (before after : Buffers) : Type 0 where
@@ -84,9 +84,9 @@ answered-kept (sound j) B h =
 
 counted-kept : (r : Read) (B : Buffers) → (counted r B .returned ≡ 0 → ⊥) → AsLent B (counted r B .after)
 unfolding counted
-counted-kept r B h = by (leb 9 (length (B .counts))) refl
+counted-kept r B h = by (leb countsLength (length (B .counts))) refl
   where
-    by : (b : Bool) → leb 9 (length (B .counts)) ≡ b → AsLent B (counted r B .after)
+    by : (b : Bool) → leb countsLength (length (B .counts)) ≡ b → AsLent B (counted r B .after)
     by true e = rw e (answered-kept r B (λ (z : answered r B .returned ≡ 0). h (rw e z)))
     by false e = rw e (record { rows = refl; matrices = refl; terms = refl; results = refl })
 

@@ -1,5 +1,5 @@
 -- The laws of the call with a job. Assumes nothing.
-pub mod Nine
+pub mod Stores
 pub mod Telling
 pub mod Kept
 pub mod Unique

@@ -19,7 +19,7 @@ use Rattle.reader.specs.declared.whole.Header.{Header}
 use Rattle.jobfit.specs.Done.{done, doneFor}
 use Rattle.jobfit.specs.Room.{frontsOf}
 use Rattle.jobfit.proofs.Reading.{beside, ReadJob}
-use Rattle.jobcall.specs.Told.{Buffers, buffers, Told, told, countsOf, returnedBy, toldBy, answered, counted, withTheta, thetaBy}
+use Rattle.jobcall.specs.Told.{Buffers, buffers, Told, told, countsLength, countsOf, returnedBy, toldBy, answered, counted, withTheta, thetaBy}
 
 -- ---- a job that cannot be read
 -- it is the same with any theta
@@ -57,10 +57,10 @@ unfolding toldBy
 read-told t s I rows₀ matrices₀ terms₀ results₀ rows matrices terms results counts after a r d q k = rw (← d, q, k) refl
 
 -- ---- without room for the counts, and with
-pub short-told : (r : Read) (B : Buffers) → length (B .counts) < 9 → told 2 B ≡ counted r B
+pub short-told : (r : Read) (B : Buffers) → length (B .counts) < countsLength → told 2 B ≡ counted r B
 unfolding counted
-short-told r B l = rw (lt-leb 9 (length (B .counts)) l) refl
+short-told r B l = rw (lt-leb countsLength (length (B .counts)) l) refl
 
-pub long-told : (r : Read) (B : Buffers) (t : Told) → 9 ≤ length (B .counts) → t ≡ answered r B → t ≡ counted r B
+pub long-told : (r : Read) (B : Buffers) (t : Told) → countsLength ≤ length (B .counts) → t ≡ answered r B → t ≡ counted r B
 unfolding counted
-long-told r B t l e = rw (le-leb 9 (length (B .counts)) l) e
+long-told r B t l e = rw (le-leb countsLength (length (B .counts)) l) e

@@ -1,4 +1,4 @@
--- What a call with the bytes of a job returns, and what it leaves in every lent buffer. Document 01, "Numbers of an answer" and "The job and the program". Assumes nothing.
+-- What a call with the bytes of a job returns, and what it leaves in every lent buffer. Document 01, "Numbers of an answer" and "The job and the program"; document 02, P5. Assumes nothing.
 use mathlib.Core.Bool.{Bool, cond}
 use mathlib.Core.List.{List, [], _∷_}
 use Prim.Native.Nat.{ℕ}
@@ -35,10 +35,15 @@ told r B = record { returned = r; after = B }
 
 -- ---- what is written
 
--- the nine counts: the number, the order, the flag, the iterations, the account, and the byte at which a job was refused
+-- how many counts there are
+abbrev pub countsLength : ℕ
+countsLength = 10
+
+-- the counts: the number, the order, the flag, the iterations, the account, the byte at which a job was refused, and why; requests append to this list
 unfoldable pub countsOf : Answer → ℕ → List ℕ
 countsOf a byte =
-    a .number ∷ a .order ∷ cond (a .converged) 1 0 ∷ a .iterations ∷ a .account .fits ∷ a .account .solves ∷ a .account .tries ∷ a .account .points ∷ byte ∷ []
+    a .number ∷ a .order ∷ cond (a .converged) 1 0 ∷ a .iterations ∷ a .account .fits ∷ a .account .solves ∷ a .account .tries ∷ a .account .points ∷ byte
+    ∷ a .why ∷ []
 
 -- ---- the call
 
@@ -57,9 +62,9 @@ unfoldable pub answered : Read → Buffers → Told
 answered (faulty r b) B = told r (buffers (B .rows) (B .matrices) (B .terms) (B .results) (laid (countsOf (blankAnswer r noCounts) b) (B .counts)))
 answered (sound j) B = toldBy (doneFor (j .settings) (j .shape) (inputsOf j) (B .rows) (B .matrices) (B .terms) (B .results)) (B .counts)
 
--- without room for the nine counts nothing is looked at, and all is as lent
+-- without room for the counts nothing is looked at, and all is as lent
 unfoldable pub counted : Read → Buffers → Told
-counted r B = cond (leb 9 (length (B .counts))) (answered r B) (told 2 B)
+counted r B = cond (leb countsLength (length (B .counts))) (answered r B) (told 2 B)
 
 -- another theta in a job that can be read
 unfoldable pub withTheta : List Float → Read → Read

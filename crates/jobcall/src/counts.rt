@@ -1,4 +1,4 @@
-// The nine counts of a call, and the number that it returns.
+// The counts of a call, and the number that it returns.
 use model::Account;
 use model::Answer;
 ghost use mathlib.Core.Path.{_≡_};
@@ -8,7 +8,7 @@ ghost use lib.ListN.{length};
 ghost use Rattle.model.specs.Account.{noCounts};
 ghost use Rattle.model.specs.Answer.{blankAnswer};
 ghost use Rattle.job.specs.Lists.{laid};
-ghost use Rattle.jobcall.specs.Told.{countsOf, returnedBy};
+ghost use Rattle.jobcall.specs.Told.{countsLength, countsOf, returnedBy};
 
 fn flag(t: bool) -> u64
     ensures { λ r. ⌜ r ≡ cond t 1 0 ⌝ }
@@ -17,7 +17,7 @@ fn flag(t: bool) -> u64
 }
 
 pub fn put_counts(answer: Answer, byte: usize, counts: &mut [u64])
-    requires { ⌜ 9 ≤ length (now counts) ⌝ }
+    requires { ⌜ countsLength ≤ length (now counts) ⌝ }
     ensures { λ _. ⌜ now (counts .exit) ≡ laid (countsOf answer byte) (now (counts .entry)) ⌝ }
 {
     let account = answer.account;
@@ -31,11 +31,12 @@ pub fn put_counts(answer: Answer, byte: usize, counts: &mut [u64])
     counts[6] = account.tries;
     counts[7] = account.points;
     counts[8] = byte as u64;
+    counts[9] = answer.why as u64;
 }
 
 // Nothing was done for a job that cannot be read.
 pub fn put_refusal(number: u64, byte: usize, counts: &mut [u64])
-    requires { ⌜ 9 ≤ length (now counts) ⌝ }
+    requires { ⌜ countsLength ≤ length (now counts) ⌝ }
     ensures { λ _. ⌜ now (counts .exit) ≡ laid (countsOf (blankAnswer number noCounts) byte) (now (counts .entry)) ⌝ }
 {
     let account = Account::none();
@@ -44,6 +45,7 @@ pub fn put_refusal(number: u64, byte: usize, counts: &mut [u64])
         deviance: 0.0,
         phi: 0.0,
         order: 0,
+        why: 0,
         converged: false,
         iterations: 0,
         account,

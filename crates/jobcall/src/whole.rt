@@ -15,7 +15,7 @@ ghost use Rattle.reader.specs.Reading.{roomy};
 ghost use Rattle.model.specs.Inputs.{inputs};
 ghost use Rattle.jobfit.specs.Done.{doneFor};
 ghost use Rattle.jobfit.specs.Room.{Fronts, frontsOf};
-ghost use Rattle.jobcall.specs.Told.{buffers, told, toldBy, answered, counted, thetaBy, fitJobOf, fitJobThetaOf};
+ghost use Rattle.jobcall.specs.Told.{buffers, told, countsLength, toldBy, answered, counted, thetaBy, fitJobOf, fitJobThetaOf};
 
 // The fit of a job that has been read, and its counts.
 fn fit_read(
@@ -35,7 +35,7 @@ fn fit_read(
     results: &mut [f64],
     counts: &mut [u64],
 ) -> u64
-    requires { ⌜ (9 ≤ length (now counts))
+    requires { ⌜ (countsLength ≤ length (now counts))
         × Fronts header (inputs (now theta) (now y) (now weights) (now offset) (now x) (now starts) (now columns) (now values)) ⌝ }
     ensures { λ r. ⌜ told r (buffers (now (rows .exit)) (now (matrices .exit)) (now (terms .exit)) (now (results .exit)) (now (counts .exit)))
         ≡ toldBy
@@ -94,7 +94,7 @@ fn call_read(
     results: &mut [f64],
     counts: &mut [u64],
 ) -> u64
-    requires { ⌜ (9 ≤ length (now counts))
+    requires { ⌜ (countsLength ≤ length (now counts))
         × (roomy (inputs (now theta) (now y) (now weights) (now offset) (now x) (now starts) (now columns) (now values)) ≡ true) ⌝ }
     ensures { λ r. ⌜ told r (buffers (now (rows .exit)) (now (matrices .exit)) (now (terms .exit)) (now (results .exit)) (now (counts .exit)))
         ≡ answered (thetaBy own (now (given .entry)) (readOf (now (job .entry))))
@@ -147,7 +147,7 @@ fn call(
         ≡ counted (thetaBy own (now (given .entry)) (readOf (now (job .entry))))
         (buffers (now (rows .entry)) (now (matrices .entry)) (now (terms .entry)) (now (results .entry)) (now (counts .entry))) ⌝ }
 {
-    if counts.len() < 9 {
+    if counts.len() < 10 {
         return 2;
     }
     let mut theta = [0.0; 288];

@@ -1,4 +1,4 @@
--- The lines that the program prints, as lists of bytes, and what a buffer holds that one is written into. Document 01, "The job and the program", its second paragraph. Assumes nothing.
+-- The lines that the program prints, as lists of bytes, and what a buffer holds that one is written into. Document 01, "The job and the program", its second paragraph; document 02, P5. Assumes nothing.
 use mathlib.Core.Path.{_≡_}
 use mathlib.Core.Bool.{Bool, true, false}
 use mathlib.Core.List.{List, [], _∷_, _++_}
@@ -39,23 +39,31 @@ unfoldable pub flagOf : Bool → ℕ
 flagOf true = 1
 flagOf false = 0
 
--- fits, solves, tries, points
-unfoldable pub accountPairs : Account → List Pair
-accountPairs a =
+-- fits, solves, tries, points, then the rest
+unfoldable pub accountPairs : Account → List Pair → List Pair
+accountPairs a rest =
     pair (102 ∷ 105 ∷ 116 ∷ 115 ∷ []) (a .fits)
     ∷ pair (115 ∷ 111 ∷ 108 ∷ 118 ∷ 101 ∷ 115 ∷ []) (a .solves)
     ∷ pair (116 ∷ 114 ∷ 105 ∷ 101 ∷ 115 ∷ []) (a .tries)
     ∷ pair (112 ∷ 111 ∷ 105 ∷ 110 ∷ 116 ∷ 115 ∷ []) (a .points)
-    ∷ []
+    ∷ rest
 
--- the end line as pairs, from the number to the points; requests append to this list
+-- what document 02 appends to the line: why
+unfoldable pub tailPairs : Answer → List Pair
+tailPairs a = pair (119 ∷ 104 ∷ 121 ∷ []) (a .why) ∷ []
+
+-- the bytes that these pairs and the end of the line take at most
+abbrev pub tailMost : ℕ
+tailMost = 26
+
+-- the end line as pairs
 unfoldable pub endPairs : Answer → List Pair
 endPairs a =
     pair (101 ∷ 110 ∷ 100 ∷ []) (a .number)
     ∷ pair (111 ∷ 114 ∷ 100 ∷ 101 ∷ 114 ∷ []) (a .order)
     ∷ pair (100 ∷ 105 ∷ 115 ∷ 112 ∷ []) (flagOf (a .converged))
     ∷ pair (105 ∷ 116 ∷ 101 ∷ 114 ∷ 115 ∷ []) (a .iterations)
-    ∷ accountPairs (a .account)
+    ∷ accountPairs (a .account) (tailPairs a)
 
 -- the end line: `end` and the number, then the rest of its pairs
 unfoldable pub endLine : Answer → List ℕ

@@ -1,12 +1,11 @@
 // The lines of the output, each written into the front of a lent buffer. Every function that writes answers the place behind what it wrote.
-use model::Account;
 use model::Answer;
 ghost use mathlib.Core.Path.{_≡_};
 ghost use mathlib.Core.List.{[]};
 ghost use Prim.Native.Nat.{_+_, _≤_, _<_};
 ghost use lib.ListN.{length, drop};
 ghost use Rattle.lines.specs.Decimals.{decimals, trimmed, decimalOf};
-ghost use Rattle.lines.specs.Lines.{pairsText, flagOf, accountPairs, endLine, refusedLine, valueLine, Appended, Paired, Written};
+ghost use Rattle.lines.specs.Lines.{pairsText, flagOf, accountPairs, tailPairs, tailMost, endLine, refusedLine, valueLine, Appended, Paired, Written};
 
 // The twenty digits of n, the highest first.
 fn twenty(n: u64) -> [u8; 20]
@@ -79,16 +78,26 @@ fn flag(t: bool) -> u64
     if t { 1 } else { 0 }
 }
 
-// The counts of the account, each behind a blank, and the end of the line.
-fn put_account(out: &mut [u8], at: usize, account: Account) -> usize
-    requires { ⌜ at + 114 ≤ length (now out) ⌝ }
-    ensures { λ r. ⌜ Appended (pairsText (accountPairs account)) at (now (out .entry)) r (now (out .exit)) ⌝ }
+// What document 02 appends, each pair behind a blank, and the end of the line.
+fn put_tail(out: &mut [u8], at: usize, answer: Answer) -> usize
+    requires { ⌜ at + tailMost ≤ length (now out) ⌝ }
+    ensures { λ r. ⌜ Appended (pairsText (tailPairs answer)) at (now (out .entry)) r (now (out .exit)) ⌝ }
 {
+    let why = put_pair(out, at, b" why", answer.why as u64);
+    put_bytes(out, why, b"\n")
+}
+
+// The counts of the account, each behind a blank, and what follows them.
+fn put_account(out: &mut [u8], at: usize, answer: Answer) -> usize
+    requires { ⌜ at + 109 + tailMost ≤ length (now out) ⌝ }
+    ensures { λ r. ⌜ Appended (pairsText (accountPairs (answer .account) (tailPairs answer))) at (now (out .entry)) r (now (out .exit)) ⌝ }
+{
+    let account = answer.account;
     let fits = put_pair(out, at, b" fits", account.fits);
     let solves = put_pair(out, fits, b" solves", account.solves);
     let tries = put_pair(out, solves, b" tries", account.tries);
     let points = put_pair(out, tries, b" points", account.points);
-    put_bytes(out, points, b"\n")
+    put_tail(out, points, answer)
 }
 
 // The end line. A number of 64 bits has at most 20 digits, so 256 bytes hold it.
@@ -100,7 +109,7 @@ pub fn end_line(out: &mut [u8], answer: Answer) -> usize
     let order = put_pair(out, number, b" order", answer.order as u64);
     let disp = put_pair(out, order, b" disp", flag(answer.converged));
     let iterations = put_pair(out, disp, b" iters", answer.iterations as u64);
-    put_account(out, iterations, answer.account)
+    put_account(out, iterations, answer)
 }
 
 // The line of a refusal.

@@ -33,18 +33,18 @@ pub fitted-zero : {a : Answer} (g : Possible a) → isFitted g ≡ true → a .n
 unfolding refusedAnswer unfittedAnswer fittedAnswer
 fitted-zero (refused r) e = absurd (ff e)
 fitted-zero (unfitted e a) h = absurd (ff h)
-fitted-zero (fitted d phi order converged iterations a) e = refl
+fitted-zero (fitted d phi order why converged iterations a) e = refl
 
 -- and only a fit's
 pub zero-fitted : {a : Answer} (g : Possible a) → a .number ≡ 0 → isFitted g ≡ true
 unfolding refusedAnswer unfittedAnswer fittedAnswer
 zero-fitted (refused r) e = absurd (omega (arith, refusal-range r))
 zero-fitted (unfitted e a) h = absurd (omega (arith, end-range e))
-zero-fitted (fitted d phi order converged iterations a) e = refl
+zero-fitted (fitted d phi order why converged iterations a) e = refl
 
 -- an answer with another number tells nothing else but its account
 pub blank-unless-zero : {a : Answer} → Possible a → (a .number ≡ 0 → ⊥) → Blank a
 unfolding refusedAnswer unfittedAnswer fittedAnswer
-blank-unless-zero (refused r) h = record { deviance = refl; phi = refl; order = refl; converged = refl; iterations = refl }
-blank-unless-zero (unfitted e a) h = record { deviance = refl; phi = refl; order = refl; converged = refl; iterations = refl }
-blank-unless-zero (fitted d phi order converged iterations a) h = absurd (h refl)
+blank-unless-zero (refused r) h = record { deviance = refl; phi = refl; order = refl; why = refl; converged = refl; iterations = refl }
+blank-unless-zero (unfitted e a) h = record { deviance = refl; phi = refl; order = refl; why = refl; converged = refl; iterations = refl }
+blank-unless-zero (fitted d phi order why converged iterations a) h = absurd (h refl)

@@ -1,4 +1,4 @@
--- How a call can end, and the record that it answers. Document 01, "Numbers of an answer". Assumes nothing.
+-- How a call can end, and the record that it answers. Document 01, "Numbers of an answer"; document 02, P5. Assumes nothing.
 use mathlib.Core.Path.{_≡_}
 use mathlib.Core.Bool.{Bool, true, false}
 use Prim.Native.Nat.{ℕ}
@@ -31,7 +31,7 @@ refusalNumber NotCarried = 5
 
 -- an answer without a result tells its number and its account, and is zero everywhere else
 abbrev pub blankAnswer : ℕ → Account → Answer
-blankAnswer k a = record { number = k; deviance = zeroF; phi = zeroF; order = 0; converged = false; iterations = 0; account = a }
+blankAnswer k a = record { number = k; deviance = zeroF; phi = zeroF; order = 0; why = 0; converged = false; iterations = 0; account = a }
 
 -- a refusal did no work
 unfoldable pub refusedAnswer : Refusal → Answer
@@ -41,27 +41,28 @@ refusedAnswer r = blankAnswer (refusalNumber r) noCounts
 unfoldable pub unfittedAnswer : End → Account → Answer
 unfittedAnswer e a = blankAnswer (endNumber e) a
 
--- a fit is told under number 0, with everything: the order is the one used, the iterations are those of the last inner fit
-unfoldable pub fittedAnswer : Float → Float → ℕ → Bool → ℕ → Account → Answer
-fittedAnswer d phi order converged iterations a =
-    record { number = 0; deviance = d; phi = phi; order = order; converged = converged; iterations = iterations; account = a }
+-- a fit is told under number 0, with everything: the order is the one used and why there is none above 1, the iterations are those of the last inner fit
+unfoldable pub fittedAnswer : Float → Float → ℕ → ℕ → Bool → ℕ → Account → Answer
+fittedAnswer d phi order why converged iterations a =
+    record { number = 0; deviance = d; phi = phi; order = order; why = why; converged = converged; iterations = iterations; account = a }
 
 -- the answers that a call can give
 pub data Possible : Answer → Type 0 where
   refused : (r : Refusal) → Possible (refusedAnswer r)
   unfitted : (e : End) (a : Account) → Possible (unfittedAnswer e a)
-  fitted : (d phi : Float) (order : ℕ) (converged : Bool) (iterations : ℕ) (a : Account) → Possible (fittedAnswer d phi order converged iterations a)
+  fitted : (d phi : Float) (order why : ℕ) (converged : Bool) (iterations : ℕ) (a : Account) → Possible (fittedAnswer d phi order why converged iterations a)
 
 -- a possible answer is one of a fit
 abbrev pub isFitted : {a : Answer} → Possible a → Bool
 isFitted (refused r) = false
 isFitted (unfitted e a) = false
-isFitted (fitted d phi order converged iterations a) = true
+isFitted (fitted d phi order why converged iterations a) = true
 
 -- all but number and account is zero
 pub record Blank (a : Answer) : Type 0 where
   pub deviance : a .deviance ≡ zeroF
   pub phi : a .phi ≡ zeroF
   pub order : a .order ≡ 0
+  pub why : a .why ≡ 0
   pub converged : a .converged ≡ false
   pub iterations : a .iterations ≡ 0

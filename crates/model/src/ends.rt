@@ -33,12 +33,14 @@ pub enum Refusal {
     NotCarried,
 }
 
-// What a call answers beside the lent results. `converged` is the flag of the dispersion loop.
+// What a call answers beside the lent results. `why` is 0 where a rule of that order was used, else the
+// reason for staying with Laplace; `converged` is the flag of the dispersion loop.
 pub struct Answer {
     pub number: usize,
     pub deviance: f64,
     pub phi: f64,
     pub order: usize,
+    pub why: usize,
     pub converged: bool,
     pub iterations: usize,
     pub account: Account,
@@ -81,6 +83,7 @@ impl Answer {
             deviance: 0.0,
             phi: 0.0,
             order: 0,
+            why: 0,
             converged: false,
             iterations: 0,
             account,
@@ -109,17 +112,19 @@ impl Answer {
         deviance: f64,
         phi: f64,
         order: usize,
+        why: usize,
         converged: bool,
         iterations: usize,
         account: Account,
     ) -> Self
-        ensures { λ r. ⌜ r ≡ fittedAnswer deviance phi order converged iterations account ⌝ }
+        ensures { λ r. ⌜ r ≡ fittedAnswer deviance phi order why converged iterations account ⌝ }
     {
         Self {
             number: 0,
             deviance,
             phi,
             order,
+            why,
             converged,
             iterations,
             account,

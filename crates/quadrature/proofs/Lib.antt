@@ -6,3 +6,4 @@ pub mod Padded
 pub mod OrderFacts
 pub mod Cases
 pub mod LogSums
+pub mod Declines

@@ -1,11 +1,12 @@
--- Quadrature orders: by the wish, and by the cap on the points. Document 01, module 2 (`resolve_gh_order`, `_product`, `_joint`). Assumes nothing.
+-- Quadrature orders: by the wish, and by the cap on the points; and the number of each reason for none. Document 01, module 2 (`resolve_gh_order`, `_product`, `_joint`); document 02, P5. Assumes nothing.
 use mathlib.Core.List.{List, [], _∷_}
 use mathlib.Core.Bool.{Bool, _||_, cond}
 use Prim.Native.Nat.{ℕ, _^_}
 use lib.Dec.{leb, ltb, eqb}
 use Rattle.quadrature.specs.declared.orders.Order.{Order}
 use Rattle.quadrature.specs.declared.orders.Order.the-variants.{Three, Five, Seven, Nine, Eleven}
-use Rattle.quadrature.specs.declared.orders.Decline.the-variants.{Wish, Effects, Cap}
+use Rattle.quadrature.specs.declared.orders.Decline.{Decline}
+use Rattle.quadrature.specs.declared.orders.Decline.the-variants.{Wish, Effects, Cap, Diagonal, Inverse, Factor, Sum}
 use Rattle.quadrature.specs.declared.orders.Choice.{Choice}
 use Rattle.quadrature.specs.declared.orders.Choice.the-variants.{Use, Without}
 use Rattle.quadrature.specs.declared.orders.Lower.{Lower}
@@ -20,6 +21,16 @@ sizeOf Five = 5
 sizeOf Seven = 7
 sizeOf Nine = 9
 sizeOf Eleven = 11
+
+-- the number under which each reason for declining is told: P5's list, in its order; a failed inverse and a failed factor are one reason there
+abbrev pub declineNumber : Decline → ℕ
+declineNumber Wish = 1
+declineNumber Effects = 2
+declineNumber Cap = 3
+declineNumber Diagonal = 4
+declineNumber Inverse = 5
+declineNumber Factor = 5
+declineNumber Sum = 6
 
 -- the order of a number of nodes; any other number has no rule
 unfoldable pub orderOf : ℕ → Named

@@ -8,6 +8,7 @@ pub use orders::Choice;
 pub use orders::Decline;
 pub use orders::Named;
 pub use orders::Order;
+pub use orders::decline_number;
 pub use orders::order_of;
 pub use orders::order_size;
 pub use orders::resolve_gh_order;

@@ -1,7 +1,7 @@
 // Which rule a quadrature uses: by the wish, and by how many points it may have.
 ghost use mathlib.Core.Path.{_≡_};
 ghost use Prim.Native.Nat.{_≤_};
-ghost use Rattle.quadrature.specs.Orders.{sizeOf, orderOf, wished, withinCap, nextLower, cappedFrom, productOrder, jointOrder};
+ghost use Rattle.quadrature.specs.Orders.{sizeOf, declineNumber, orderOf, wished, withinCap, nextLower, cappedFrom, productOrder, jointOrder};
 
 // The orders that have a rule.
 pub enum Order {
@@ -53,6 +53,21 @@ pub fn order_size(order: Order) -> usize
         Order::Seven => 7,
         Order::Nine => 9,
         Order::Eleven => 11,
+    }
+}
+
+// The number under which it is told why a quadrature declined.
+pub fn decline_number(decline: Decline) -> usize
+    ensures { λ r. ⌜ r ≡ declineNumber decline ⌝ }
+{
+    match decline {
+        Decline::Wish => 1,
+        Decline::Effects => 2,
+        Decline::Cap => 3,
+        Decline::Diagonal => 4,
+        Decline::Inverse => 5,
+        Decline::Factor => 5,
+        Decline::Sum => 6,
     }
 }
 

@@ -7,7 +7,7 @@ use lib.Ieee.{Float, toBits, binary64}
 use lib.ListN.{length, length-append}
 use Rattle.model.specs.declared.ends.Answer.{Answer}
 use Rattle.text.specs.Hex.{hexDigit, hexDigits}
-use Rattle.lines.specs.Lines.{Pair, pairText, pairsText, lineOf, flagOf, accountPairs, endPairs, endLine, valueLine}
+use Rattle.lines.specs.Lines.{Pair, pairText, pairsText, lineOf, flagOf, accountPairs, tailPairs, endPairs, endLine, valueLine}
 use Rattle.lines.proofs.Pieces.{pair-few}
 
 hex-length : (k n : ℕ) → length (hexDigits k n) ≡ k
@@ -32,11 +32,11 @@ unfolding pairsText pairsMost
 pairs-few [] = omega arith
 pairs-few (p ∷ ps) = omega (arith, length-append (pairText (32 ∷ p .name) (p .num)) (pairsText ps), pair-few (32 ∷ p .name) (p .num), pairs-few ps)
 
--- eight pairs
+-- nine pairs
 pub end-few : (a : Answer) → length (endLine a) ≤ 256
-unfolding lineOf endPairs accountPairs endLine pairsMost
+unfolding lineOf endPairs accountPairs tailPairs endLine pairsMost
 end-few a =
     let w : List ℕ = 101 ∷ 110 ∷ 100 ∷ [] in
     let rest : List Pair = record { name = 111 ∷ 114 ∷ 100 ∷ 101 ∷ 114 ∷ []; num = a .order } ∷ record { name = 100 ∷ 105 ∷ 115 ∷ 112 ∷ []; num = flagOf (a .converged) }
-    ∷ record { name = 105 ∷ 116 ∷ 101 ∷ 114 ∷ 115 ∷ []; num = a .iterations } ∷ accountPairs (a .account) in
+    ∷ record { name = 105 ∷ 116 ∷ 101 ∷ 114 ∷ 115 ∷ []; num = a .iterations } ∷ accountPairs (a .account) (tailPairs a) in
     omega (arith, length-append (pairText w (a .number)) (pairsText rest), pair-few w (a .number), pairs-few rest)

@@ -35,7 +35,7 @@ module _ (G : Given) (phi : Float) (flag : Bool) (b : Account) (r m : List Float
 
   end-answered : (x : InnerEnd) → AnswerTold x G r m a → f .answer ≡ resultAnswer (withFlag flag phi (resultBy x)) b
   unfolding resultBy withFlag fitFrom resultAnswer
-  end-answered (withMode k i) h = rw (ef, h .end, h .deviance, h .order, h .iterations) refl
+  end-answered (withMode k i) h = rw (ef, h .end, h .deviance, h .order, h .why, h .iterations) refl
   end-answered (withoutMode e) h = rw (ef, h) refl
 
 -- ---- a fit that comes to what its last inner fit came to, with the account of all

@@ -35,7 +35,15 @@ pub fn fit_from(a: InnerAnswer, phi: f64, converged: bool, account: Account) -> 
         Ended::Stopped => Fit {
             fitted: true,
             in_second: a.in_second,
-            answer: Answer::fitted(a.deviance, phi, a.order, converged, a.iterations, account),
+            answer: Answer::fitted(
+                a.deviance,
+                phi,
+                a.order,
+                a.why,
+                converged,
+                a.iterations,
+                account,
+            ),
         },
         Ended::Failed(e) => Fit {
             fitted: false,

@@ -30,11 +30,8 @@ slice-aggregate-put-pair-4 c = search needs
 put-pair-requires-4 : tie.Need-put-pair-requires-4
 put-pair-requires-4 c κs = omega (arith, c .before .before .before .before .put-pair3 .ensures .few, c .before .before .before .before .before .before .before .before .before .put-pair2 .ensures .few, c .before .before .before .before .before .before .before .before .before .before .before .before .before .before .put-pair .ensures .few)
 
-slice-aggregate-put-bytes : tie.Need-slice-aggregate-put-bytes
-slice-aggregate-put-bytes c = search needs
-
-put-bytes-requires : tie.Need-put-bytes-requires
-put-bytes-requires c κs = omega (arith, c .before .before .before .before .put-pair4 .ensures .few, c .before .before .before .before .before .before .before .before .before .put-pair3 .ensures .few, c .before .before .before .before .before .before .before .before .before .before .before .before .before .before .put-pair2 .ensures .few, c .before .before .before .before .before .before .before .before .before .before .before .before .before .before .before .before .before .before .before .put-pair .ensures .few)
+put-tail-requires : tie.Need-put-tail-requires
+put-tail-requires c κs = omega (arith, c .before .before .before .put-pair4 .ensures .few, c .before .before .before .before .before .before .before .before .put-pair3 .ensures .few, c .before .before .before .before .before .before .before .before .before .before .before .before .before .put-pair2 .ensures .few, c .before .before .before .before .before .before .before .before .before .before .before .before .before .before .before .before .before .before .put-pair .ensures .few)
 
 same-length : tie.Need-same-length
 same-length c = search needs
@@ -42,11 +39,11 @@ same-length c = search needs
 returns : tie.Need-returns
 unfolding accountPairs pairsText
 returns c =
-    let a = c .before .before .before .before .before .before .before .before .before .before .before .before .before .before .before .before .before .before .before .before .before .before .put-pair .ensures in
-    let b = c .before .before .before .before .before .before .before .before .before .before .before .before .before .before .before .before .before .put-pair2 .ensures in
-    let d = c .before .before .before .before .before .before .before .before .before .before .before .before .put-pair3 .ensures in
-    let e = c .before .before .before .before .before .before .before .put-pair4 .ensures in
-    let f = c .before .before .put-bytes .ensures in
+    let a = c .before .before .before .before .before .before .before .before .before .before .before .before .before .before .before .before .before .before .before .before .before .put-pair .ensures in
+    let b = c .before .before .before .before .before .before .before .before .before .before .before .before .before .before .before .before .put-pair2 .ensures in
+    let d = c .before .before .before .before .before .before .before .before .before .before .before .put-pair3 .ensures in
+    let e = c .before .before .before .before .before .before .put-pair4 .ensures in
+    let f = c .before .before .put-tail .ensures in
     pair-and a (pair-and b (pair-and d (pair-and e f (omega (arith, a .few, b .few, d .few))) (omega (arith, a .few, b .few))) (omega (arith, a .few))) (omega arith)
 
 pub put-account-spec : {M : Type 1} → statement M
@@ -61,7 +58,6 @@ put-account-spec =
     put-pair-requires-3
     slice-aggregate-put-pair-4
     put-pair-requires-4
-    slice-aggregate-put-bytes
-    put-bytes-requires
+    put-tail-requires
     same-length
     returns)

@@ -17,13 +17,22 @@ deviance-by-requires c κs = search needs
 order-by-requires : tie.Need-order-by-requires
 order-by-requires c κs = search needs
 
+why-by-requires : tie.Need-why-by-requires
+why-by-requires c κs = search needs
+
 returns : tie.Need-returns
 returns c =
-    let of-points = c .before .before .before in
-    same-answer refl refl refl refl (c .before .deviance-by .ensures) (c .order-by .ensures)
-    (c .before .before .plus .ensures ∙ rw (of-points .of-points .ensures) refl)
+    let of-points = c .before .before .before .before in
+    same-answer refl refl refl refl (c .before .before .deviance-by .ensures) (c .before .order-by .ensures) (c .why-by .ensures)
+    (c .before .before .before .plus .ensures ∙ rw (of-points .of-points .ensures) refl)
 
 pub answer-of-spec : {M : Type 1} → statement M
 answer-of-spec =
     tie.close
-    (tie.spec of-points-requires plus-requires deviance-by-requires order-by-requires returns)
+    (tie.spec
+    of-points-requires
+    plus-requires
+    deviance-by-requires
+    order-by-requires
+    why-by-requires
+    returns)

@@ -1,8 +1,8 @@
--- `jobcall::put_counts` meets its contract: nine stores from the front on. Assumes nothing.
+-- `jobcall::put_counts` meets its contract: its stores stand one after another from the front on. Assumes nothing.
 use native.Mathlib.Omega.{arith}
 use lib.ListN.{length-set}
 use Rattle.jobcall.specs.Told.{countsOf}
-use Rattle.jobcall.proofs.Nine.{nine-set}
+use Rattle.jobcall.proofs.Stores.{storedAt, stored-laid}
 use borrow.Author.Needs.{needs}
 use Rattle.jobcall.proofs.counts.put_counts.Statement.{statement}
 use Rattle.jobcall.proofs.counts.put_counts.Tie as tie
@@ -37,12 +37,17 @@ slice-write-counts-8 c = simp length-set (omega (arith, c .before .before .befor
 slice-write-counts-9 : tie.Need-slice-write-counts-9
 slice-write-counts-9 c = simp length-set (omega (arith, c .before .before .before .pre))
 
+slice-write-counts-10 : tie.Need-slice-write-counts-10
+slice-write-counts-10 c = simp length-set (omega (arith, c .before .before .before .pre))
+
 same-length : tie.Need-same-length
 same-length c = search needs
 
 returns : tie.Need-returns
-unfolding countsOf
-returns c = rw (← (c .flag .ensures)) (nine-set (c .before .before .before .args .counts .now) _ _ _ _ _ _ _ _ _ (c .before .before .before .pre))
+unfolding countsOf storedAt
+returns c =
+    let start = c .before .before .before in
+    rw (← (c .flag .ensures)) (stored-laid _ (start .args .counts .now) (start .pre))
 
 pub put-counts-spec : {M : Type 1} → statement M
 put-counts-spec =
@@ -58,5 +63,6 @@ put-counts-spec =
     slice-write-counts-7
     slice-write-counts-8
     slice-write-counts-9
+    slice-write-counts-10
     same-length
     returns)
