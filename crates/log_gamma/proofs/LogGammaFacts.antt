@@ -66,3 +66,24 @@ of-eight = refl
 pub of-two-to-fifty-two : lnGammaOf (bits 0x4330_0000_0000_0000) ≡ bits 0x4381_8596_6f2b_4f11
 unfolding lnGammaOf stirlingOf stirlingBy seriesOf lnOf nearOne lnNear isNan add sub mul div lt le eq ofBits toBits ofInt
 of-two-to-fifty-two = refl
+
+-- ---- the other branches, up to the logarithm that they end in: ln gamma (1 + x) at 0.1, 0.5 and 0.8, and the steps down from 3.5 and 7.5
+pub next-of-tenth : nextOf (bits 0x3fb9_9999_9999_999a) ≡ bits 0xbfa9_88e1_705d_89e5
+unfolding nextOf aboutOne add sub mul div le neg ofBits
+next-of-tenth = refl
+
+pub next-of-half : nextOf (bits 0x3fe0_0000_0000_0000) ≡ bits 0xbfbe_eb95_b094_c191
+unfolding nextOf aboutLeast add sub mul le ofBits
+next-of-half = refl
+
+pub next-of-four-fifths : nextOf (bits 0x3fe9_9999_9999_999a) ≡ bits 0xbfb2_328d_7d70_b422
+unfolding nextOf aboutTwo add sub mul le ofBits
+next-of-four-fifths = refl
+
+pub steps-of-seven-halves : lnGammaOf (bits 0x400c_0000_0000_0000) ≡ productOf (bits 0x4004_0000_0000_0000) (bits 0x4004_0000_0000_0000)
+unfolding lnGammaOf belowEight loweredOf isNan sub mul lt ofBits
+steps-of-seven-halves = refl
+
+pub steps-of-fifteen-halves : lnGammaOf (bits 0x401e_0000_0000_0000) ≡ productOf (bits 0x4004_0000_0000_0000) (bits 0x4095_fea0_0000_0000)
+unfolding lnGammaOf belowEight loweredOf isNan sub mul lt ofBits
+steps-of-fifteen-halves = refl

@@ -1,4 +1,4 @@
-// The logarithm of gamma on doubles, equal to a published algorithm's ordered operations.
+// The logarithm of gamma on doubles: a published algorithm's ordered operations.
 mod gamma;
 mod near;
 
