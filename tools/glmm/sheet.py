@@ -90,10 +90,16 @@ def listed(names, mark=", ", most=40):
     return mark.join(map(short, names[:most])) + (f" and {len(names) - most} more" if len(names) > most else "")
 
 
+def number_hint(word):
+    """What may be meant by a word that is no number."""
+    if NUMBER.fullmatch(word.replace(",", ".", 1)):
+        return "; decimals have a point, and thousands no comma"
+    return "; a row in which something is missing is left out" if word.lower() in ("na", "nan", "null", "none", ".", "-", "") else ""
+
+
 def number(word, where):
     if not NUMBER.fullmatch(word):
-        point = NUMBER.fullmatch(word.replace(",", ".", 1))
-        raise Fault(f"{where}: '{short(word)}' is no number" + ("; decimals have a point, and thousands no comma" if point else ""))
+        raise Fault(f"{where}: '{short(word)}' is no number{number_hint(word)}")
     if not math.isfinite(float(word)):
         raise Fault(f"{where}: '{short(word)}' is past the largest double")
     return float(word)
@@ -283,13 +289,16 @@ class Sheet:
     def cells_under(self, column, at):
         """The cells of a column, each with its line."""
         if not column or column not in self.columns:
-            hint = "; columns stand side by side, without signs between them" if column in ("+", "~", "*", "-") else ""
+            hint = "; columns stand side by side, without signs between them" if set(column) & set("+~*()") or column == "-" else ""
             raise Fault(f"line {at}: no column '{short(column)}'{hint}; the columns are {listed([name for name in self.columns if name])}")
         place = self.columns.index(column)
         return [(line, cells[place]) for line, cells in self.rows]
 
     def numbers_of(self, column, at):
-        return [number(word, f"line {line}, column {short(column)}") for line, word in self.cells_under(column, at)]
+        cells = self.cells_under(column, at)
+        if cells and not any(NUMBER.fullmatch(word) for _, word in cells):
+            raise Fault(f"line {cells[0][0]}, column {short(column)}: '{short(cells[0][1])}' is no number; a column of words enters as {short(column)}=word")
+        return [number(word, f"line {line}, column {short(column)}") for line, word in cells]
 
     def design(self, word, at):
         """A column of X or of a block's effects."""
