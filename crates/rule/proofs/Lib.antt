@@ -1,5 +1,6 @@
 -- Theorems about the rule. Assumes nothing.
 pub mod Stopping
 pub mod Limits
+pub mod Accepted
 pub mod Caps
 pub mod Edges
