@@ -1,5 +1,5 @@
 -- Accepted tries: an iteration accepts one where it finds a move and none else, so a run accepts one for each solve, but for the last solve of a run that ends with 12. Document 02, P9. Assumes nothing.
-use mathlib.Core.Path.{_≡_, refl, sym, ap, _∙_}
+use mathlib.Core.Path.{_≡_, refl, ap}
 use mathlib.Core.Bool.{Bool, true, false}
 use mathlib.Core.List.{List, [], _∷_}
 use Prim.Native.Nat.{ℕ, zero, suc, _+_, _≤_}
@@ -10,6 +10,7 @@ use Rattle.base.specs.Sum.{allTo, finiteAt}
 use Rattle.model.specs.Account.{Accepts}
 use Rattle.model.specs.Caps.{triesCap}
 use Rattle.model.specs.Items.{Item, aFit, aSolve, aTry, Fate, etaRefused, meanRefused, pwrssRefused, isSolve, isOk, countOf, tally}
+use Rattle.model.specs.declared.ends.End.{End}
 use Rattle.model.specs.declared.ends.End.the-variants.{SystemPivot, NormalPivot, NoStep, NoStop}
 use Rattle.model.proofs.Tallies.{count-append}
 use Rattle.family.specs.Carried.{linkOf}
@@ -125,16 +126,27 @@ pivots G phi eta mu =
     factor-pivots (ldlEnd (qOf D) (factorOf D A)) D w (workingResponses G eta mu) A (factorOf D A)
 
 -- ---- the iterations
--- 1 where a run ended with 12
+-- 1 of end 12
+abbrev pub stuckAt : End → ℕ
+stuckAt SystemPivot = 0
+stuckAt NormalPivot = 0
+stuckAt NoStep = 1
+stuckAt NoStop = 0
+
+-- 1 where a run ended so
 abbrev pub stuckIn : Ending → ℕ
 stuckIn (stopped m) = 0
-stuckIn (failed SystemPivot) = 0
-stuckIn (failed NormalPivot) = 0
-stuckIn (failed NoStep) = 1
-stuckIn (failed NoStop) = 0
+stuckIn (failed e) = stuckAt e
+
+-- any other end counts for nothing
+pub not-stuck : (e : End) → (e ≡ NoStep → ⊥) → stuckAt e ≡ 0
+not-stuck SystemPivot h = refl
+not-stuck NormalPivot h = refl
+not-stuck NoStep h = absurd (h refl)
+not-stuck NoStop h = refl
 
 -- one accepted try for each solve, and one solve more where the run ended with 12
-abbrev Paid : Outcome → Type 0
+abbrev pub Paid : Outcome → Type 0
 Paid o = countOf isSolve (o .items) ≡ countOf isOk (o .items) + stuckIn (o .ending)
 
 module _ (G : Given) (s : State) (rest : State → Outcome) (h : (t : State) → Paid (rest t)) where
@@ -166,7 +178,7 @@ from-paid G phi (suc f) s =
 
 -- ---- the inner fit
 module _ (G : Given) (phi : Float) (L : ℕ) (mu : List Float) where
-  run-paid : Paid (runOf G phi L mu)
+  pub run-paid : Paid (runOf G phi L mu)
   unfolding runOf itemsBefore countOf
   run-paid = omega (arith, from-paid G phi L (startAt G mu))
 
@@ -180,14 +192,11 @@ module _ (G : Given) (phi : Float) (L : ℕ) (mu : List Float) where
 
   -- each solve has its accepted try, unless the run ended with 12; then the last has none
   pub run-all : (runOf G phi L mu .ending ≡ failed NoStep → ⊥) → countOf isOk (runOf G phi L mu .items) ≡ countOf isSolve (runOf G phi L mu .items)
-  run-all h = omega (arith, run-paid, not-stuck (runOf G phi L mu .ending) h)
+  run-all h = omega (arith, run-paid, by-ending (runOf G phi L mu .ending) h)
     where
-      not-stuck : (x : Ending) → (x ≡ failed NoStep → ⊥) → stuckIn x ≡ 0
-      not-stuck (stopped m) n = refl
-      not-stuck (failed SystemPivot) n = refl
-      not-stuck (failed NormalPivot) n = refl
-      not-stuck (failed NoStep) n = absurd (n refl)
-      not-stuck (failed NoStop) n = refl
+      by-ending : (x : Ending) → (x ≡ failed NoStep → ⊥) → stuckIn x ≡ 0
+      by-ending (stopped m) n = refl
+      by-ending (failed e) n = not-stuck e (λ q. n (ap failed q))
 
   pub run-stuck : runOf G phi L mu .ending ≡ failed NoStep → countOf isOk (runOf G phi L mu .items) + 1 ≡ countOf isSolve (runOf G phi L mu .items)
   run-stuck e = omega (arith, run-paid, ap stuckIn e)
