@@ -40,6 +40,18 @@ slice-write-counts-9 c = simp length-set (omega (arith, c .before .before .befor
 slice-write-counts-10 : tie.Need-slice-write-counts-10
 slice-write-counts-10 c = simp length-set (omega (arith, c .before .before .before .pre))
 
+slice-write-counts-11 : tie.Need-slice-write-counts-11
+slice-write-counts-11 c = simp length-set (omega (arith, c .before .before .before .pre))
+
+slice-write-counts-12 : tie.Need-slice-write-counts-12
+slice-write-counts-12 c = simp length-set (omega (arith, c .before .before .before .pre))
+
+slice-write-counts-13 : tie.Need-slice-write-counts-13
+slice-write-counts-13 c = simp length-set (omega (arith, c .before .before .before .pre))
+
+slice-write-counts-14 : tie.Need-slice-write-counts-14
+slice-write-counts-14 c = simp length-set (omega (arith, c .before .before .before .pre))
+
 same-length : tie.Need-same-length
 same-length c = search needs
 
@@ -64,5 +76,9 @@ put-counts-spec =
     slice-write-counts-8
     slice-write-counts-9
     slice-write-counts-10
+    slice-write-counts-11
+    slice-write-counts-12
+    slice-write-counts-13
+    slice-write-counts-14
     same-length
     returns)
