@@ -2,5 +2,6 @@
 pub mod Stopping
 pub mod Limits
 pub mod Accepted
+pub mod Fates
 pub mod Caps
 pub mod Edges
