@@ -61,7 +61,8 @@ static void values(const char *name, const double *first, size_t length)
 /* The first line of an answer, of its counts in the order of the header; the byte of a refusal is not printed. */
 static void first_line(const uint64_t *counts)
 {
-    static const char *const words[GLMM_COUNTS] = {"end", "order", "disp", "iters", "fits", "solves", "tries", "points", NULL, "why", "eta", "mean", "pwrss", "ok"};
+    static const char *const words[GLMM_COUNTS] = {"end", "order", "disp", "iters", "fits", "solves", "tries", "points",
+                                                   NULL, "why", "eta", "mean", "pwrss", "ok"};
     int i;
     for (i = 0; i < GLMM_COUNTS; i++)
         if (words[i] != NULL)
