@@ -1,4 +1,5 @@
 -- `jobcall::put_counts` meets its contract: its stores stand one after another from the front on. Assumes nothing.
+use mathlib.Core.Path.{refl}
 use native.Mathlib.Omega.{arith}
 use lib.ListN.{length-set}
 use Rattle.jobcall.specs.Told.{countsOf}
@@ -53,7 +54,7 @@ slice-write-counts-14 : tie.Need-slice-write-counts-14
 slice-write-counts-14 c = simp length-set (omega (arith, c .before .before .before .pre))
 
 same-length : tie.Need-same-length
-same-length c = search needs
+same-length c = simp length-set refl
 
 returns : tie.Need-returns
 unfolding countsOf storedAt
