@@ -17,7 +17,7 @@ DESTDIR ?=
 
 # The first number is the shared library's: it goes up where a function, a struct or a constant of the header is no longer what it was; the second where some are
 # added.
-VERSION = 1.0
+VERSION = 2.0
 
 CROSS := $(if $(filter x86_64,$(shell uname -m)),,x86_64-linux-gnu-)
 CC = $(CROSS)gcc

@@ -36,7 +36,7 @@ extern "C" {
 #define GLMM_ANSWER_FITTED(answer) ((answer).number == 0)
 
 /* How many numbers `counts` must have at least; the indices below say what each is. */
-#define GLMM_COUNTS 10
+#define GLMM_COUNTS 14
 enum {
     GLMM_NUMBER = 0,     /* 0 fitted; 10 A has a bad pivot; 11 the normal matrix has one; 12 no step was accepted; 13 the iterations ran out;
                             else the refusal's number, which is also returned (docs/NUMBERS.md tells what to do about each) */
@@ -45,12 +45,16 @@ enum {
     GLMM_ITERATIONS = 3, /* iterations of the last inner fit, 0 where nothing was fitted */
     GLMM_FITS = 4,       /* inner fits begun */
     GLMM_SOLVES = 5,     /* systems solved */
-    GLMM_TRIES = 6,      /* candidate steps tried */
+    GLMM_TRIES = 6,      /* candidate steps tried; the last four counts say what became of them, and add up to this one */
     GLMM_POINTS = 7,     /* points of quadratures */
     GLMM_BYTE = 8,       /* the byte of the job at which it was refused, else 0 */
-    GLMM_WHY = 9         /* why the deviance is Laplace's, 1 to 6: 1 the wish is below 2; 2 too many effects; 3 the cap left no order; 4 a bad diagonal;
+    GLMM_WHY = 9,        /* why the deviance is Laplace's, 1 to 6: 1 the wish is below 2; 2 too many effects; 3 the cap left no order; 4 a bad diagonal;
                             5 a failed inverse or factor; 6 a sum that is not finite (docs/NUMBERS.md); 0 where a quadrature was used, or nothing was
                             fitted */
+    GLMM_ETA = 10,       /* tries refused for the predictor: one that is not finite, or with the inverse link not above 2^-52 */
+    GLMM_MEAN = 11,      /* tries refused for a mean that is not finite, the predictor being fine */
+    GLMM_PWRSS = 12,     /* tries refused for a penalised sum of squares that is not finite, predictor and means being fine */
+    GLMM_OK = 13         /* tries accepted: as many as systems solved, or one less where the number is 12 */
 };
 
 /* The lengths of the work buffers and of the results for n observations, p columns of X and q effects; 0 where the sizes are not carried
@@ -125,7 +129,7 @@ struct glmm_settings {
 struct glmm_answer {
     uint64_t number;      /* 0 fitted; 10, 11, 12, 13 as in counts[GLMM_NUMBER]; else the refusal's number: 1, 2, 7, 6, 3, 4, 5, tested in this order */
     double deviance, phi;
-    uint64_t order, flag, iterations, fits, solves, tries, points, why; /* as the counts of these names */
+    uint64_t order, flag, iterations, fits, solves, tries, points, why, eta, mean, pwrss, ok; /* as the counts of these names */
 };
 
 /* blocks     1 to 8 blocks (else 1), each with 1 to 8 effects and at least one group

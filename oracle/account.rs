@@ -1,10 +1,15 @@
-//! What the port tells and the Rust does not: inner fits, solves, tries, points, which end a `None` is, and why the last inner fit stayed with Laplace.
+//! What the port tells and the Rust does not: inner fits, solves, tries, points, what became of the tries, which end a `None` is, and why the last inner fit
+//! stayed with Laplace.
 use std::sync::atomic::{AtomicUsize, Ordering::Relaxed};
 
 static FITS: AtomicUsize = AtomicUsize::new(0);
 static SOLVES: AtomicUsize = AtomicUsize::new(0);
 static TRIES: AtomicUsize = AtomicUsize::new(0);
 static POINTS: AtomicUsize = AtomicUsize::new(0);
+static ETA: AtomicUsize = AtomicUsize::new(0);
+static MEAN: AtomicUsize = AtomicUsize::new(0);
+static PWRSS: AtomicUsize = AtomicUsize::new(0);
+static OK: AtomicUsize = AtomicUsize::new(0);
 static END: AtomicUsize = AtomicUsize::new(0);
 static WHY: AtomicUsize = AtomicUsize::new(0);
 
@@ -15,12 +20,16 @@ pub struct Account {
     pub solves: usize,
     pub tries: usize,
     pub points: usize,
+    pub eta: usize,
+    pub mean: usize,
+    pub pwrss: usize,
+    pub ok: usize,
     pub end: usize,
     pub why: usize,
 }
 
 pub fn clear() {
-    for count in [&FITS, &SOLVES, &TRIES, &POINTS, &END, &WHY] {
+    for count in [&FITS, &SOLVES, &TRIES, &POINTS, &ETA, &MEAN, &PWRSS, &OK, &END, &WHY] {
         count.store(0, Relaxed);
     }
 }
@@ -31,6 +40,10 @@ pub fn read() -> Account {
         solves: SOLVES.load(Relaxed),
         tries: TRIES.load(Relaxed),
         points: POINTS.load(Relaxed),
+        eta: ETA.load(Relaxed),
+        mean: MEAN.load(Relaxed),
+        pwrss: PWRSS.load(Relaxed),
+        ok: OK.load(Relaxed),
         end: END.load(Relaxed),
         why: WHY.load(Relaxed),
     }
@@ -49,6 +62,26 @@ pub fn solve() {
 /// A candidate was formed.
 pub fn attempt() {
     TRIES.fetch_add(1, Relaxed);
+}
+
+/// A candidate was refused for its predictor.
+pub fn refused_eta() {
+    ETA.fetch_add(1, Relaxed);
+}
+
+/// A candidate was refused for a mean.
+pub fn refused_mean() {
+    MEAN.fetch_add(1, Relaxed);
+}
+
+/// A candidate was refused for its PWRSS.
+pub fn refused_pwrss() {
+    PWRSS.fetch_add(1, Relaxed);
+}
+
+/// A candidate was accepted.
+pub fn accepted() {
+    OK.fetch_add(1, Relaxed);
 }
 
 /// A log term was formed.

@@ -67,8 +67,20 @@ fn lines(fitted: Option<&GlmmCoefficients>, account: Account) -> String {
         None => (account.end, 0, 0, 0, 0),
     };
     let mut text = format!(
-        "end {} order {} disp {} iters {} fits {} solves {} tries {} points {} why {}\n",
-        end, order, flag, iterations, account.fits, account.solves, account.tries, account.points, why
+        "end {} order {} disp {} iters {} fits {} solves {} tries {} points {} why {} eta {} mean {} pwrss {} ok {}\n",
+        end,
+        order,
+        flag,
+        iterations,
+        account.fits,
+        account.solves,
+        account.tries,
+        account.points,
+        why,
+        account.eta,
+        account.mean,
+        account.pwrss,
+        account.ok
     );
     if let Some(fitted) = fitted {
         for (name, list) in &results(fitted) {

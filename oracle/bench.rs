@@ -7,7 +7,7 @@ use crate::{account, answer, job};
 
 const ROUNDS: usize = 101;
 const TURN: f64 = 2e6; // nanoseconds that one side has in a round
-const COUNTS: usize = 10;
+const COUNTS: usize = 14;
 const PROCESS_TIME: i32 = 2; // CLOCK_PROCESS_CPUTIME_ID: what other processes take is not counted
 
 #[repr(C)]
@@ -109,9 +109,10 @@ fn turn(call: &mut dyn FnMut() -> usize) -> usize {
 fn expected(bytes: &[u8]) -> ([u64; COUNTS], Vec<u64>) {
     let (fitted, account) = answer::fit(job::read(bytes).expect("a job that is not refused"));
     let fitted = fitted.expect("a job that is fitted");
-    let account::Account { fits, solves, tries, points, why, .. } = account;
+    let account::Account { fits, solves, tries, points, eta, mean, pwrss, ok, why, .. } = account;
     let flag = fitted.dispersion_converged as usize;
-    let counts = [0, fitted.effective_n_agq, flag, fitted.iterations, fits, solves, tries, points, 0, why].map(|count| count as u64);
+    let order = fitted.effective_n_agq;
+    let counts = [0, order, flag, fitted.iterations, fits, solves, tries, points, 0, why, eta, mean, pwrss, ok].map(|count| count as u64);
     (counts, answer::results(&fitted).iter().flat_map(|(_, list)| list.iter().map(|x| x.to_bits())).collect())
 }
 

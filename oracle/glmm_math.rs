@@ -634,12 +634,14 @@ impl GlmmData {
                     .iter()
                     .all(|e| e.is_finite() && (!needs_positive_eta || *e > f64::EPSILON));
                 if !eta_valid {
+                    account::refused_eta(); // ALTERED: counted
                     step *= 0.5;
                     continue;
                 }
 
                 let mu_candidate = link.link_inv(&eta_candidate);
                 if !mu_candidate.iter().all(|m| m.is_finite()) {
+                    account::refused_mean(); // ALTERED: counted
                     step *= 0.5;
                     continue;
                 }
@@ -650,9 +652,11 @@ impl GlmmData {
                 }
                 if pwrss_candidate.is_finite() {
                     accepted = Some((eta_candidate, mu_candidate, pwrss_candidate));
+                    account::accepted(); // ALTERED: counted
                     break;
                 }
 
+                account::refused_pwrss(); // ALTERED: counted
                 step *= 0.5;
             }
 

@@ -98,7 +98,7 @@ static int as_told(uint64_t number)
 static void run(void)
 {
     struct glmm_answer found;
-    uint64_t eight[8];
+    uint64_t counts[GLMM_COUNTS];
     int i;
     read_job();
     found = call();
@@ -108,9 +108,11 @@ static void run(void)
         printf("refused %u at 0\n", (unsigned)found.number);
         return;
     }
-    eight[0] = found.number, eight[1] = found.order, eight[2] = found.flag, eight[3] = found.iterations;
-    eight[4] = found.fits, eight[5] = found.solves, eight[6] = found.tries, eight[7] = found.points;
-    first_line(eight, found.why);
+    counts[GLMM_NUMBER] = found.number, counts[GLMM_ORDER] = found.order, counts[GLMM_FLAG] = found.flag, counts[GLMM_ITERATIONS] = found.iterations;
+    counts[GLMM_FITS] = found.fits, counts[GLMM_SOLVES] = found.solves, counts[GLMM_TRIES] = found.tries, counts[GLMM_POINTS] = found.points;
+    counts[GLMM_WHY] = found.why, counts[GLMM_ETA] = found.eta, counts[GLMM_MEAN] = found.mean, counts[GLMM_PWRSS] = found.pwrss;
+    counts[GLMM_OK] = found.ok, counts[GLMM_BYTE] = 0;
+    first_line(counts);
     if (found.number != 0)
         return;
     values("deviance", &found.deviance, 1), values("phi", &found.phi, 1);
@@ -122,7 +124,8 @@ static void run(void)
 static void edge(const char *name)
 {
     struct glmm_answer found = call();
-    uint64_t counted = found.order | found.flag | found.iterations | found.fits | found.solves | found.tries | found.points | found.why;
+    uint64_t counted = found.order | found.flag | found.iterations | found.fits | found.solves | found.tries | found.points | found.why | found.eta
+                       | found.mean | found.pwrss | found.ok;
     int blank = counted == 0 && pattern_of(found.deviance) == 0 && pattern_of(found.phi) == 0;
     printf("%s %u %s\n", name, (unsigned)found.number, as_told(found.number) && blank ? "as lent" : "NOT as lent");
 }

@@ -36,7 +36,7 @@ static void answer(uint64_t refused)
         printf("refused %u at %u\n", (unsigned)refused, (unsigned)counts[GLMM_BYTE]);
         return;
     }
-    first_line(counts, counts[GLMM_WHY]);
+    first_line(counts);
     if (counts[GLMM_NUMBER] != 0)
         return;
     values("deviance", next, 1), next += 1;

@@ -58,14 +58,15 @@ static void values(const char *name, const double *first, size_t length)
     }
 }
 
-/* The first line of an answer: its number, then seven counts, then why the deviance is Laplace's. */
-static void first_line(const uint64_t *eight, uint64_t why)
+/* The first line of an answer, of its counts in the order of the header; the byte of a refusal is not printed. */
+static void first_line(const uint64_t *counts)
 {
-    static const char *const words[] = {"end", "order", "disp", "iters", "fits", "solves", "tries", "points"};
+    static const char *const words[GLMM_COUNTS] = {"end", "order", "disp", "iters", "fits", "solves", "tries", "points",
+                                                   NULL, "why", "eta", "mean", "pwrss", "ok"};
     int i;
-    for (i = 0; i < 8; i++)
-        printf("%s %u ", words[i], (unsigned)eight[i]);
-    printf("why %u\n", (unsigned)why);
+    for (i = 0; i < GLMM_COUNTS; i++)
+        if (words[i] != NULL)
+            printf("%s %u%c", words[i], (unsigned)counts[i], i + 1 < GLMM_COUNTS ? ' ' : '\n');
 }
 
 static size_t read_file(const char *name, void *to, size_t size, size_t count)

@@ -6,7 +6,7 @@ quadrature that declined is in jobs.json, where the oracle's reason must be its 
 import json, sys
 
 sys.dont_write_bytecode = True
-from rule import CRATES, IEEE, ROOT, answer, definitions, given, number, record
+from rule import COUNTS, CRATES, IEEE, ROOT, answer, definitions, given, number, record
 from form import from_groups
 
 TOLD = "reasonBy toldEnd toldInner toldWith".split()
@@ -16,7 +16,7 @@ JOBS = json.loads((ROOT / "crates" / "agq_cases" / "jobs.json").read_text())
 
 
 def told(end, vectors, why):
-    account = record(**{name: end[name] for name in ("fits", "solves", "tries", "points")})
+    account = record(**{name: end[name] for name in COUNTS})
     reason = "noMode" if end["end"] else f"because reason.{why}" if why else "used"
     return record(number=end["end"], order=end["order"], account=account, deviance=number(vectors["deviance"][0]) if vectors else "zeroF", reason=reason)
 

@@ -16,6 +16,7 @@ from reader import parse
 NAN, LENT, NOT_GIVEN = float("nan"), 9.25, 1023
 INPUTS = ["theta", "y", "weights", "offset", "x", "starts", "columns", "values"]
 WORK = ["rows", "matrices", "terms"]
+COUNTS = ["order", "disp", "iters", "fits", "solves", "tries", "points", "why", "eta", "mean", "pwrss", "ok"]
 ARRAYS = dict(zip(RESULTS, [3, 3, 3, 5, 5, 5, 5, 5, 5])) | {"rows": 72, "matrices": 128, "terms": 7008}
 given = set()
 
@@ -61,11 +62,11 @@ def fitted(about):
     end, vectors = answer(about)
     assert end == {"end": number, "order": order, "disp": flag, "iters": iterations, **vars(account), "why": why}, (about, end)
     assert vectors == {name: hexes(values) for name, values in results.items()}, about
-    return number, [order, flag, iterations, account.fits, account.solves, account.tries, account.points, why], results
+    return number, [order, flag, iterations, *(end[name] for name in COUNTS[3:])], results
 
 
 def told(word, number, counts, results, wiped):
-    named = zip(["order", "disp", "iters", "fits", "solves", "tries", "points", "why"], counts)
+    named = zip(COUNTS, counts)
     deviance, phi = (hexes(results[name])[0] if results else "0" * 16 for name in ("deviance", "phi"))
     print(word + ":", number, *(f"{name} {count}" for name, count in named), "deviance", deviance, "phi", phi)
     for name in RESULTS:
@@ -98,12 +99,12 @@ def run(word, about, **changes):
         given.add(number)
         return told(word, number, counts, results, call_of(about))
     given.add(number)
-    told(word, number, [0] * 8, None, {})
+    told(word, number, [0] * len(COUNTS), None, {})
 
 
 def fits():
     """Number 0, of a list of one block and of two, by Laplace and by quadrature, the blocks in either order; phi of its own that settles and that doesn't; a quadrature that declines;
-    then numbers 10 to 13."""
+    then numbers 10 to 13; then tries that are refused for each of the three tests."""
     run("one", job())
     run("two", two())
     run("one, order 3", job(family="binomial", link="logit", n_agq=3, y=[0.25, 0.5, 0.0, 1.0], weights=[4.0, 2.0, 3.0, 1.0], offset=[0.1, 0.2, -0.3, 0.0]))
@@ -119,6 +120,9 @@ def fits():
     run("columns", two(x=[[1.0, 1.0]] * 4))
     run("offset", job(link="identity", offset=[1e9, 3e8, 1e200, 1e9]))
     run("limit 1", two(limit=1))
+    run("refused etas", job(family="gaussian", link="inverse", y=[9.0, 0.1, 0.5, 3.0], limit=6))
+    run("refused means", job(x=[*job()["x"][:3], [1.0, 1e4]], weights=[1.0, 1.0, 1.0, 1e-12]))
+    run("refused sums", job(link="identity", y=[0.0, 3.0, 1.0, 1e164], x=[*job()["x"][:3], [1e10, 0.0]], zt=[[[3, 1.0]], [[3, 1.0]]]))
 
 
 def refusals():

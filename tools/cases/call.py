@@ -6,7 +6,7 @@ of a call: table, dispersion loop, inner fits, answer and results, whatever slic
 import json, sys
 
 sys.dont_write_bytecode = True
-from rule import CRATES, IEEE, ROOT, VECTORS, answer, counts, definitions, eight, number, numbers, record
+from rule import COUNTS, CRATES, IEEE, ROOT, VECTORS, answer, counts, definitions, eight, number, numbers, record
 from form import from_groups
 
 OPENED = [*CRATES, "quadrature", "spread", "agq_rule", "dispersion", "table", "results", "call"]
@@ -44,7 +44,7 @@ def room(job):
 
 
 def told(end, vectors):
-    account = record(**{name: end[name] for name in ("fits", "solves", "tries", "points")})
+    account = record(**{name: end[name] for name in COUNTS})
     of = record(number=end["end"], deviance=number(vectors["deviance"][0]) if vectors else "zeroF", phi=number(vectors["phi"][0]) if vectors else "zeroF",
                 order=end["order"], why=end["why"], converged="true" if end["disp"] else "false", iterations=end["iters"], account=account)
     results = record(**{name: numbers(vectors[name]) for name in VECTORS}) if vectors else "L .results"

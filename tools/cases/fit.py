@@ -13,11 +13,12 @@ import fit
 from form import job_bytes
 from reader import read
 
-NAN, INF, NONE = float("nan"), float("inf"), 61
+NAN, INF = float("nan"), float("inf")
 ONES, SLOPES = [1.0] * 4, [0.3, -0.7, 1.1, 0.2]
 X = [1.0, 0.3, 1.0, -0.7, 1.0, 1.1, 1.0, 0.2]
 NUMBERS = [*ONES, *SLOPES, *ONES, *ONES, *X, 1.0, 3.0, 0.0, 5.0, 0.25, 0.5, 0.0, 1.0, 4.0, 2.0, 3.0, 1.0, 0.1, 0.2, -0.3, 0.0, 1.5, -0.25, 3.0, 0.75, 0.5, 0.75, 0.4, 1.25,
-           0.7, 0.8, 0.3, 0.6, 1e9, 1e9, 3e8, 1e9, 7e8, 3e8, 1e200, NAN, INF]
+           0.7, 0.8, 0.3, 0.6, 1e9, 1e9, 3e8, 1e9, 7e8, 3e8, 1e200, NAN, INF, 9.0, 0.1, 0.5, 3.0, 1.0, 1.0, 1.0, 1e-12, 0.0, 3.0, 1.0, 1e164, *X[:6], 1.0, 1e4, *X[:6], 1e10, 0.0]
+NONE = len(NUMBERS)
 ROWS = [[0, 2, 4], [0, 4, 8, 10, 12], [0, 4, 8, 8, 8, 8, 8], [0, 4, 4, 4, 4, 4, 4, 4, 4, 8], [0, 2, 1, 3], [0, 1, 2, 3, 0, 1, 2, 3, 0, 2, 0, 2],
         [0, 1, 2, 3, 0, 1, 2, 3, 0, 2, 1, 3], [0, 2, 1, 4], [2, 0, 1, 3]]
 INPUTS = ["theta", "y", "weights", "offset", "x", "starts", "columns", "values"]
@@ -71,11 +72,11 @@ def fitted(c):
     end, vectors = answer(job_of(c))
     assert end == {"end": number, "order": order, "disp": flag, "iters": iterations, **vars(account), "why": why}, (c, end)
     assert vectors == {name: hexes(values) for name, values in results.items()}, c
-    return number, [order, flag, iterations, account.fits, account.solves, account.tries, account.points, why], results
+    return number, [order, flag, iterations, *vars(account).values(), why], results
 
 
 def told(word, number, counts, results, wiped):
-    named = zip(["order", "disp", "iters", "fits", "solves", "tries", "points", "why"], counts)
+    named = zip(["order", "disp", "iters", "fits", "solves", "tries", "points", "eta", "mean", "pwrss", "ok", "why"], counts)
     deviance, phi = (hexes(results[name])[0] if results else "0" * 16 for name in ("deviance", "phi"))
     print(word + ":", number, *(f"{name} {count}" for name, count in named), "deviance", deviance, "phi", phi)
     for name in RESULTS:
@@ -91,7 +92,7 @@ def run(word, family, link, n_agq, blocks, places, lengths, p=2, q=2, entries=4,
     refusal = next((number for number, good in TABLE if not good(c)), None)
     if refusal:
         given.add(refusal)
-        return told(word, refusal, [0] * 8, None, None)
+        return told(word, refusal, [0] * 12, None, None)
     declines.clear()
     number, counts, results = fitted(c)
     cause = "wish" if n_agq < 2 else cause
@@ -164,6 +165,13 @@ def ends():
         groups(f"limit {limit}", "poisson", "log", 3, 24, limit=limit)
 
 
+def refused_tries():
+    """Tries that are refused for eta, for a mean and for PWRSS."""
+    groups("etas", "gaussian", "inverse", 3, 61, limit=6)
+    groups("means", "poisson", "log", 1, 24, 65, x=73)
+    groups("squares", "poisson", "identity", 3, 69, x=81)
+
+
 def refusals():
     """Number 1, of each size and of the limit; each slice one short and one longer: number 2, of the last three 7 where they are short and 0 where they are longer; number 6, of the
     row starts and the columns; number 3, of each list of numbers; numbers 4 and 5."""
@@ -190,5 +198,6 @@ fit.Declined.__init__ = noted
 laplace()
 quadrature()
 ends()
+refused_tries()
 refusals()
 assert "--stdin" in sys.argv or given == {*range(8), *range(10, 14)}

@@ -15,8 +15,8 @@ from form import job_bytes
 from reader import Refused, check_table, parse
 
 NAN, INF = float("nan"), float("inf")
-LENT, MARK, COUNTS = 9.25, 77, 10
-ARRAYS = {"rows": 72, "matrices": 152, "terms": 7008, "results": 40, "counts": 12}
+LENT, MARK, COUNTS = 9.25, 77, 14
+ARRAYS = {"rows": 72, "matrices": 152, "terms": 7008, "results": 40, "counts": 16}
 SIZES = [(1, 1, 1), (4, 2, 2), (512, 16, 32), (0, 1, 1), (513, 1, 1), (1, 0, 1), (1, 17, 1), (1, 1, 0), (1, 1, 33), (2**64 - 1, 2, 2), (2, 2**63, 2), (2, 2, 2**64 - 1),
          (512, 1, 1), (1, 16, 1), (1, 1, 32), (100, 3, 7)]
 NUMBERS = [0.0, -0.0, 1.0, -1.0, 0.5, -0.5, 2.0, 1e-20, 3.75, -3.75, 700.0, 1e300, 5e-324, INF, -INF, NAN]
@@ -41,7 +41,8 @@ def fitted(about):
     end, vectors = answer(about)
     assert end == {"end": number, "order": order, "disp": flag, "iters": iterations, **vars(account), "why": why}, (about, end)
     assert vectors == {name: [text(x) for x in values] for name, values in results.items()}, about
-    return [number, order, flag, iterations, account.fits, account.solves, account.tries, account.points, 0, why], [x for name in ORDER for x in results[name]] if results else []
+    counts = [number, order, flag, iterations, account.fits, account.solves, account.tries, account.points, 0, why, account.eta, account.mean, account.pwrss, account.ok]
+    return counts, [x for name in ORDER for x in results[name]] if results else []
 
 
 def refusal(data, theta, lent):
@@ -94,11 +95,12 @@ def run(word, about, theta=None, data=None, own=None, **lent):
         given.add(counts[0])
         return told(word, 0, counts, wanted, results)
     given.add(number)
-    told(word, number, [] if byte is None else [number, *[0] * 7, byte, 0], {}, [])
+    told(word, number, [] if byte is None else [number, *[0] * 7, byte, *[0] * 5], {}, [])
 
 
 def fits():
-    """Number 0: Laplace and quadrature, phi of its own that settles and that doesn't, two blocks, several effects, a quadrature that declines; then numbers 10 to 13, which return 0."""
+    """Number 0: Laplace and quadrature, phi of its own that settles and that doesn't, two blocks, several effects, a quadrature that declines; then numbers 10 to 13, which return 0; then
+    tries that are refused for each of the three tests, which are counted at places of their own."""
     run("log", job())
     run("logit", job(family="binomial", link="logit", n_agq=3, y=[0.25, 0.5, 0.0, 1.0], weights=[4.0, 2.0, 3.0, 1.0], offset=[0.1, 0.2, -0.3, 0.0]))
     run("Gaussian", job(family="gaussian", link="identity", n_agq=5, y=[1.5, -0.25, 3.0, 0.75], weights=[4.0, 2.0, 3.0, 1.0]))
@@ -110,6 +112,9 @@ def fits():
     run("columns", job(x=[[1.0, 1.0]] * 4))
     run("offset", job(link="identity", offset=[1e9, 3e8, 1e200, 1e9]))
     run("limit 1", job(limit=1))
+    run("refused etas", job(family="gaussian", link="inverse", y=[9.0, 0.1, 0.5, 3.0], limit=6))
+    run("refused means", job(x=[*job()["x"][:3], [1.0, 1e4]], weights=[1.0, 1.0, 1.0, 1e-12]))
+    run("refused sums", job(link="identity", y=[0.0, 3.0, 1.0, 1e164], x=[*job()["x"][:3], [1e10, 0.0]], zt=[[[3, 1.0]], [[3, 1.0]]]))
 
 
 def refusals():

@@ -72,8 +72,9 @@ def main():
         for data in jobs():
             sys.stdout.buffer.write((len(data) + 1).to_bytes(8, "big") + data)
         return
-    print("end 13 order 0 disp 0 iters 0 fits 1 solves 0 tries 0 points 0 why 0")
-    print("end 18446744073709551615 order 10000000000000000000 disp 1 iters 9999999999999999999 fits 241 solves 241000 tries 24100000 points 1687000 why 6")
+    print("end 13 order 0 disp 0 iters 0 fits 1 solves 0 tries 0 points 0 why 0 eta 0 mean 0 pwrss 0 ok 0")
+    print("end 18446744073709551615 order 10000000000000000000 disp 1 iters 9999999999999999999 fits 241 solves 241000 tries 24100000 points 1687000 why 6 "
+          "eta 23000000 mean 800000 pwrss 59000 ok 241000")
     print("phi 0", hexed(float("nan")))
     print("beta 15", hexed(-0.0))
     print("v 255", hexed(float("inf")))

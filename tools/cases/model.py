@@ -75,7 +75,7 @@ def sizes(n, p, rows, entries, limit, blocks):
 
 
 # ---- answers
-def answer(number, deviance=0.0, phi=0.0, order=0, why=0, flag=False, iterations=0, account=(0, 0, 0, 0)):
+def answer(number, deviance=0.0, phi=0.0, order=0, why=0, flag=False, iterations=0, account=(0,) * 8):
     return [number, hexed(deviance), hexed(phi), order, why, flag, iterations, *account]
 
 
@@ -145,7 +145,7 @@ sizes(512, 16, 32, 8192, 1001, LARGE)
 for code, number in enumerate([1, 2, 7, 6, 3, 4, 5]):
     call("refused", ["refused"], code)
     line("refused", number, *answer(number))
-WORK = (241, 1205, 4820, 14461)
+WORK = (241, 1205, 4820, 14461, 2400, 1000, 220, 1200)
 for code, number in enumerate([10, 11, 12, 13]):
     call("unfitted", ["unfitted"], code)
     line("unfitted", number, *answer(number, account=WORK))
@@ -154,9 +154,9 @@ fitted(float("inf"), 0.1, 11, 0, False, 1000)
 fitted(-0.0, float("nan"), 3, 0, True, 0)
 
 call("items", ["items"], 6561)
-line("items", *[0, 0, 0, 0], *[0, 0, 0, 6561])
-summed(*[a + b for a, b in zip(WORK, (3, 50, 700, 11000))])
-summed(MOST, MOST, MOST, MOST)
+line("items", *[0] * 8, *[0, 0, 0, 6561, 0, 0, 0, 0], *[1, 0, 0, 0, 0, 0, 0, 0], *[0, 1, 0, 0, 0, 0, 0, 0])
+summed(*[a + b for a, b in zip(WORK, (3, 50, 700, 11000, 500, 30, 120, 50))])
+summed(*[MOST] * 8)
 
 places(1, 1, 1)
 places(512, 16, 32)

@@ -12,6 +12,7 @@ from form import from_groups, job_bytes
 
 CRATES = ["base", "root", "tabulated", "elementary", "model", "family", "family_lists", "factor", "lambda", "linear", "stored", "rule"]
 IEEE = "add sub mul div neg lt le eq ne isNan ofBits toBits ofInt toUnsigned round".split()
+COUNTS = "fits solves tries points eta mean pwrss ok".split()
 VECTORS = "beta se z u b mu eta residual v".split()
 JOBS = json.loads((ROOT / "crates" / "rule_cases" / "jobs.json").read_text())
 
@@ -73,7 +74,7 @@ def answer(job):
 
 
 def told(end, vectors):
-    account = record(**{name: end[name] for name in ("fits", "solves", "tries", "points")})
+    account = record(**{name: end[name] for name in COUNTS})
     return record(number=end["end"], iterations=end["iters"], account=account, deviance=number(vectors["deviance"][0]) if vectors else "zeroF",
                   **{name: numbers(vectors.get(name, [])) for name in VECTORS})
 

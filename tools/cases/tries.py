@@ -56,21 +56,22 @@ def fed(word, link, step, z, rows):
     sys.stdout.buffer.write(name + struct.pack(">16dQ", *U, *W, *z, *rows, step, link))
 
 
-def show(word, number, p, rows):
+def show(word, counts, p, rows):
     if "--stdin" not in sys.argv:
-        print(word, number, *([] if p is None else [text(p)]), *[text(x) for x in rows])
+        print(word, *counts, *([] if p is None else [text(p)]), *[text(x) for x in rows])
 
 
 def search(word, link, z, rows):
     if "--stdin" in sys.argv:
         fed(word, link, 0.0, z, rows)
-    step = 1.0
-    for k in range(1, (100 if link == INVERSE else 25) + 1):
+    step, fates = 1.0, []
+    for _ in range(100 if link == INVERSE else 25):
         n, p = tried(link, step, z, rows)
+        fates.append(n)
         if n == 0:
             break
         step = step * 0.5
-    show(word, k, p, rows)
+    show(word, [0, 0, len(fates), 0, *map(fates.count, (1, 2, 3, 0))], p, rows)
     return p, rows[2:4]
 
 
@@ -78,7 +79,7 @@ def single(word, link, step, z, rows):
     if "--stdin" in sys.argv:
         fed(word, link, step, z, rows)
     n, p = tried(link, step, z, rows)
-    show(word, n, p, rows)
+    show(word, [n], p, rows)
 
 
 # A step that is accepted at once, and steps that must be halved: for an eta below E with the inverse link, for a mean, for PWRSS.
@@ -86,16 +87,23 @@ p, c = search("at_once", SQRT, Z, rows_of(1.1, 2.3, 1.5, 2.7))
 q, d = search("inverse", INVERSE, Z, rows_of(1.1, 2.3, -9.0, 2.7))
 search("log", LOG, Z, rows_of(1.1, 2.3, 1.5, 3e3))
 search("identity", IDENTITY, Z, rows_of(1.1, 2.3, 3e156, 2.7))
+# Steps that are refused for one test and then for another: eta, then PWRSS; a mean, then PWRSS.
+search("eta_pwrss", INVERSE, Z, rows_of(1.1, 2.3, -0.3, 1e156))
+search("mean_pwrss", SQRT, Z, rows_of(1.1, 2.3, 1e155, 2.7))
 # No step helps: 25 tries, with the inverse link 100.
 search("no_eta", LOGIT, Z, rows_of(1.1, 2.3, 1.5, INF))
 search("no_eta", INVERSE, Z, rows_of(1.1, 2.3, 1.5, -INF))
 search("no_mean", LOG, Z, rows_of(1.1, 800.0, 1.5, 801.0))
 search("no_pwrss", INVERSE, [1.7, 1e200], rows_of(1.1, 2.3, 1.5, 2.7))
-# Each answer of a try, and an eta of E and the next double with the inverse link.
+# Each answer of a try.
 single("step", CLOGLOG, 0.25, Z, rows_of(1.1, 2.3, 1.5, 2.7))
 single("eta", INVERSE, 1.0, Z, rows_of(1.1, 2.3, 1.5, -2.7))
 single("mean", LOG, 1.0, Z, rows_of(1.1, 2.3, 1.5, 710.0))
 single("pwrss", LOG, 1.0, [1.7, 1e200], rows_of(1.1, 2.3, 1.5, 2.7))
+# A try that fails two tests is refused for the first, though the other fails at an earlier observation.
+single("eta_first", LOG, 1.0, Z, rows_of(1.1, 2.3, 710.0, INF))
+single("mean_first", LOG, 1.0, [1e200, 0.3], rows_of(1.1, 2.3, 1.5, 710.0))
+# An eta of E and the next double with the inverse link.
 single("at_e", INVERSE, 1.0, Z, rows_of(0.0, 2.3, E, 2.7))
 single("past_e", INVERSE, 1.0, Z, rows_of(0.0, 2.3, math.nextafter(E, 1.0), 2.7))
 assert p != last(Z, c) or q != last(Z, d)

@@ -109,6 +109,7 @@ ASKED = ["Laplace", *RULES, "declined"]
 DECLINES = ["no order: product, k above 5", "no order: joint, q above 8",
             *(f"{rule}, {when}" for rule in RULES for when in ("no points", "after points", "free dispersion"))]
 WHYS = [f"why {why}" for why in range(7)]
+PARTS = {"eta": "refused for eta", "mean": "refused for a mean", "pwrss": "refused for PWRSS", "ok": "accepted"}
 FLAGS = ["flag 0, Laplace", "flag 0, quadrature", "flag 1, Laplace", "flag 1, quadrature"]
 DRESSES = ["no weights, no offset", "weights, no offset", "no weights, offset", "weights, offset"]
 WAYS = ["steps halved", "a weight not above 0", "deviance NaN", "deviance infinite"]
@@ -184,6 +185,9 @@ def classes_of(data, text):
     pair = name_of((job.family, job.link))
     yield "family and link", (pair, f"end {said['end']}")
     yield "limit", (limit_of(job), f"end {said['end']}")
+    for part in PARTS:
+        if said[part] > 0:
+            yield "tries", (PARTS[part], f"end {said['end']}")
     if said["end"] != 0:
         yield "inner fits", (f"end {said['end']}", "in the first" if said["fits"] == 1 else "in a later one")
     else:
@@ -194,7 +198,7 @@ def classes_of(data, text):
 
 ROWS_AND_COLUMNS = {
     "family and link": (NAMES, ENDS), "quadrature": (NAMES, ASKED), "why": (RULES, WHYS), "dispersion": (NAMES, FLAGS), "lists": (NAMES, DRESSES),
-    "largest": (NAMES, LARGEST), "limit": (LIMITS, ENDS), "inner fits": (ENDS[1:], ["in the first", "in a later one"])}
+    "largest": (NAMES, LARGEST), "limit": (LIMITS, ENDS), "tries": ([*PARTS.values()], ENDS), "inner fits": (ENDS[1:], ["in the first", "in a later one"])}
 NAMED = {"ending": [*ENDS, *(f"refused {number}" for number in [*range(1, 8), *range(20, 26)])], "refused": CAUSES,
          "order": [("Laplace", "not asked for"), *((rule, f"order {order}") for rule in RULES for order in (3, 5, 7, 9, 11)),
                    *(("declined", cause) for cause in DECLINES)],

@@ -9,8 +9,11 @@ LARGEST = (2.0 - E) * 2.0**1023
 
 
 class Account:
+    """The work of a call; the last four are what became of the tries."""
+
     def __init__(self):
         self.fits = self.solves = self.tries = self.points = 0
+        self.eta = self.mean = self.pwrss = self.ok = 0
 
 
 class Problem:
@@ -118,7 +121,7 @@ class Step:
 
 
 def tried(problem, account, step, previous, w, z):
-    """The accepted candidate with its means and PWRSS. Ended(12) where none is."""
+    """The accepted candidate with its means and PWRSS. Ended(12) where none is. A refused one is counted for the first test that it fails."""
     inverse = problem.job.link == INVERSE
     size = 1.0
     for _ in range(100 if inverse else 25):
@@ -126,16 +129,20 @@ def tried(problem, account, step, previous, w, z):
         eta = [e + (r - e) * size for e, r in zip(previous, step.raw)]
         size *= 0.5
         if not all(math.isfinite(e) and (not inverse or e > E) for e in eta):
+            account.eta += 1
             continue
         mu = [link_inv(problem.job.link, e) for e in eta]
         if not all(map(math.isfinite, mu)):
+            account.mean += 1
             continue
         pwrss = dot(step.u, step.u)
         for i in range(problem.job.n):
             rest = z[i] - eta[i]
             pwrss += w[i] * (rest * rest)
         if math.isfinite(pwrss):
+            account.ok += 1
             return eta, mu, pwrss
+        account.pwrss += 1
     raise Ended(12)
 
 

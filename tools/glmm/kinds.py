@@ -254,6 +254,19 @@ def in_vain(r):
     return about
 
 
+def squares(r):
+    """Residuals whose squares overflow at the whole step, and in most jobs not at a part of it: just above the largest double, or of one row with another's beta."""
+    n = 2 * r.randint(1, 2)
+    about = description(r, r.choice([("gaussian", "identity"), ("poisson", "identity")]), n, 1, some_blocks(r, 3, 1, 1))
+    if about["family"] == "gaussian":
+        size = (1.7976931348623157e308 / n) ** 0.5 * between(r, 1.0, 1.02)
+        about["y"], about["theta"] = [size, -size] * (n // 2), [between(r, 0.0, 1e-3)]
+    else:
+        about["y"][-1], about["x"][-1] = between(r, 1.0, 9.0) * r.choice([1e162, 1e163, 1e164]), [r.choice([1e9, 1e10, 1e11])]
+        about["zt"] = [[entry for entry in row if entry[0] == n - 1] for row in about["zt"]]
+    return {**about, "limit": r.choice([None, None, None, 1])}
+
+
 def halved(r):
     """Inverse link with responses of many sizes: steps that leave the positive predictors are halved, and most jobs still fit."""
     n = r.randint(4, 9)
@@ -427,7 +440,7 @@ def not_carried(r, about):
 
 
 KINDS = {plain: 24, middle: 6, scalar: 8, product: 8, joint: 6, strong: 4, weights: 5, thetas: 5, stored_zeros: 5, limits: 3, dispersion: 6, halved: 4, overshot: 1, far: 3, least: 3, wide: 2,
-         singular: 2, in_vain: 1, pivots: 3, coupled: 4, later_group: 1, second_block: 1, weightless: 1, reaching: 1, out_of_range: 3, extremes: 3, no_residual: 1, refused: 3, large: 1, full_joint: 1}
+         singular: 2, in_vain: 1, squares: 1, pivots: 3, coupled: 4, later_group: 1, second_block: 1, weightless: 1, reaching: 1, out_of_range: 3, extremes: 3, no_residual: 1, refused: 3, large: 1, full_joint: 1}
 
 
 def points(about, wish):

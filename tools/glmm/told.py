@@ -6,7 +6,8 @@ The JSON is one object:
                job can't be read
     refused    null, or {number, byte, meaning, todo}
     end        null where refused, else {number, meaning, todo}
-    counts     null where refused, else the numbers of the end line by their names: order, disp, iters, fits, solves, tries, points, why
+    counts     null where refused, else the numbers of the end line by their names: order, disp, iters, fits, solves, tries, points, why,
+               eta, mean, pwrss, ok
     warnings   a list of texts
     names      null where not fitted, else columns (of beta, se, z, v), effects (of u, b) and responses (of mu, eta, residual)
     results    null where not fitted, else every list by its name: deviance and phi as numbers, v as p rows
@@ -21,7 +22,8 @@ from sheet import short, sheet_beside
 from spread import LEAST, effect_spread, own_parts, slope, variance, wald
 
 NUMBERS = Path(__file__).resolve().parents[2] / "docs" / "NUMBERS.md"
-COUNTS = "end order disp iters fits solves tries points why".split()
+COUNTS = "end order disp iters fits solves tries points why eta mean pwrss ok".split()
+REFUSED = {"eta": "for eta", "mean": "for a mean", "pwrss": "for PWRSS"}  # tries, by the first test that they failed
 RESTLESS = 0.01  # a step, in standard errors, that a fit at rest would not take
 OWN = 1e-5  # the part of a column that the others don't give, below which six digits of se are not sure
 WHOLE = 0.001  # how far a binomial count may be from a whole number
@@ -43,7 +45,7 @@ class Answer:
             self.refused = int(first.split()[1]), int(first.split()[3])
         elif re.fullmatch(" ".join(name + r" \d+" for name in COUNTS), first):
             self.counts = dict(zip(COUNTS, map(int, first.split()[1::2])))
-        if not self.refused and not reasoned(self.counts):
+        if not self.refused and not (reasoned(self.counts) and parted(self.counts)):
             raise Unreadable(f"line 1: '{first}'")
         for at, line in enumerate(lines[1:], 2):
             self.take(at, line)
@@ -75,6 +77,11 @@ def reasoned(counts):
     return bool(counts) and counts["why"] in (range(1, 7) if counts["order"] == 1 else range(1))
 
 
+def parted(counts):
+    """What became of the tries adds up to them, and no more were accepted than systems were solved."""
+    return sum(counts[part] for part in (*REFUSED, "ok")) == counts["tries"] and counts["ok"] <= counts["solves"]
+
+
 def meanings():
     """Number: what it means, and what to do; from the tables with this head."""
     tables = re.findall(r"(?m)^\| No\. \| what it means \| what to do \|\n.*\n((?:\|.*\n)+)", NUMBERS.read_text(encoding="utf-8"))
@@ -86,6 +93,12 @@ def reasons():
     """Why it stayed with Laplace: what the number means, and what to do."""
     found = re.findall(r"(?m)^\| why (\d) \| (.*) \| (.*) \|$", NUMBERS.read_text(encoding="utf-8"))
     return {int(number): (means, do) for number, means, do in found}
+
+
+def parts():
+    """What became of a try: what its name means, and what to do."""
+    found = re.findall(r"(?m)^\| (eta|mean|pwrss|ok) \| (.*) \| (.*) \|$", NUMBERS.read_text(encoding="utf-8"))
+    return {name: (means, do) for name, means, do in found}
 
 
 def decimal(value):
@@ -179,6 +192,14 @@ def of_columns(job, lists, names):
                "take that off them.")
 
 
+def stopped(counts):
+    """What stopped the tries that were refused, in words; nothing where all were accepted."""
+    for part, test in REFUSED.items():
+        if counts[part] > 0:
+            means, do = parts().get(part, ("a test that is not known here.", "look into docs/NUMBERS.md"))
+            yield f"tries refused {test}, {counts[part]} of {counts['tries']}: {means} What to do: {do}"
+
+
 def warnings(job, counts, lists, names):
     """What a reader of this fit should know (docs/NUMBERS.md, 'What the table warns of')."""
     order, deviance = counts["order"], lists["deviance"][0]
@@ -201,6 +222,7 @@ def warnings(job, counts, lists, names):
         yield "the dispersion did not settle in 240 rounds: phi and what follows from it are those of the last round."
     if counts["tries"] > counts["solves"]:
         yield "steps were halved: where the last one was, beta, u and b are the full step's, mu and eta the halved one's."
+        yield from stopped(counts)
     if job.weights and not all(w > 0 for w in job.weights):
         yield "a weight is not above 0: in the fit it acts as 2^-52, in the deviance as it is."
     yield from of_data(job, names)
@@ -237,7 +259,7 @@ def table(answer, job, sheet=None, rows=False):
     account = "inner fits {fits}, solves {solves}, tries {tries}, points {points}".format(**counts)
     told = [*model(job), "", *wrapped(f"end {counts['end']}: {means}")]
     if counts["end"] != 0:
-        return [*told, *wrapped(f"What to do: {do}"), f"  {account}"]
+        return [*told, *wrapped(f"What to do: {do}"), f"  {account}", *(line for text in stopped(counts) for line in wrapped(text))]
     return [*told, f"  iterations {counts['iters']}, {account}", *fitted(job, answer, Names(job, sheet), rows)]
 
 

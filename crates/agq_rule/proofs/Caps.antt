@@ -1,4 +1,4 @@
--- The caps of the inner fit with its quadrature: the run's, and of points at most 11 a group of one effect, 400 a group of more, 7,000 over several blocks. Assumes nothing.
+-- The caps of the inner fit with its quadrature: the run's, and of points at most 11 a group of one effect, 400 a group of more, 7,000 over several blocks; and its accepted tries, which points are not. Assumes nothing.
 use mathlib.Core.Path.{_≡_, refl}
 use mathlib.Core.Bool.{Bool, true, false, cond}
 use mathlib.Core.List.{List, [], _++_}
@@ -13,12 +13,13 @@ use Rattle.base.specs.List.{build, at}
 use Rattle.base.specs.Sum.{_!!_}
 use Rattle.base.specs.Number.{zeroF, finite}
 use Rattle.base.proofs.Fills.{build-length}
-use Rattle.model.specs.Account.{AtMost, innerCap}
+use Rattle.model.specs.Account.{AtMost, Accepts, innerCap}
 use Rattle.model.specs.Caps.{pointsCap, innerCapOf}
-use Rattle.model.specs.Items.{Item, aPoint, isFit, isSolve, isTry, isPoint, countOf, tally}
+use Rattle.model.specs.Items.{Item, aPoint, isFit, isSolve, isTry, isPoint, isOk, countOf, tally}
 use Rattle.model.specs.Shape.{goodShape}
 use Rattle.model.proofs.Accounts.{caps-trans}
 use Rattle.model.proofs.Caps.{inner-caps}
+use Rattle.model.proofs.Parts.{parts-add-up, tally-parts, parts-capped}
 use Rattle.model.proofs.Shapes.{in-range}
 use Rattle.model.proofs.Tallies.{count-append, count-same}
 use Rattle.family.specs.Carried.{linkOf}
@@ -32,6 +33,7 @@ use Rattle.quadrature.proofs.OrderFacts.{product-within, joint-within}
 use Rattle.rule.specs.Given.{Given, qOf}
 use Rattle.rule.specs.Stop.{Mode}
 use Rattle.rule.specs.Run.{Ending, stopped, failed, runOf}
+use Rattle.rule.proofs.Accepted.{stuckIn, run-paid}
 use Rattle.rule.proofs.Caps.{run-capped, run-points}
 use Rattle.agq_rule.specs.Scale.{Scale, scaled, unscaled, sigmaOf, badDiagonal, blockScale, sectionOf}
 use Rattle.agq_rule.specs.Term.{oneTerm, groupTerm, jointTerm}
@@ -152,26 +154,47 @@ module _ (G : Given) (wish : ℕ) (M : Mode) (phi : Float) where
   pub points-capped : countOf isPoint (quadratureOf G wish M phi .items) ≤ pointsCap (G .design .shape)
   points-capped = all-points .points
 
+-- ---- no point is an accepted try, nor a solve
+points-none : {c : ℕ} {is : List Item} → Points c is → (countOf isSolve is ≡ 0) × (countOf isOk is ≡ 0)
+points-none {c} {is} p = (p .solves, omega (arith, p .tries, parts-add-up is))
+
 -- ---- the inner fit: the run's caps, and those of the points
 module _ (G : Given) (wish : ℕ) (phi : Float) (L : ℕ) (mu : List Float) where
-  by-ending : (x : Ending) → AtMost (innerCapOf (G .design .shape) (linkOf (G .link)) L) (tally (afterRun x G wish phi (runOf G phi L mu .items) .items))
+  -- one accepted try for each solve, and one solve more where the run ended with 12
+  paid-by : (x : Ending) (is : List Item) → countOf isSolve is ≡ countOf isOk is + stuckIn x
+      → countOf isSolve (afterRun x G wish phi is .items) ≡ countOf isOk (afterRun x G wish phi is .items) + stuckIn x
+  unfolding afterRun withPoints
+  paid-by (failed e) is q = q
+  paid-by (stopped M) is q =
+      let js = quadratureOf G wish M phi .items in
+      let none = points-none (all-points G wish M phi) in
+      omega (arith, q, none .0, none .1, count-append isSolve is js, count-append isOk is js)
+
+  pub inner-paid : countOf isSolve (innerOf G wish phi L mu .items) ≡ countOf isOk (innerOf G wish phi L mu .items) + stuckIn (runOf G phi L mu .ending)
+  unfolding innerOf innerWith
+  inner-paid = paid-by (runOf G phi L mu .ending) (runOf G phi L mu .items) (run-paid G phi L mu)
+
+  -- accepted never exceed the solves
+  pub inner-accepted : Accepts (tally (innerOf G wish phi L mu .items))
+  unfolding tally
+  inner-accepted = omega (arith, inner-paid)
+
+  by-ending : (x : Ending) → countOf isSolve (runOf G phi L mu .items) ≡ countOf isOk (runOf G phi L mu .items) + stuckIn x
+      → AtMost (innerCapOf (G .design .shape) (linkOf (G .link)) L) (tally (afterRun x G wish phi (runOf G phi L mu .items) .items))
   unfolding afterRun withPoints tally innerCapOf
-  by-ending (failed e) = run-capped G phi L mu
-  by-ending (stopped M) =
+  by-ending (failed e) q = run-capped G phi L mu
+  by-ending (stopped M) q =
       let is = runOf G phi L mu .items in
       let js = quadratureOf G wish M phi .items in
       let r = run-capped G phi L mu in
       let p = all-points G wish M phi in
-      record {
-        fits = omega (arith, r .fits, p .fits, count-append isFit is js);
-        solves = omega (arith, r .solves, p .solves, count-append isSolve is js);
-        tries = omega (arith, r .tries, p .tries, count-append isTry is js);
-        points = omega (arith, run-points G phi L mu, p .points, count-append isPoint is js);
-      }
+      parts-capped _ _ (tally-parts (is ++ js)) (omega (arith, paid-by (stopped M) is q)) (omega (arith, r .fits, p .fits, count-append isFit is js))
+      (omega (arith, r .solves, p .solves, count-append isSolve is js)) (omega (arith, r .tries, p .tries, count-append isTry is js))
+      (omega (arith, run-points G phi L mu, p .points, count-append isPoint is js)) (omega arith) (omega arith) (omega arith) (omega arith)
 
   pub inner-capped : AtMost (innerCapOf (G .design .shape) (linkOf (G .link)) L) (tally (innerOf G wish phi L mu .items))
   unfolding innerOf innerWith
-  inner-capped = by-ending (runOf G phi L mu .ending)
+  inner-capped = by-ending (runOf G phi L mu .ending) (run-paid G phi L mu)
 
   -- of a good shape, whatever it is: 1000 solves, 100000 tries, 7000 points
   pub inner-within : goodShape (G .design .shape) ≡ true → L ≤ 1000 → AtMost innerCap (tally (innerOf G wish phi L mu .items))

@@ -49,10 +49,10 @@ no-link = refl
 -- an answer with numbers that all differ
 module _ (d p : Float) where
   abbrev answered : Bool → Answer
-  answered settled = record { number = 0; deviance = d; phi = p; order = 7; why = 2; converged = settled; iterations = 3; account = record { fits = 4; solves = 5; tries = 6; points = 8 } }
+  answered settled = record { number = 0; deviance = d; phi = p; order = 7; why = 2; converged = settled; iterations = 3; account = record { fits = 4; solves = 5; tries = 6; points = 8; eta = 9; mean = 10; pwrss = 11; ok = 12 } }
 
   abbrev told : ℕ → PlainAnswer
-  told flag = record { number = 0; deviance = d; phi = p; order = 7; flag = flag; iterations = 3; fits = 4; solves = 5; tries = 6; points = 8; why = 2 }
+  told flag = record { number = 0; deviance = d; phi = p; order = 7; flag = flag; iterations = 3; fits = 4; solves = 5; tries = 6; points = 8; why = 2; eta = 9; mean = 10; pwrss = 11; ok = 12 }
 
   flags : (plainOf (answered true) ≡ told 1) × (plainOf (answered false) ≡ told 0)
   unfolding plainOf

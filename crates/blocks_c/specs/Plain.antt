@@ -1,4 +1,4 @@
--- What a call over a list of blocks shows to C: an answer of plain numbers, and the lent slices. Document 01, "Numbers of an answer"; document 02, P5. Assumes nothing.
+-- What a call over a list of blocks shows to C: an answer of plain numbers, and the lent slices. Document 01, "Numbers of an answer"; document 02, P5 and P9. Assumes nothing.
 use mathlib.Core.Bool.{cond}
 use mathlib.Core.List.{List}
 use Rattle.model.specs.declared.ends.Answer.{Answer}
@@ -10,7 +10,7 @@ use Rattle.blocks_c.specs.Coded.{settingsOf}
 use Rattle.blocks_c.specs.declared.CodedSettings.{CodedSettings}
 use Rattle.blocks_c.specs.declared.PlainAnswer.{PlainAnswer}
 
--- the numbers of an answer, of its account, and why
+-- the numbers of an answer, of its account, why, and the parts of the tries
 unfoldable pub plainOf : Answer → PlainAnswer
 plainOf a =
     record {
@@ -25,6 +25,10 @@ plainOf a =
       tries = a .account .tries;
       points = a .account .points;
       why = a .why;
+      eta = a .account .eta;
+      mean = a .account .mean;
+      pwrss = a .account .pwrss;
+      ok = a .account .ok;
     }
 
 -- what is returned, and the lent slices afterwards

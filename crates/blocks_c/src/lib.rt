@@ -46,6 +46,10 @@ pub struct PlainAnswer {
     pub tries: u64,
     pub points: u64,
     pub why: u64,
+    pub eta: u64,
+    pub mean: u64,
+    pub pwrss: u64,
+    pub ok: u64,
 }
 
 fn limit_in(code: usize) -> Limit
@@ -121,6 +125,10 @@ fn plain(answer: Answer) -> PlainAnswer
         tries: account.tries,
         points: account.points,
         why: answer.why as u64,
+        eta: account.eta,
+        mean: account.mean,
+        pwrss: account.pwrss,
+        ok: account.ok,
     }
 }
 

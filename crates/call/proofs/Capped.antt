@@ -1,4 +1,4 @@
--- The account of a call keeps to its caps: at most 241 inner fits, 241,000 solves, 24,100,000 tries and 1,687,000 points. Assumes nothing.
+-- The account of a call keeps to its caps: at most 241 inner fits, 241,000 solves, 24,100,000 tries and 1,687,000 points; of the tries' parts those refused as the tries, those accepted as the solves. Assumes nothing.
 use mathlib.Core.Path.{_≡_, refl}
 use mathlib.Core.Bool.{Bool, true, false}
 use Prim.Native.Nat.{ℕ, _≤_}
@@ -31,10 +31,30 @@ use Rattle.call.proofs.Leaves.{refused-left, accepted-account}
 
 -- the caps of an inner fit are within those of a call
 pub one-fit : AtMost callCap innerCap
-one-fit = record { fits = omega arith; solves = omega arith; tries = omega arith; points = omega arith }
+one-fit =
+    record {
+      fits = omega arith;
+      solves = omega arith;
+      tries = omega arith;
+      points = omega arith;
+      eta = omega arith;
+      mean = omega arith;
+      pwrss = omega arith;
+      ok = omega arith;
+    }
 
 none-capped : Capped noCounts
-none-capped = record { fits = omega arith; solves = omega arith; tries = omega arith; points = omega arith }
+none-capped =
+    record {
+      fits = omega arith;
+      solves = omega arith;
+      tries = omega arith;
+      points = omega arith;
+      eta = omega arith;
+      mean = omega arith;
+      pwrss = omega arith;
+      ok = omega arith;
+    }
 
 -- ---- the fit of a good shape with at most 1000 iterations
 module _ (G : Given) (wish L : ℕ) (good : goodShape (G .design .shape) ≡ true) (few : L ≤ 1000) where

@@ -1,13 +1,13 @@
 -- The account of an accepted call by its limit, link and shape: what one inner fit may do, or with a dispersion 241 times that. The request, demand 3. Assumes nothing.
 use mathlib.Core.Path.{_≡_}
-use mathlib.Core.Bool.{true, false}
-use Prim.Native.Nat.{ℕ, suc, _*_, _≤_}
+use mathlib.Core.Bool.{Bool, true, false}
+use Prim.Native.Nat.{ℕ, _*_, _≤_}
 use native.Mathlib.Omega.{arith}
 use lib.Ieee.{Float}
 use Rattle.base.specs.Number.{oneF}
 use Rattle.model.specs.Account.{AtMost, times}
 use Rattle.model.specs.Caps.{innerCapOf}
-use Rattle.model.specs.Items.{isFit, isSolve, isTry, isPoint, tally}
+use Rattle.model.specs.Items.{Item, isFit, isSolve, isTry, isPoint, isEta, isMean, isPwrss, isOk, countOf, tally}
 use Rattle.model.specs.Names.{limitOf}
 use Rattle.model.specs.declared.counts.Account.{Account}
 use Rattle.model.specs.declared.sizes.Shape.{Shape}
@@ -29,9 +29,6 @@ use Rattle.call.specs.Fit.{sumOf, totalOf, innerAt, fitBy, fitOf}
 use Rattle.call.specs.Call.{Lent, lengthsOf, callGiven, callOf}
 use Rattle.call.proofs.Leaves.{accepted-account}
 
-by-241 : (c x : ℕ) → x ≤ c * suc 240 → x ≤ 241 * c
-by-241 c x l = omega (arith, l)
-
 -- ---- the fit
 module _ (G : Given) (wish L : ℕ) where
   abbrev cap : Account
@@ -45,14 +42,23 @@ module _ (G : Given) (wish L : ℕ) where
   unfolding fitOf fitBy fixedOf lastFit
   one-capped-by e = rw e (each-capped oneF)
 
+  -- what no inner fit has more than c of, 241 of them have no more than 241·c of
+  rounds-most : (t : Item → Bool) (c : ℕ) → ((phi : Float) → countOf t (innerAt G wish L phi .items) ≤ c) → countOf t (fitBy true G wish L .items) ≤ 241 * c
+  unfolding fitBy dispersionOf
+  rounds-most t c few = omega (arith, loop-most (effectiveN (nOf G) (G .weights)) sumOf (innerAt G wish L) t c few 240 oneF)
+
   rounds-capped-by : AtMost (times 241 cap) (tally (fitBy true G wish L .items))
-  unfolding fitBy dispersionOf tally
+  unfolding tally
   rounds-capped-by =
       record {
-        fits = by-241 (cap .fits) _ (loop-most (effectiveN (nOf G) (G .weights)) sumOf (innerAt G wish L) isFit (cap .fits) (λ phi. each-capped phi .fits) 240 oneF);
-        solves = by-241 (cap .solves) _ (loop-most (effectiveN (nOf G) (G .weights)) sumOf (innerAt G wish L) isSolve (cap .solves) (λ phi. each-capped phi .solves) 240 oneF);
-        tries = by-241 (cap .tries) _ (loop-most (effectiveN (nOf G) (G .weights)) sumOf (innerAt G wish L) isTry (cap .tries) (λ phi. each-capped phi .tries) 240 oneF);
-        points = by-241 (cap .points) _ (loop-most (effectiveN (nOf G) (G .weights)) sumOf (innerAt G wish L) isPoint (cap .points) (λ phi. each-capped phi .points) 240 oneF);
+        fits = rounds-most isFit (cap .fits) (λ phi. each-capped phi .fits);
+        solves = rounds-most isSolve (cap .solves) (λ phi. each-capped phi .solves);
+        tries = rounds-most isTry (cap .tries) (λ phi. each-capped phi .tries);
+        points = rounds-most isPoint (cap .points) (λ phi. each-capped phi .points);
+        eta = rounds-most isEta (cap .eta) (λ phi. each-capped phi .eta);
+        mean = rounds-most isMean (cap .mean) (λ phi. each-capped phi .mean);
+        pwrss = rounds-most isPwrss (cap .pwrss) (λ phi. each-capped phi .pwrss);
+        ok = rounds-most isOk (cap .ok) (λ phi. each-capped phi .ok);
       }
 
   pub all-capped-by : usesDispersion (G .family) ≡ true → AtMost (times 241 cap) (tally (fitOf G wish L .items))

@@ -7,7 +7,7 @@ use borrow.Author.Tests.{le-leb}
 use Rattle.base.specs.Number.{oneF}
 use Rattle.model.specs.Account.{AtMost}
 use Rattle.model.specs.Answer.{unfittedAnswer}
-use Rattle.model.specs.Items.{Item, isFit, isSolve, isTry, isPoint, countOf, tally}
+use Rattle.model.specs.Items.{Item, isFit, isSolve, isTry, isPoint, isEta, isMean, isPwrss, isOk, countOf, tally}
 use Rattle.model.specs.Names.{limitOf}
 use Rattle.model.specs.Settings.{goodLimit, goodSizes, Sized}
 use Rattle.model.specs.declared.names.Limit.the-variants.{Given}
@@ -67,6 +67,10 @@ module _ (G : given.Given) (wish L M : ℕ) (l : L ≤ M) where
         solves = by-grows (usesDispersion (G .family)) isSolve;
         tries = by-grows (usesDispersion (G .family)) isTry;
         points = by-grows (usesDispersion (G .family)) isPoint;
+        eta = by-grows (usesDispersion (G .family)) isEta;
+        mean = by-grows (usesDispersion (G .family)) isMean;
+        pwrss = by-grows (usesDispersion (G .family)) isPwrss;
+        ok = by-grows (usesDispersion (G .family)) isOk;
       }
 
 -- ---- the call with another limit

@@ -3,6 +3,7 @@ pub mod Leaves
 pub mod Higher
 pub mod Capped
 pub mod CappedBy
+pub mod Parts
 pub mod Told
 pub mod Unique
 pub mod Stopped

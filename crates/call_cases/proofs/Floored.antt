@@ -87,7 +87,7 @@ abbrev room : LentLengths
 room = record { beta = 1; se = 1; z = 1; u = 1; b = 1; mu = 2; eta = 2; residual = 2; v = 1; rows = 32; matrices = 33; terms = 7000 }
 
 abbrev answer : Lent → Told
-answer L = record { answer = record { number = 0; deviance = bits 0x7ff0_0000_0000_0000; phi = bits 0x3f0e_05e8_756c_4cc8; order = 1; why = 1; converged = true; iterations = 2; account = record { fits = 4; solves = 8; tries = 8; points = 0 } }; results = record { beta = bits 0x9ee2_426c_b58e_9369 ∷ []; se = bits 0x3f85_e98d_6350_9945 ∷ []; z = bits 0x9f4a_aa5f_0c3d_8e92 ∷ []; u = bits 0x1f02_f428_8967_93b4 ∷ []; b = bits 0x1ef2_f428_8967_93b4 ∷ []; mu = bits 0x1eec_155e_e42e_dd6a ∷ bits 0x9ee5_1240_37de_0138 ∷ []; eta = bits 0x1eec_155e_e42e_dd6a ∷ bits 0x9ee5_1240_37de_0138 ∷ []; residual = bits 0x1e51_c865_d6d9_4e00 ∷ bits 0x9e41_c865_d6d9_5400 ∷ []; v = bits 0x3f1e_0264_4f81_869a ∷ [] } }
+answer L = record { answer = record { number = 0; deviance = bits 0x7ff0_0000_0000_0000; phi = bits 0x3f0e_05e8_756c_4cc8; order = 1; why = 1; converged = true; iterations = 2; account = record { fits = 4; solves = 8; tries = 8; points = 0; eta = 0; mean = 0; pwrss = 0; ok = 8 } }; results = record { beta = bits 0x9ee2_426c_b58e_9369 ∷ []; se = bits 0x3f85_e98d_6350_9945 ∷ []; z = bits 0x9f4a_aa5f_0c3d_8e92 ∷ []; u = bits 0x1f02_f428_8967_93b4 ∷ []; b = bits 0x1ef2_f428_8967_93b4 ∷ []; mu = bits 0x1eec_155e_e42e_dd6a ∷ bits 0x9ee5_1240_37de_0138 ∷ []; eta = bits 0x1eec_155e_e42e_dd6a ∷ bits 0x9ee5_1240_37de_0138 ∷ []; residual = bits 0x1e51_c865_d6d9_4e00 ∷ bits 0x9e41_c865_d6d9_5400 ∷ []; v = bits 0x3f1e_0264_4f81_869a ∷ [] } }
 
 -- in slices of these lengths
 computed : (L : Lent) → toldOf (callBy (tableOf 1 settings shape inputs room) settings shape inputs L) ≡ answer L

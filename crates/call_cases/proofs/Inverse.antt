@@ -87,7 +87,7 @@ abbrev room : LentLengths
 room = record { beta = 1; se = 1; z = 1; u = 1; b = 1; mu = 2; eta = 2; residual = 2; v = 1; rows = 32; matrices = 33; terms = 7000 }
 
 abbrev answer : Lent → Told
-answer L = record { answer = record { number = 0; deviance = bits 0x4019_a30a_e3fe_c1d4; phi = bits 0x3ff0_0000_004b_da00; order = 1; why = 1; converged = true; iterations = 7; account = record { fits = 2; solves = 14; tries = 14; points = 0 } }; results = record { beta = bits 0x3fe3_1bea_f790_3d88 ∷ []; se = bits 0x3fd4_237e_0411_6eda ∷ []; z = bits 0x3ffe_5d2f_2856_cb7d ∷ []; u = bits 0xbfc1_0930_6d64_c950 ∷ []; b = bits 0xbf8b_41e7_156e_0ee7 ∷ []; mu = bits 0x3ff7_65a1_2474_a31e ∷ bits 0x400a_cb28_2a82_92e4 ∷ []; eta = bits 0x3fe5_e216_8e6d_b87f ∷ bits 0x3fd3_1bea_f790_3d88 ∷ []; residual = bits 0x3ff3_eaad_0527_1c22 ∷ bits 0xbfee_5fd3_dd3d_7ec4 ∷ []; v = bits 0x3fb9_5909_c55d_e17a ∷ [] } }
+answer L = record { answer = record { number = 0; deviance = bits 0x4019_a30a_e3fe_c1d4; phi = bits 0x3ff0_0000_004b_da00; order = 1; why = 1; converged = true; iterations = 7; account = record { fits = 2; solves = 14; tries = 14; points = 0; eta = 0; mean = 0; pwrss = 0; ok = 14 } }; results = record { beta = bits 0x3fe3_1bea_f790_3d88 ∷ []; se = bits 0x3fd4_237e_0411_6eda ∷ []; z = bits 0x3ffe_5d2f_2856_cb7d ∷ []; u = bits 0xbfc1_0930_6d64_c950 ∷ []; b = bits 0xbf8b_41e7_156e_0ee7 ∷ []; mu = bits 0x3ff7_65a1_2474_a31e ∷ bits 0x400a_cb28_2a82_92e4 ∷ []; eta = bits 0x3fe5_e216_8e6d_b87f ∷ bits 0x3fd3_1bea_f790_3d88 ∷ []; residual = bits 0x3ff3_eaad_0527_1c22 ∷ bits 0xbfee_5fd3_dd3d_7ec4 ∷ []; v = bits 0x3fb9_5909_c55d_e17a ∷ [] } }
 
 -- in slices of these lengths
 computed : (L : Lent) → toldOf (callBy (tableOf 1 settings shape inputs room) settings shape inputs L) ≡ answer L

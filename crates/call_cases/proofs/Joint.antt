@@ -87,7 +87,7 @@ abbrev room : LentLengths
 room = record { beta = 1; se = 1; z = 1; u = 2; b = 2; mu = 3; eta = 3; residual = 3; v = 1; rows = 48; matrices = 56; terms = 7000 }
 
 abbrev answer : Lent → Told
-answer L = record { answer = record { number = 0; deviance = bits 0x4024_000c_cf04_663a; phi = bits 0x3ff0_0000_0094_893d; order = 3; why = 0; converged = true; iterations = 2; account = record { fits = 3; solves = 6; tries = 6; points = 27 } }; results = record { beta = bits 0x4005_fc8a_a753_2319 ∷ []; se = bits 0x3fe4_f5c4_d099_249c ∷ []; z = bits 0x4010_c896_f00b_550a ∷ []; u = bits 0xbfe5_3697_16d6_f79e ∷ bits 0xbfba_e6a5_e44d_b59a ∷ []; b = bits 0xbfd5_3697_16d6_f79e ∷ bits 0xbfa0_23fd_2295_068f ∷ []; mu = bits 0x4003_55b7_c478_4425 ∷ bits 0x4003_356f_ca33_1a18 ∷ bits 0x4005_fc8a_a753_2319 ∷ []; eta = bits 0x4003_55b7_c478_4425 ∷ bits 0x4003_356f_ca33_1a18 ∷ bits 0x4005_fc8a_a753_2319 ∷ []; residual = bits 0xbfda_adbe_23c2_2128 ∷ bits 0xbff6_6adf_9466_3430 ∷ bits 0x3ff5_3697_179b_e682 ∷ []; v = bits 0x3fdb_752b_2e68_2ecf ∷ [] } }
+answer L = record { answer = record { number = 0; deviance = bits 0x4024_000c_cf04_663a; phi = bits 0x3ff0_0000_0094_893d; order = 3; why = 0; converged = true; iterations = 2; account = record { fits = 3; solves = 6; tries = 6; points = 27; eta = 0; mean = 0; pwrss = 0; ok = 6 } }; results = record { beta = bits 0x4005_fc8a_a753_2319 ∷ []; se = bits 0x3fe4_f5c4_d099_249c ∷ []; z = bits 0x4010_c896_f00b_550a ∷ []; u = bits 0xbfe5_3697_16d6_f79e ∷ bits 0xbfba_e6a5_e44d_b59a ∷ []; b = bits 0xbfd5_3697_16d6_f79e ∷ bits 0xbfa0_23fd_2295_068f ∷ []; mu = bits 0x4003_55b7_c478_4425 ∷ bits 0x4003_356f_ca33_1a18 ∷ bits 0x4005_fc8a_a753_2319 ∷ []; eta = bits 0x4003_55b7_c478_4425 ∷ bits 0x4003_356f_ca33_1a18 ∷ bits 0x4005_fc8a_a753_2319 ∷ []; residual = bits 0xbfda_adbe_23c2_2128 ∷ bits 0xbff6_6adf_9466_3430 ∷ bits 0x3ff5_3697_179b_e682 ∷ []; v = bits 0x3fdb_752b_2e68_2ecf ∷ [] } }
 
 -- in slices of these lengths
 computed : (L : Lent) → toldOf (callBy (tableOf 1 settings shape inputs room) settings shape inputs L) ≡ answer L

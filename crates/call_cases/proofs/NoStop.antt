@@ -87,7 +87,7 @@ abbrev room : LentLengths
 room = record { beta = 1; se = 1; z = 1; u = 1; b = 1; mu = 2; eta = 2; residual = 2; v = 1; rows = 32; matrices = 33; terms = 7000 }
 
 abbrev answer : Lent → Told
-answer L = record { answer = record { number = 13; deviance = zeroF; phi = zeroF; order = 0; why = 0; converged = false; iterations = 0; account = record { fits = 2; solves = 8; tries = 8; points = 0 } }; results = L .results }
+answer L = record { answer = record { number = 13; deviance = zeroF; phi = zeroF; order = 0; why = 0; converged = false; iterations = 0; account = record { fits = 2; solves = 8; tries = 8; points = 0; eta = 0; mean = 0; pwrss = 0; ok = 8 } }; results = L .results }
 
 -- in slices of these lengths
 computed : (L : Lent) → toldOf (callBy (tableOf 1 settings shape inputs room) settings shape inputs L) ≡ answer L

@@ -87,7 +87,7 @@ abbrev room : LentLengths
 room = record { beta = 1; se = 1; z = 1; u = 2; b = 2; mu = 3; eta = 3; residual = 3; v = 1; rows = 48; matrices = 56; terms = 7000 }
 
 abbrev answer : Lent → Told
-answer L = record { answer = record { number = 0; deviance = bits 0x4024_550b_af6c_3e17; phi = bits 0x3ff0_0000_0094_566a; order = 5; why = 0; converged = true; iterations = 2; account = record { fits = 3; solves = 6; tries = 6; points = 30 } }; results = record { beta = bits 0x4004_3eac_f582_832a ∷ []; se = bits 0x3fed_7880_0fc7_839b ∷ []; z = bits 0x4005_fb79_55cf_ef79 ∷ []; u = bits 0xbfe5_b901_12fe_e743 ∷ bits 0xbfc4_1197_95bc_68d8 ∷ []; b = bits 0xbfec_3d4e_324b_5fd7 ∷ bits 0xbfca_16de_a90e_884c ∷ []; mu = bits 0x3ffa_5eb2_d1df_5668 ∷ bits 0x4002_9d3f_0af1_9aa5 ∷ bits 0x4003_6df6_003a_0ee8 ∷ []; eta = bits 0x3ffa_5eb2_d1df_5668 ∷ bits 0x4002_9d3f_0af1_9aa5 ∷ bits 0x4003_6df6_003a_0ee8 ∷ []; residual = bits 0xbfd6_4798_144a_266c ∷ bits 0xbff8_6db1_4916_687d ∷ bits 0x3ff4_91b1_ac27_02aa ∷ []; v = bits 0x3feb_242d_df10_7528 ∷ [] } }
+answer L = record { answer = record { number = 0; deviance = bits 0x4024_550b_af6c_3e17; phi = bits 0x3ff0_0000_0094_566a; order = 5; why = 0; converged = true; iterations = 2; account = record { fits = 3; solves = 6; tries = 6; points = 30; eta = 0; mean = 0; pwrss = 0; ok = 6 } }; results = record { beta = bits 0x4004_3eac_f582_832a ∷ []; se = bits 0x3fed_7880_0fc7_839b ∷ []; z = bits 0x4005_fb79_55cf_ef79 ∷ []; u = bits 0xbfe5_b901_12fe_e743 ∷ bits 0xbfc4_1197_95bc_68d8 ∷ []; b = bits 0xbfec_3d4e_324b_5fd7 ∷ bits 0xbfca_16de_a90e_884c ∷ []; mu = bits 0x3ffa_5eb2_d1df_5668 ∷ bits 0x4002_9d3f_0af1_9aa5 ∷ bits 0x4003_6df6_003a_0ee8 ∷ []; eta = bits 0x3ffa_5eb2_d1df_5668 ∷ bits 0x4002_9d3f_0af1_9aa5 ∷ bits 0x4003_6df6_003a_0ee8 ∷ []; residual = bits 0xbfd6_4798_144a_266c ∷ bits 0xbff8_6db1_4916_687d ∷ bits 0x3ff4_91b1_ac27_02aa ∷ []; v = bits 0x3feb_242d_df10_7528 ∷ [] } }
 
 -- in slices of these lengths
 computed : (L : Lent) → toldOf (callBy (tableOf 1 settings shape inputs room) settings shape inputs L) ≡ answer L

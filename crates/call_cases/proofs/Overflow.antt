@@ -87,7 +87,7 @@ abbrev room : LentLengths
 room = record { beta = 1; se = 1; z = 1; u = 1; b = 1; mu = 2; eta = 2; residual = 2; v = 1; rows = 32; matrices = 33; terms = 7000 }
 
 abbrev answer : Lent → Told
-answer L = record { answer = record { number = 0; deviance = bits 0x7ff0_0000_0000_0000; phi = bits 0x4650_778b_bf7f_eb41; order = 1; why = 1; converged = true; iterations = 2; account = record { fits = 2; solves = 3; tries = 3; points = 0 } }; results = record { beta = bits 0x5fdb_b67a_e749_c1a0 ∷ []; se = bits 0x4186_a09e_667f_3bcc ∷ []; z = bits 0x5e43_988e_1349_d3a5 ∷ []; u = bits 0xdc8b_b67a_e749_c1a0 ∷ []; b = bits 0xdc7b_b67a_e749_c1a0 ∷ []; mu = bits 0x5fdb_b67a_e749_c1a0 ∷ bits 0x5fdb_b67a_e749_c1a0 ∷ []; eta = bits 0x5fdb_b67a_e749_c1a0 ∷ bits 0x5fdb_b67a_e749_c1a0 ∷ []; residual = bits 0xdfdb_b67a_e749_c1a0 ∷ bits 0x5fdb_b67a_e749_c1a2 ∷ []; v = bits 0x431f_ffff_ffff_fffe ∷ [] } }
+answer L = record { answer = record { number = 0; deviance = bits 0x7ff0_0000_0000_0000; phi = bits 0x4650_778b_bf7f_eb41; order = 1; why = 1; converged = true; iterations = 2; account = record { fits = 2; solves = 3; tries = 3; points = 0; eta = 0; mean = 0; pwrss = 0; ok = 3 } }; results = record { beta = bits 0x5fdb_b67a_e749_c1a0 ∷ []; se = bits 0x4186_a09e_667f_3bcc ∷ []; z = bits 0x5e43_988e_1349_d3a5 ∷ []; u = bits 0xdc8b_b67a_e749_c1a0 ∷ []; b = bits 0xdc7b_b67a_e749_c1a0 ∷ []; mu = bits 0x5fdb_b67a_e749_c1a0 ∷ bits 0x5fdb_b67a_e749_c1a0 ∷ []; eta = bits 0x5fdb_b67a_e749_c1a0 ∷ bits 0x5fdb_b67a_e749_c1a0 ∷ []; residual = bits 0xdfdb_b67a_e749_c1a0 ∷ bits 0x5fdb_b67a_e749_c1a2 ∷ []; v = bits 0x431f_ffff_ffff_fffe ∷ [] } }
 
 -- in slices of these lengths
 computed : (L : Lent) → toldOf (callBy (tableOf 1 settings shape inputs room) settings shape inputs L) ≡ answer L

@@ -87,7 +87,7 @@ abbrev room : LentLengths
 room = record { beta = 1; se = 1; z = 1; u = 1; b = 1; mu = 2; eta = 2; residual = 2; v = 1; rows = 32; matrices = 33; terms = 7000 }
 
 abbrev answer : Lent → Told
-answer L = record { answer = record { number = 0; deviance = bits 0x401b_1c2a_a10e_722c; phi = bits 0x3ff0_0000_008f_ccbe; order = 1; why = 1; converged = true; iterations = 2; account = record { fits = 3; solves = 6; tries = 6; points = 0 } }; results = record { beta = bits 0x3fe8_0000_01fd_f59d ∷ []; se = bits 0x3fe7_a231_6671_80af ∷ []; z = bits 0x3ff0_3f81_f758_a621 ∷ []; u = bits 0xbfe0_0000_00f4_1b3f ∷ []; b = bits 0xbfd0_0000_00f4_1b3f ∷ []; mu = bits 0x3fe0_0000_0183_e7fe ∷ bits 0x3fe8_0000_01fd_f59d ∷ []; eta = bits 0x3fe0_0000_0183_e7fe ∷ bits 0x3fe8_0000_01fd_f59d ∷ []; residual = bits 0xbfe0_0000_0183_e7fe ∷ bits 0x4000_0000_0183_e7fe ∷ []; v = bits 0x3fe1_745d_17bc_a936 ∷ [] } }
+answer L = record { answer = record { number = 0; deviance = bits 0x401b_1c2a_a10e_722c; phi = bits 0x3ff0_0000_008f_ccbe; order = 1; why = 1; converged = true; iterations = 2; account = record { fits = 3; solves = 6; tries = 6; points = 0; eta = 0; mean = 0; pwrss = 0; ok = 6 } }; results = record { beta = bits 0x3fe8_0000_01fd_f59d ∷ []; se = bits 0x3fe7_a231_6671_80af ∷ []; z = bits 0x3ff0_3f81_f758_a621 ∷ []; u = bits 0xbfe0_0000_00f4_1b3f ∷ []; b = bits 0xbfd0_0000_00f4_1b3f ∷ []; mu = bits 0x3fe0_0000_0183_e7fe ∷ bits 0x3fe8_0000_01fd_f59d ∷ []; eta = bits 0x3fe0_0000_0183_e7fe ∷ bits 0x3fe8_0000_01fd_f59d ∷ []; residual = bits 0xbfe0_0000_0183_e7fe ∷ bits 0x4000_0000_0183_e7fe ∷ []; v = bits 0x3fe1_745d_17bc_a936 ∷ [] } }
 
 -- in slices of these lengths
 computed : (L : Lent) → toldOf (callBy (tableOf 1 settings shape inputs room) settings shape inputs L) ≡ answer L

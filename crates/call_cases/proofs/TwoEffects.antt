@@ -87,7 +87,7 @@ abbrev room : LentLengths
 room = record { beta = 1; se = 1; z = 1; u = 2; b = 2; mu = 3; eta = 3; residual = 3; v = 1; rows = 48; matrices = 56; terms = 7000 }
 
 abbrev answer : Lent → Told
-answer L = record { answer = record { number = 0; deviance = bits 0x4023_6cc1_be7b_052b; phi = bits 0x3ff0_0000_0094_1645; order = 3; why = 0; converged = true; iterations = 3; account = record { fits = 3; solves = 9; tries = 9; points = 27 } }; results = record { beta = bits 0x4004_1458_ab36_efd8 ∷ []; se = bits 0x3fe5_cbe7_ec83_0041 ∷ []; z = bits 0x400d_7aab_e97e_f7ba ∷ []; u = bits 0xbfe6_a240_0cb8_d58a ∷ bits 0xbfaf_7d5c_12e1_e858 ∷ []; b = bits 0xbfd6_a240_0cb8_d58a ∷ bits 0xbfc4_7800_8b98_02a8 ∷ []; mu = bits 0x4002_0cdd_766c_a1f4 ∷ bits 0x4000_9c50_a543_1512 ∷ bits 0x4002_28df_0f6e_f633 ∷ []; eta = bits 0x4002_0cdd_766c_a1f4 ∷ bits 0x4000_9c50_a543_1512 ∷ bits 0x4002_28df_0f6e_f633 ∷ []; residual = bits 0xbfd0_66eb_b365_0fa0 ∷ bits 0xbff1_38a1_4a86_2a24 ∷ bits 0x3ff5_525c_375f_6e0a ∷ []; v = bits 0x3fdd_b167_670b_27c0 ∷ [] } }
+answer L = record { answer = record { number = 0; deviance = bits 0x4023_6cc1_be7b_052b; phi = bits 0x3ff0_0000_0094_1645; order = 3; why = 0; converged = true; iterations = 3; account = record { fits = 3; solves = 9; tries = 9; points = 27; eta = 0; mean = 0; pwrss = 0; ok = 9 } }; results = record { beta = bits 0x4004_1458_ab36_efd8 ∷ []; se = bits 0x3fe5_cbe7_ec83_0041 ∷ []; z = bits 0x400d_7aab_e97e_f7ba ∷ []; u = bits 0xbfe6_a240_0cb8_d58a ∷ bits 0xbfaf_7d5c_12e1_e858 ∷ []; b = bits 0xbfd6_a240_0cb8_d58a ∷ bits 0xbfc4_7800_8b98_02a8 ∷ []; mu = bits 0x4002_0cdd_766c_a1f4 ∷ bits 0x4000_9c50_a543_1512 ∷ bits 0x4002_28df_0f6e_f633 ∷ []; eta = bits 0x4002_0cdd_766c_a1f4 ∷ bits 0x4000_9c50_a543_1512 ∷ bits 0x4002_28df_0f6e_f633 ∷ []; residual = bits 0xbfd0_66eb_b365_0fa0 ∷ bits 0xbff1_38a1_4a86_2a24 ∷ bits 0x3ff5_525c_375f_6e0a ∷ []; v = bits 0x3fdd_b167_670b_27c0 ∷ [] } }
 
 -- in slices of these lengths
 computed : (L : Lent) → toldOf (callBy (tableOf 1 settings shape inputs room) settings shape inputs L) ≡ answer L

@@ -133,6 +133,10 @@ fn put_counts(a: PlainAnswer) {
     put_named(b" tries", a.tries);
     put_named(b" points", a.points);
     put_named(b" why", a.why);
+    put_named(b" eta", a.eta);
+    put_named(b" mean", a.mean);
+    put_named(b" pwrss", a.pwrss);
+    put_named(b" ok", a.ok);
 }
 
 fn put_answer(a: PlainAnswer) {

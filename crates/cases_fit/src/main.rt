@@ -103,6 +103,10 @@ fn put_account(account: Account) {
     put_named(b" solves", account.solves);
     put_named(b" tries", account.tries);
     put_named(b" points", account.points);
+    put_named(b" eta", account.eta);
+    put_named(b" mean", account.mean);
+    put_named(b" pwrss", account.pwrss);
+    put_named(b" ok", account.ok);
 }
 
 fn put_numbers(deviance: f64, phi: f64) {

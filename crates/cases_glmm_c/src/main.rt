@@ -125,7 +125,7 @@ fn lend(beside: bool, job: &[u8], theta: &[f64]) {
     let mut matrices = [9.25; 152];
     let mut terms = [9.25; 7008];
     let mut results = [9.25; 40];
-    let mut counts = [77u64; 12];
+    let mut counts = [77u64; 16];
     let returned = call(
         beside,
         job,

@@ -32,7 +32,7 @@ fn put_refused(number: u64, byte: usize) {
 }
 
 fn put_end(answer: Answer) {
-    let mut buffer = [0u8; 256];
+    let mut buffer = [0u8; 512];
     let n = lines::end_line(&mut buffer, answer);
     put_front(&buffer, n);
 }
@@ -221,6 +221,10 @@ fn end_lines() {
             solves: 0,
             tries: 0,
             points: 0,
+            eta: 0,
+            mean: 0,
+            pwrss: 0,
+            ok: 0,
         },
     });
     put_end(Answer {
@@ -236,6 +240,10 @@ fn end_lines() {
             solves: 241000,
             tries: 24100000,
             points: 1687000,
+            eta: 23000000,
+            mean: 800000,
+            pwrss: 59000,
+            ok: 241000,
         },
     });
     put_value(b"phi", 0, 0.0 / 0.0);

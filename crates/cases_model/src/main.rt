@@ -47,6 +47,10 @@ fn put_account(account: Account) {
     text::put_count(account.solves);
     text::put_count(account.tries);
     text::put_count(account.points);
+    text::put_count(account.eta);
+    text::put_count(account.mean);
+    text::put_count(account.pwrss);
+    text::put_count(account.ok);
 }
 
 // From a code to the family, and back.
@@ -170,6 +174,10 @@ fn work() -> Account {
         solves: 1205,
         tries: 4820,
         points: 14461,
+        eta: 2400,
+        mean: 1000,
+        pwrss: 220,
+        ok: 1200,
     }
 }
 
@@ -203,6 +211,8 @@ fn fitted() {
 fn items() {
     put_account(Account::none());
     put_account(Account::of_points(fed::word()));
+    put_account(Account::one_fit());
+    put_account(Account::one_solve());
 }
 
 // The call of a code.
@@ -241,19 +251,27 @@ fn sum(a: Account, b: Account)
     text::end_line();
 }
 
-// A sum whose four counts differ, and sums at the end of the range.
+// A sum whose eight counts differ, and sums at the end of the range.
 fn sums() {
     let a = Account {
         fits: 241,
         solves: 1205,
         tries: 4820,
         points: 14461,
+        eta: 2400,
+        mean: 1000,
+        pwrss: 220,
+        ok: 1200,
     };
     let b = Account {
         fits: 3,
         solves: 50,
         tries: 700,
         points: 11000,
+        eta: 500,
+        mean: 30,
+        pwrss: 120,
+        ok: 50,
     };
     sum(a, b);
     let most = Account {
@@ -261,12 +279,20 @@ fn sums() {
         solves: 9223372036854775808,
         tries: 0,
         points: 1,
+        eta: 18446744073709551613,
+        mean: 0,
+        pwrss: 4611686018427387904,
+        ok: 18446744073709551615,
     };
     let rest = Account {
         fits: 0,
         solves: 9223372036854775807,
         tries: 18446744073709551615,
         points: 18446744073709551614,
+        eta: 2,
+        mean: 18446744073709551615,
+        pwrss: 13835058055282163711,
+        ok: 0,
     };
     sum(most, rest);
 }

@@ -3,19 +3,31 @@
 // A case is fed as tools/cases/tries.py says.
 use family::CarriedLink;
 use family::LinkCarried;
+use model::Account;
 use tries::TriesEnd;
 use tries::Try;
 ghost use mathlib.Core.Path.{_≡_};
 ghost use lib.ListN.{length};
 
-// How many there were, and the PWRSS where one was accepted.
+fn put_account(account: Account) {
+    text::put_count(account.fits);
+    text::put_count(account.solves);
+    text::put_count(account.tries);
+    text::put_count(account.points);
+    text::put_count(account.eta);
+    text::put_count(account.mean);
+    text::put_count(account.pwrss);
+    text::put_count(account.ok);
+}
+
+// Their account, and the PWRSS where one was accepted.
 fn put_tries(t: TriesEnd) {
     match t {
-        TriesEnd::Moved(p, k) => {
-            text::put_count(k);
+        TriesEnd::Moved(p, made) => {
+            put_account(made);
             text::put_double(p);
         }
-        TriesEnd::NoMove(k) => text::put_count(k),
+        TriesEnd::NoMove(made) => put_account(made),
     }
 }
 

@@ -7,7 +7,7 @@ use native.Mathlib.Omega.{arith}
 use lib.Ieee.{Float}
 use Rattle.base.specs.Number.{oneF}
 use Rattle.model.specs.Account.{AtMost, innerCap, Capped}
-use Rattle.model.specs.Items.{Item, isFit, isSolve, isTry, isPoint, countOf, tally}
+use Rattle.model.specs.Items.{Item, isFit, isSolve, isTry, isPoint, isEta, isMean, isPwrss, isOk, countOf, tally}
 use Rattle.model.proofs.Tallies.{count-append}
 use Rattle.dispersion.specs.Phi.{roundOf}
 use Rattle.dispersion.specs.Rounds.{Result, result, noResult, Total, Dispersed, totalBefore, lastFit, afterRound, afterFit, dispersionFrom, dispersionOf, fixedOf}
@@ -46,6 +46,10 @@ module _ {F : Type 0} (effective : Float) (devSum : F → Float) (inner : Float 
         solves = omega (arith, loop-most effective devSum inner isSolve 1000 (λ phi. few phi .solves) 240 oneF);
         tries = omega (arith, loop-most effective devSum inner isTry 100000 (λ phi. few phi .tries) 240 oneF);
         points = omega (arith, loop-most effective devSum inner isPoint 7000 (λ phi. few phi .points) 240 oneF);
+        eta = omega (arith, loop-most effective devSum inner isEta 100000 (λ phi. few phi .eta) 240 oneF);
+        mean = omega (arith, loop-most effective devSum inner isMean 100000 (λ phi. few phi .mean) 240 oneF);
+        pwrss = omega (arith, loop-most effective devSum inner isPwrss 100000 (λ phi. few phi .pwrss) 240 oneF);
+        ok = omega (arith, loop-most effective devSum inner isOk 1000 (λ phi. few phi .ok) 240 oneF);
       }
 
   -- the one fit of a family without dispersion keeps to them too

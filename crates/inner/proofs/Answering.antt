@@ -72,7 +72,16 @@ module _ (G : Given) (wish : ℕ) (phi : Float) (L : ℕ) (mu r r1 m m1 t t1 : L
   sum-fits g l points few =
       let run : AtMost innerCap (tally (runOf G phi L mu .items)) = caps-trans (inner-caps (G .design .shape) (linkOf (G .link)) L (in-range (G .design .shape) g) l) (run-capped G phi L mu) in
       let c : AtMost innerCap (fit .account) = rw (x .counted) run in
-      record { fits = omega (arith, c .fits); solves = omega (arith, c .solves); tries = omega (arith, c .tries); points = omega (arith, c .points) }
+      record {
+        fits = omega (arith, c .fits);
+        solves = omega (arith, c .solves);
+        tries = omega (arith, c .tries);
+        points = omega (arith, c .points);
+        eta = omega (arith, c .eta);
+        mean = omega (arith, c .mean);
+        pwrss = omega (arith, c .pwrss);
+        ok = omega (arith, c .ok);
+      }
 
   -- ---- without a mode
   run-failed : (o : Ending) (e : End) → EndingTold o G r1 m1 fit → fit .end ≡ Failed e → o ≡ failed e

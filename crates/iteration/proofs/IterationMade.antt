@@ -15,7 +15,8 @@ use Rattle.layout.specs.WorkRows.{muRow, rawRow, weightedRow, rowsLength}
 use Rattle.layout.specs.WorkMatrices.{uPlace}
 use Rattle.layout.specs.WorkTerms.{wPlace, zPlace, termsLength}
 use Rattle.layout.proofs.LaidOut.{laid-out}
-use Rattle.model.specs.Items.{Item, countOf, isTry}
+use Rattle.model.specs.Items.{Item, tally}
+use Rattle.model.specs.declared.counts.Account.{Account}
 use Rattle.model.specs.declared.ends.End.{End}
 use Rattle.model.specs.Shape.{effectsOf}
 use Rattle.model.specs.declared.sizes.Shape.{Shape}
@@ -28,6 +29,7 @@ use Rattle.rule.specs.Try.{Trial, Move, Search, foundMove, noMove, triesOf, tri
 use Rattle.stages.specs.Held.{etaRow}
 use Rattle.stages.specs.Weighed.{Weighed, Weighs}
 use Rattle.tries.specs.Told.{trialIn, Brief, found, none, briefly, TriesDone}
+use Rattle.tries.proofs.Counted.{none-few}
 use Rattle.tries.specs.declared.search.TriesEnd.{TriesEnd}
 use Rattle.tries.specs.declared.search.TriesEnd.the-variants.{Moved, NoMove}
 use Rattle.base.proofs.TwoRows.{two-row}
@@ -54,35 +56,35 @@ told-unsolved : (e : End) (s : Solve) (D : Design) (r m t : List Float) → Solv
 told-unsolved e (solved v) D r m t h = absurd h
 told-unsolved e (unsolved f) D r m t h = ap unsolved (sym h)
 
--- the items of a search of which its move and its count are told
-record FoundItems (x : Search) (mv : Move) (k : ℕ) : Type 0 where
+-- the items of a search of which its move and its account are told
+record FoundItems (x : Search) (mv : Move) (a : Account) : Type 0 where
   pub items : List Item
   pub is : x ≡ foundMove mv items
-  pub count : countOf isTry items ≡ k
+  pub count : tally items ≡ a
 
 -- and of one without a move
-record NoItems (x : Search) (k : ℕ) : Type 0 where
+record NoItems (x : Search) (a : Account) : Type 0 where
   pub items : List Item
   pub is : x ≡ noMove items
-  pub count : countOf isTry items ≡ k
+  pub count : tally items ≡ a
 
 -- the move that was found, d where none was
 abbrev moveOr : Move → Brief → Move
-moveOr d (found mv k) = mv
-moveOr d (none k) = d
+moveOr d (found mv a) = mv
+moveOr d (none a) = d
 
--- how many tries were made
-abbrev countIn : Brief → ℕ
-countIn (found mv k) = k
-countIn (none k) = k
+-- the account of the tries
+abbrev countIn : Brief → Account
+countIn (found mv a) = a
+countIn (none a) = a
 
-told-move : (x : Search) (mv : Move) (k : ℕ) → found mv k ≡ briefly x → FoundItems x mv k
-told-move (foundMove m is) mv k e = record { items = is; is = ap (λ (y : Move). foundMove y is) (sym (ap (moveOr mv) e)); count = sym (ap countIn e) }
-told-move (noMove is) mv k e = let z : _≡_ {A = ℕ} 0 1 = cc in absurd (omega arith)
+told-move : (x : Search) (mv : Move) (a : Account) → found mv a ≡ briefly x → FoundItems x mv a
+told-move (foundMove m is) mv a e = record { items = is; is = ap (λ (y : Move). foundMove y is) (sym (ap (moveOr mv) e)); count = sym (ap countIn e) }
+told-move (noMove is) mv a e = let z : _≡_ {A = ℕ} 0 1 = cc in absurd (omega arith)
 
-told-none : (x : Search) (k : ℕ) → none k ≡ briefly x → NoItems x k
-told-none (foundMove m is) k e = let z : _≡_ {A = ℕ} 0 1 = cc in absurd (omega arith)
-told-none (noMove is) k e = record { items = is; is = refl; count = sym (ap countIn e) }
+told-none : (x : Search) (a : Account) → none a ≡ briefly x → NoItems x a
+told-none (foundMove m is) a e = let z : _≡_ {A = ℕ} 0 1 = cc in absurd (omega arith)
+told-none (noMove is) a e = record { items = is; is = refl; count = sym (ap countIn e) }
 
 -- ---- rows before the raw predictor
 pub eta-before : (n : ℕ) (second : Bool) → etaRow n second + n ≤ muRow n
@@ -133,7 +135,7 @@ module _ (G : Given) (phi : Float) (second : Bool) (r r1 r2 m m2 t t1 t2 : List 
         let s : SolveLeft D (solveWorking D w z) r1 r2 m m2 t1 t2 (Unsolved e) = f w z ready in
         record {
           told = told-unsolved e (solveWorking D w z) D r2 m2 t2 (s .told);
-          few = omega arith;
+          few = none-few 100;
           rows-only = only-trans rows1 (only-wide (rawRow n) (13 * n) 0 (rowsLength n) (omega arith) (omega arith) (s .rows-only));
           matrices-only = s .matrices-only;
           terms-only = only-trans terms1 (s .terms-only);
@@ -179,9 +181,9 @@ module _ (G : Given) (phi : Float) (second : Bool) (r r1 r2 m m2 t t1 t2 : List 
           outside j b h a = ⊎-elim (λ x. absurd (omega arith)) (λ x. inr (omega arith)) a
 
       -- end 12
-      pub stuck : (r3 : List Float) (k : ℕ) → TriesDone trial (etaRow n (not second)) (muRow n) r2 r3 (NoMove k) → IterationLeft G phi eta mu (etaRow n (not second)) r r3 m m2 t t2 (iteration.Stuck k)
-      stuck r3 k d =
-          let x : NoItems (triesOf (trialOf G (fs .v) eta)) k = told-none (triesOf (trialOf G (fs .v) eta)) k (d .says ∙ ap (λ (y : Trial). briefly (triesOf y)) trial-is) in
+      pub stuck : (r3 : List Float) (made : Account) → TriesDone trial (etaRow n (not second)) (muRow n) r2 r3 (NoMove made) → IterationLeft G phi eta mu (etaRow n (not second)) r r3 m m2 t t2 (iteration.Stuck made)
+      stuck r3 made d =
+          let x : NoItems (triesOf (trialOf G (fs .v) eta)) made = told-none (triesOf (trialOf G (fs .v) eta)) made (d .says ∙ ap (λ (y : Trial). briefly (triesOf y)) trial-is) in
           record {
             told = record { v = fs .v; items = x .items; solve = solve-is; tries = x .is; count = x .count };
             few = d .few;
@@ -191,14 +193,14 @@ module _ (G : Given) (phi : Float) (second : Bool) (r r1 r2 m m2 t t1 t2 : List 
           }
 
       -- a move; the raw predictor is as it was
-      pub moved : (r3 : List Float) (pwrss : Float) (k : ℕ) → TriesDone trial (etaRow n (not second)) (muRow n) r2 r3 (Moved pwrss k)
-          → IterationLeft G phi eta mu (etaRow n (not second)) r r3 m m2 t t2 (iteration.Moved pwrss k)
-      moved r3 pwrss k d =
+      pub moved : (r3 : List Float) (pwrss : Float) (made : Account) → TriesDone trial (etaRow n (not second)) (muRow n) r2 r3 (Moved pwrss made)
+          → IterationLeft G phi eta mu (etaRow n (not second)) r r3 m m2 t t2 (iteration.Moved pwrss made)
+      moved r3 pwrss made d =
           let h : etaRow n (not second) + n ≤ muRow n = eta-before n (not second) in
           let l : rowsLength n ≤ length r = lent .rows-long in
           let raw : row (rawRow n) n r3 ≡ row (rawRow n) n r2 = two-row (rawRow n) n (etaRow n (not second)) n (muRow n) n (inr (omega arith)) (inr (omega arith)) (omega (arith, rows2 .len)) (d .only) in
-          let x : FoundItems (triesOf (trialOf G (fs .v) eta)) (record { eta = row (etaRow n (not second)) n r3; mu = row (muRow n) n r3; pwrss = pwrss }) k =
-          told-move (triesOf (trialOf G (fs .v) eta)) (record { eta = row (etaRow n (not second)) n r3; mu = row (muRow n) n r3; pwrss = pwrss }) k (d .says ∙ ap (λ (y : Trial). briefly (triesOf y)) trial-is) in
+          let x : FoundItems (triesOf (trialOf G (fs .v) eta)) (record { eta = row (etaRow n (not second)) n r3; mu = row (muRow n) n r3; pwrss = pwrss }) made =
+          told-move (triesOf (trialOf G (fs .v) eta)) (record { eta = row (etaRow n (not second)) n r3; mu = row (muRow n) n r3; pwrss = pwrss }) made (d .says ∙ ap (λ (y : Trial). briefly (triesOf y)) trial-is) in
           record {
             told = record {
               v = fs .v;
@@ -230,12 +232,12 @@ module _ (family : CarriedFamily) (link : CarriedLink) (phi : Float) (n p q' : �
   pub iterate-unsolvable : (end : End) → a ≡ Unsolved end → IterationLeft G phi (row (etaRow n second) n r) (row (muRow n) n r) (etaRow n (not second)) r r2 m m2 t t2 (iteration.Unsolvable end)
   iterate-unsolvable end ea = unsolvable G phi second r r1 r2 m m2 t t1 t2 lent' wd' end (λ w z. rw ea at (f w z))
 
-  pub iterate-stuck : (r3 : List Float) (k : ℕ) (b : TriesEnd) → a ≡ Found → b ≡ NoMove k
+  pub iterate-stuck : (r3 : List Float) (made : Account) (b : TriesEnd) → a ≡ Found → b ≡ NoMove made
       → TriesDone (trialIn link n q' (etaRow n second) (rawRow n) (row (uPlace p q') q' m2) (row (wPlace q') n t2) (row (zPlace n q') n t2) r2) (etaRow n (not second)) (muRow n) r2 r3 b
-      → IterationLeft G phi (row (etaRow n second) n r) (row (muRow n) n r) (etaRow n (not second)) r r3 m m2 t t2 (iteration.Stuck k)
-  iterate-stuck r3 k b ea eb d = stuck G phi second r r1 r2 m m2 t t1 t2 lent' wd' (λ w z. rw ea at (f w z)) r3 k (rw (e, eb) at d)
+      → IterationLeft G phi (row (etaRow n second) n r) (row (muRow n) n r) (etaRow n (not second)) r r3 m m2 t t2 (iteration.Stuck made)
+  iterate-stuck r3 made b ea eb d = stuck G phi second r r1 r2 m m2 t t1 t2 lent' wd' (λ w z. rw ea at (f w z)) r3 made (rw (e, eb) at d)
 
-  pub iterate-moved : (r3 : List Float) (pwrss : Float) (k : ℕ) (b : TriesEnd) → a ≡ Found → b ≡ Moved pwrss k
+  pub iterate-moved : (r3 : List Float) (pwrss : Float) (made : Account) (b : TriesEnd) → a ≡ Found → b ≡ Moved pwrss made
       → TriesDone (trialIn link n q' (etaRow n second) (rawRow n) (row (uPlace p q') q' m2) (row (wPlace q') n t2) (row (zPlace n q') n t2) r2) (etaRow n (not second)) (muRow n) r2 r3 b
-      → IterationLeft G phi (row (etaRow n second) n r) (row (muRow n) n r) (etaRow n (not second)) r r3 m m2 t t2 (iteration.Moved pwrss k)
-  iterate-moved r3 pwrss k b ea eb d = moved G phi second r r1 r2 m m2 t t1 t2 lent' wd' (λ w z. rw ea at (f w z)) r3 pwrss k (rw (e, eb) at d)
+      → IterationLeft G phi (row (etaRow n second) n r) (row (muRow n) n r) (etaRow n (not second)) r r3 m m2 t t2 (iteration.Moved pwrss made)
+  iterate-moved r3 pwrss made b ea eb d = moved G phi second r r1 r2 m m2 t t1 t2 lent' wd' (λ w z. rw ea at (f w z)) r3 pwrss made (rw (e, eb) at d)

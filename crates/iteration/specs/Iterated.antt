@@ -1,4 +1,4 @@
--- What one iteration answers and leaves. Document 01, "The inner fit": the solve of an iteration, and its tries. Assumes nothing.
+-- What one iteration answers and leaves. Document 01, "The inner fit": the solve of an iteration, and its tries; document 02, P9. Assumes nothing.
 use mathlib.Core.Path.{_≡_}
 use mathlib.Core.List.{List}
 use Prim.Native.Nat.{ℕ, _*_, _≤_}
@@ -9,12 +9,15 @@ use Rattle.layout.specs.Layout.{WorkRoom}
 use Rattle.layout.specs.WorkRows.{muRow, rowsLength}
 use Rattle.layout.specs.WorkMatrices.{matricesLength}
 use Rattle.layout.specs.WorkTerms.{termsLength}
-use Rattle.model.specs.Items.{Item, countOf, isTry}
+use Rattle.model.specs.Account.{noCounts, AtMost}
+use Rattle.model.specs.Items.{Item, tally}
+use Rattle.model.specs.declared.counts.Account.{Account}
 use Rattle.model.specs.declared.sizes.Shape.{Shape}
 use Rattle.rule.specs.Given.{Given, nOf, qOf}
 use Rattle.rule.specs.Solve.{Solved, solved, unsolved, solveOf}
 use Rattle.rule.specs.Try.{foundMove, noMove, triesOf, trialOf}
 use Rattle.solve.specs.Ready.{Ready}
+use Rattle.tries.specs.Told.{triesTo}
 use Rattle.working.specs.Optional.{Optional}
 use Rattle.iteration.specs.Held.{HeldSolved}
 use Rattle.iteration.specs.declared.iterates.Iteration.{Iteration}
@@ -32,39 +35,43 @@ pub record Asked (n p q : ℕ) (shape : Shape) (theta : List Float) (starts colu
 
 -- ---- what an iteration answers
 
--- the solve v of the predictor eta with the means mu, and k tries, none of them accepted
-pub record StuckAfter (G : Given) (phi : Float) (eta mu : List Float) (k : ℕ) : Type 0 where
+-- the solve v of the predictor eta with the means mu, and tries, none of them accepted, of which a is the account
+pub record StuckAfter (G : Given) (phi : Float) (eta mu : List Float) (a : Account) : Type 0 where
   pub v : Solved
   pub items : List Item
   pub solve : solveOf G phi eta mu ≡ solved v
   pub tries : triesOf (trialOf G v eta) ≡ noMove items
-  pub count : countOf isTry items ≡ k
+  pub count : tally items ≡ a
 
--- the solve v, which the work slices hold, and k tries, the last accepted: its predictor in the row at next, its means in theirs
-pub record MovedAfter (G : Given) (phi : Float) (eta mu : List Float) (next : ℕ) (rows matrices terms : List Float) (pwrss : Float) (k : ℕ) : Type 0 where
+-- the solve v, which the work slices hold, and tries, the last accepted, of which a is the account: its predictor in the row at next, its means in theirs
+pub record MovedAfter (G : Given) (phi : Float) (eta mu : List Float) (next : ℕ) (rows matrices terms : List Float) (pwrss : Float) (a : Account) : Type 0 where
   pub v : Solved
   pub items : List Item
   pub solve : solveOf G phi eta mu ≡ solved v
   pub tries : triesOf (trialOf G v eta) ≡ foundMove (record { eta = row next (nOf G) rows; mu = row (muRow (nOf G)) (nOf G) rows; pwrss = pwrss }) items
-  pub count : countOf isTry items ≡ k
+  pub count : tally items ≡ a
   pub held : HeldSolved (G .design) v rows matrices terms
 
 -- each answer in the rule's words
 abbrev pub IterationTold : Iteration → Given → Float → (eta mu : List Float) → ℕ → (rows matrices terms : List Float) → Type 0
 IterationTold (Unsolvable e) G phi eta mu next r m t = solveOf G phi eta mu ≡ unsolved e
-IterationTold (Stuck k) G phi eta mu next r m t = StuckAfter G phi eta mu k
-IterationTold (Moved pwrss k) G phi eta mu next r m t = MovedAfter G phi eta mu next r m t pwrss k
+IterationTold (Stuck a) G phi eta mu next r m t = StuckAfter G phi eta mu a
+IterationTold (Moved pwrss a) G phi eta mu next r m t = MovedAfter G phi eta mu next r m t pwrss a
 
--- how many tries it made
-abbrev pub triesMade : Iteration → ℕ
-triesMade (Unsolvable e) = 0
-triesMade (Stuck k) = k
-triesMade (Moved pwrss k) = k
+-- what its tries count
+abbrev pub triesMade : Iteration → Account
+triesMade (Unsolvable e) = noCounts
+triesMade (Stuck a) = a
+triesMade (Moved pwrss a) = a
+
+-- the most that they can count: 100 tries, with the inverse link
+abbrev pub iterationCap : Account
+iterationCap = triesTo 100
 
 -- an iteration tells what the rule's would, and changes nothing behind the named lengths
 pub record IterationLeft (G : Given) (phi : Float) (eta mu : List Float) (next : ℕ) (r r' m m' t t' : List Float) (a : Iteration) : Type 0 where
   pub told : IterationTold a G phi eta mu next r' m' t'
-  pub few : triesMade a ≤ 100
+  pub few : AtMost iterationCap (triesMade a)
   pub rows-only : Only 0 (rowsLength (nOf G)) r r'
   pub matrices-only : Only 0 (matricesLength (G .design .p) (qOf (G .design))) m m'
   pub terms-only : Only 0 termsLength t t'

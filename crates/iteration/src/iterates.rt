@@ -4,6 +4,7 @@ use crate::solving::solve_into;
 use crate::steps::step;
 use family::CarriedFamily;
 use family::CarriedLink;
+use model::Account;
 use model::End;
 use model::Shape;
 use stages::weigh;
@@ -16,11 +17,11 @@ ghost use Rattle.rule.specs.Given.{designOf, givenOf};
 ghost use Rattle.stages.specs.Held.{etaRow};
 ghost use Rattle.iteration.specs.Iterated.{Asked, IterationLeft};
 
-// What became of an iteration: no solve, with its end; no step accepted, of so many; or moved, with PWRSS and how many steps were tried.
+// What became of an iteration: no solve, with its end; no step accepted, with the account of the tries; or moved, with PWRSS and that account.
 pub enum Iteration {
     Unsolvable(End),
-    Stuck(u64),
-    Moved(f64, u64),
+    Stuck(Account),
+    Moved(f64, Account),
 }
 
 // An iteration from the row that holds the predictor; an accepted predictor stands in the other row.
@@ -78,11 +79,11 @@ pub fn iterate(
     }
     let end = step(link, n, p, q, in_second, m, t, r);
     match end {
-        TriesEnd::Moved(pwrss, k) => {
-            return Iteration::Moved(pwrss, k);
+        TriesEnd::Moved(pwrss, made) => {
+            return Iteration::Moved(pwrss, made);
         }
-        TriesEnd::NoMove(k) => {
-            return Iteration::Stuck(k);
+        TriesEnd::NoMove(made) => {
+            return Iteration::Stuck(made);
         }
     }
 }

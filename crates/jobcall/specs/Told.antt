@@ -1,4 +1,4 @@
--- What a call with the bytes of a job returns, and what it leaves in every lent buffer. Document 01, "Numbers of an answer" and "The job and the program"; document 02, P5. Assumes nothing.
+-- What a call with the bytes of a job returns, and what it leaves in every lent buffer. Document 01, "Numbers of an answer" and "The job and the program"; document 02, P5 and P9. Assumes nothing.
 use mathlib.Core.Bool.{Bool, cond}
 use mathlib.Core.List.{List, [], _∷_}
 use Prim.Native.Nat.{ℕ}
@@ -37,13 +37,13 @@ told r B = record { returned = r; after = B }
 
 -- how many counts there are
 abbrev pub countsLength : ℕ
-countsLength = 10
+countsLength = 14
 
--- the counts: the number, the order, the flag, the iterations, the account, the byte at which a job was refused, and why; requests append to this list
+-- the counts: the number, the order, the flag, the iterations, the account's first four, the byte at which a job was refused, why, and the parts of the tries; requests append to this list
 unfoldable pub countsOf : Answer → ℕ → List ℕ
 countsOf a byte =
     a .number ∷ a .order ∷ cond (a .converged) 1 0 ∷ a .iterations ∷ a .account .fits ∷ a .account .solves ∷ a .account .tries ∷ a .account .points ∷ byte
-    ∷ a .why ∷ []
+    ∷ a .why ∷ a .account .eta ∷ a .account .mean ∷ a .account .pwrss ∷ a .account .ok ∷ []
 
 -- ---- the call
 

@@ -32,6 +32,10 @@ pub fn put_counts(answer: Answer, byte: usize, counts: &mut [u64])
     counts[7] = account.points;
     counts[8] = byte as u64;
     counts[9] = answer.why as u64;
+    counts[10] = account.eta;
+    counts[11] = account.mean;
+    counts[12] = account.pwrss;
+    counts[13] = account.ok;
 }
 
 // Nothing was done for a job that cannot be read.

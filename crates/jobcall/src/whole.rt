@@ -147,7 +147,7 @@ fn call(
         ≡ counted (thetaBy own (now (given .entry)) (readOf (now (job .entry))))
         (buffers (now (rows .entry)) (now (matrices .entry)) (now (terms .entry)) (now (results .entry)) (now (counts .entry))) ⌝ }
 {
-    if counts.len() < 10 {
+    if counts.len() < 14 {
         return 2;
     }
     let mut theta = [0.0; 288];

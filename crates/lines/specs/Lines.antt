@@ -1,4 +1,4 @@
--- The lines that the program prints, as lists of bytes, and what a buffer holds that one is written into. Document 01, "The job and the program", its second paragraph; document 02, P5. Assumes nothing.
+-- The lines that the program prints, as lists of bytes, and what a buffer holds that one is written into. Document 01, "The job and the program", its second paragraph; document 02, P5 and P9. Assumes nothing.
 use mathlib.Core.Path.{_≡_}
 use mathlib.Core.Bool.{Bool, true, false}
 use mathlib.Core.List.{List, [], _∷_, _++_}
@@ -48,13 +48,19 @@ accountPairs a rest =
     ∷ pair (112 ∷ 111 ∷ 105 ∷ 110 ∷ 116 ∷ 115 ∷ []) (a .points)
     ∷ rest
 
--- what document 02 appends to the line: why
+-- what document 02 appends to the line: why, and of the tries eta, mean, pwrss and ok
 unfoldable pub tailPairs : Answer → List Pair
-tailPairs a = pair (119 ∷ 104 ∷ 121 ∷ []) (a .why) ∷ []
+tailPairs a =
+    pair (119 ∷ 104 ∷ 121 ∷ []) (a .why)
+    ∷ pair (101 ∷ 116 ∷ 97 ∷ []) (a .account .eta)
+    ∷ pair (109 ∷ 101 ∷ 97 ∷ 110 ∷ []) (a .account .mean)
+    ∷ pair (112 ∷ 119 ∷ 114 ∷ 115 ∷ 115 ∷ []) (a .account .pwrss)
+    ∷ pair (111 ∷ 107 ∷ []) (a .account .ok)
+    ∷ []
 
 -- the bytes that these pairs and the end of the line take at most
 abbrev pub tailMost : ℕ
-tailMost = 26
+tailMost = 128
 
 -- the end line as pairs
 unfoldable pub endPairs : Answer → List Pair

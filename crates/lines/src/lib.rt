@@ -83,11 +83,16 @@ fn put_tail(out: &mut [u8], at: usize, answer: Answer) -> usize
     requires { ⌜ at + tailMost ≤ length (now out) ⌝ }
     ensures { λ r. ⌜ Appended (pairsText (tailPairs answer)) at (now (out .entry)) r (now (out .exit)) ⌝ }
 {
+    let account = answer.account;
     let why = put_pair(out, at, b" why", answer.why as u64);
-    put_bytes(out, why, b"\n")
+    let eta = put_pair(out, why, b" eta", account.eta);
+    let mean = put_pair(out, eta, b" mean", account.mean);
+    let pwrss = put_pair(out, mean, b" pwrss", account.pwrss);
+    let ok = put_pair(out, pwrss, b" ok", account.ok);
+    put_bytes(out, ok, b"\n")
 }
 
-// The counts of the account, each behind a blank, and what follows them.
+// The first four counts of the account, each behind a blank, and what follows them.
 fn put_account(out: &mut [u8], at: usize, answer: Answer) -> usize
     requires { ⌜ at + 109 + tailMost ≤ length (now out) ⌝ }
     ensures { λ r. ⌜ Appended (pairsText (accountPairs (answer .account) (tailPairs answer))) at (now (out .entry)) r (now (out .exit)) ⌝ }
@@ -100,9 +105,9 @@ fn put_account(out: &mut [u8], at: usize, answer: Answer) -> usize
     put_tail(out, points, answer)
 }
 
-// The end line. A number of 64 bits has at most 20 digits, so 256 bytes hold it.
+// The end line. A number of 64 bits has at most 20 digits, so 512 bytes hold it.
 pub fn end_line(out: &mut [u8], answer: Answer) -> usize
-    requires { ⌜ 256 ≤ length (now out) ⌝ }
+    requires { ⌜ 512 ≤ length (now out) ⌝ }
     ensures { λ r. ⌜ Written (endLine answer) (now (out .entry)) r (now (out .exit)) ⌝ }
 {
     let number = put_pair(out, 0, b"end", answer.number as u64);

@@ -39,4 +39,5 @@ points-few s r =
 pub inner-caps : (s : Shape) (link : Link) (L : ℕ) → InRange s → L ≤ 1000 → AtMost innerCap (innerCapOf s link L)
 unfolding innerCapOf
 inner-caps s link L r l =
-    record { fits = omega arith; solves = omega arith; tries = mul-le-mul {n₂ = 100} {m₂ = 1000} (tries-few link) l; points = points-few s r }
+    let t : triesCap link * L ≤ 100000 = mul-le-mul {n₂ = 100} {m₂ = 1000} (tries-few link) l
+    in record { fits = omega arith; solves = l; tries = t; points = points-few s r; eta = t; mean = t; pwrss = t; ok = l }

@@ -7,5 +7,6 @@ pub mod Sized
 pub mod Accounts
 pub mod Caps
 pub mod Tallies
+pub mod Parts
 pub mod Answers
 pub mod Examples

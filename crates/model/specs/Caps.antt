@@ -1,4 +1,4 @@
--- The caps of one inner fit by its limit, link and shape. The request, demand 3; the tries of a solve also in document 01, "The inner fit". Assumes nothing.
+-- The caps of one inner fit by its limit, link and shape. The request, demand 3; the tries of a solve also in document 01, "The inner fit"; document 02, P9. Assumes nothing.
 use mathlib.Core.Bool.{cond}
 use Prim.Native.Nat.{ℕ, _*_}
 use lib.Dec.{eqb}
@@ -16,6 +16,16 @@ triesCap link = cond (isInverse link) 100 25
 unfoldable pub pointsCap : Shape → ℕ
 pointsCap s = cond (eqb (s .count) 1) (cond (eqb (s .k !! 0) 1) 11 400 * (s .m !! 0)) 7000
 
--- the most that an inner fit of at most L iterations can do
+-- the most that an inner fit of at most L iterations can do; each refused part is capped as the tries, the accepted as the solves (document 02, P9)
 unfoldable pub innerCapOf : Shape → Link → ℕ → Account
-innerCapOf s link L = record { fits = 1; solves = L; tries = triesCap link * L; points = pointsCap s }
+innerCapOf s link L =
+    record {
+      fits = 1;
+      solves = L;
+      tries = triesCap link * L;
+      points = pointsCap s;
+      eta = triesCap link * L;
+      mean = triesCap link * L;
+      pwrss = triesCap link * L;
+      ok = L;
+    }

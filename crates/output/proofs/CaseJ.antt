@@ -1,4 +1,4 @@
--- Case J through the whole program: its 44 bytes make one line of output. Document 01, "The job and the program", its last lines; document 02, P5. Assumes nothing.
+-- Case J through the whole program: its 44 bytes make one line of output. Document 01, "The job and the program", its last lines; document 02, P5 and P9. Assumes nothing.
 use mathlib.Core.Path.{_≡_, refl, _∙_}
 use mathlib.Core.List.{[], _∷_}
 use lib.Ieee.{ofBits}
@@ -54,8 +54,8 @@ told-J : leftText (callFor jobJ) ≡ endLine (unfittedAnswer NoStop oneFit)
 unfolding answerText unfittedAnswer
 told-J = rw answer-J refl
 
--- "end 13 order 0 disp 0 iters 0 fits 1 solves 0 tries 0 points 0 why 0"
+-- "end 13 order 0 disp 0 iters 0 fits 1 solves 0 tries 0 points 0 why 0 eta 0 mean 0 pwrss 0 ok 0"
 pub output-J : outputOf caseJ
-    ≡ 101 ∷ 110 ∷ 100 ∷ 32 ∷ 49 ∷ 51 ∷ 32 ∷ 111 ∷ 114 ∷ 100 ∷ 101 ∷ 114 ∷ 32 ∷ 48 ∷ 32 ∷ 100 ∷ 105 ∷ 115 ∷ 112 ∷ 32 ∷ 48 ∷ 32 ∷ 105 ∷ 116 ∷ 101 ∷ 114 ∷ 115 ∷ 32 ∷ 48 ∷ 32 ∷ 102 ∷ 105 ∷ 116 ∷ 115 ∷ 32 ∷ 49 ∷ 32 ∷ 115 ∷ 111 ∷ 108 ∷ 118 ∷ 101 ∷ 115 ∷ 32 ∷ 48 ∷ 32 ∷ 116 ∷ 114 ∷ 105 ∷ 101 ∷ 115 ∷ 32 ∷ 48 ∷ 32 ∷ 112 ∷ 111 ∷ 105 ∷ 110 ∷ 116 ∷ 115 ∷ 32 ∷ 48 ∷ 32 ∷ 119 ∷ 104 ∷ 121 ∷ 32 ∷ 48 ∷ 10 ∷ []
+    ≡ 101 ∷ 110 ∷ 100 ∷ 32 ∷ 49 ∷ 51 ∷ 32 ∷ 111 ∷ 114 ∷ 100 ∷ 101 ∷ 114 ∷ 32 ∷ 48 ∷ 32 ∷ 100 ∷ 105 ∷ 115 ∷ 112 ∷ 32 ∷ 48 ∷ 32 ∷ 105 ∷ 116 ∷ 101 ∷ 114 ∷ 115 ∷ 32 ∷ 48 ∷ 32 ∷ 102 ∷ 105 ∷ 116 ∷ 115 ∷ 32 ∷ 49 ∷ 32 ∷ 115 ∷ 111 ∷ 108 ∷ 118 ∷ 101 ∷ 115 ∷ 32 ∷ 48 ∷ 32 ∷ 116 ∷ 114 ∷ 105 ∷ 101 ∷ 115 ∷ 32 ∷ 48 ∷ 32 ∷ 112 ∷ 111 ∷ 105 ∷ 110 ∷ 116 ∷ 115 ∷ 32 ∷ 48 ∷ 32 ∷ 119 ∷ 104 ∷ 121 ∷ 32 ∷ 48 ∷ 32 ∷ 101 ∷ 116 ∷ 97 ∷ 32 ∷ 48 ∷ 32 ∷ 109 ∷ 101 ∷ 97 ∷ 110 ∷ 32 ∷ 48 ∷ 32 ∷ 112 ∷ 119 ∷ 114 ∷ 115 ∷ 115 ∷ 32 ∷ 48 ∷ 32 ∷ 111 ∷ 107 ∷ 32 ∷ 48 ∷ 10 ∷ []
 unfolding outputOf outputBy
 output-J = rw caseJ-read (told-J ∙ caseJ-line)

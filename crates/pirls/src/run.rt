@@ -15,6 +15,7 @@ ghost use mathlib.Core.Path.{_≡_};
 ghost use Prim.Native.Nat.{_≤_};
 ghost use Rattle.base.specs.Rows.{row};
 ghost use Rattle.layout.specs.WorkRows.{muRow};
+ghost use Rattle.model.specs.Account.{_⊞_, oneSolve, SumFits};
 ghost use Rattle.stored.specs.Stored.{sparse};
 ghost use Rattle.rule.specs.Given.{designOf, givenOf};
 ghost use Rattle.iteration.specs.Iterated.{Asked};
@@ -38,8 +39,8 @@ pub struct InnerFit {
 }
 
 // An inner fit without a result, and the work that it has done.
-fn failed_fit(end: End, solves: u64, tries: u64) -> InnerFit
-    ensures { λ a. ⌜ a ≡ failedFit end (record { fits = 1; solves = solves; tries = tries; points = 0 }) ⌝ }
+fn failed_fit(end: End, account: Account) -> InnerFit
+    ensures { λ a. ⌜ a ≡ failedFit end account ⌝ }
 {
     InnerFit {
         end: Ended::Failed(end),
@@ -48,18 +49,13 @@ fn failed_fit(end: End, solves: u64, tries: u64) -> InnerFit
         deviance_sum: 0.0,
         fit: 0.0,
         laplace: 0.0,
-        account: Account {
-            fits: 1,
-            solves,
-            tries,
-            points: 0,
-        },
+        account,
     }
 }
 
 // An inner fit that came to rest: what the stop tells, and the work that it has done.
-fn stopped_fit(s: AtStop, iterations: usize, in_second: bool, solves: u64, tries: u64) -> InnerFit
-    ensures { λ a. ⌜ a ≡ stoppedFit s iterations «in_second» (record { fits = 1; solves = solves; tries = tries; points = 0 }) ⌝ }
+fn stopped_fit(s: AtStop, iterations: usize, in_second: bool, account: Account) -> InnerFit
+    ensures { λ a. ⌜ a ≡ stoppedFit s iterations «in_second» account ⌝ }
 {
     InnerFit {
         end: Ended::Stopped,
@@ -68,13 +64,16 @@ fn stopped_fit(s: AtStop, iterations: usize, in_second: bool, solves: u64, tries
         deviance_sum: s.deviance_sum,
         fit: s.fit,
         laplace: s.laplace,
-        account: Account {
-            fits: 1,
-            solves,
-            tries,
-            points: 0,
-        },
+        account,
     }
+}
+
+// One solve more, and the tries that it made.
+fn with_solve(account: Account, made: Account) -> Account
+    requires { ⌜ SumFits account (oneSolve ⊞ made) ⌝ }
+    ensures { λ a. ⌜ a ≡ account ⊞ (oneSolve ⊞ made) ⌝ }
+{
+    account.plus(Account::one_solve().plus(made))
 }
 
 // The inner fit from the means that stand in their row.
@@ -112,8 +111,7 @@ pub fn inner_fit(
     let mut old = base::MAX;
     let mut in_second = false;
     let mut k = 0;
-    let mut solves: u64 = 0;
-    let mut tries: u64 = 0;
+    let mut account = Account::one_fit();
     while k < limit {
         let it = iterate(
             family,
@@ -137,20 +135,19 @@ pub fn inner_fit(
             t,
         );
         match it {
-            Iteration::Unsolvable(e) => return failed_fit(e, solves, tries),
-            Iteration::Stuck(j) => return failed_fit(End::NoStep, solves + 1, tries + j),
-            Iteration::Moved(pwrss, j) => {
+            Iteration::Unsolvable(e) => return failed_fit(e, account),
+            Iteration::Stuck(made) => return failed_fit(End::NoStep, with_solve(account, made)),
+            Iteration::Moved(pwrss, made) => {
                 k += 1;
-                solves += 1;
-                tries += j;
+                account = with_solve(account, made);
                 in_second = !in_second;
                 if stops(old, pwrss) {
                     let s = stop(family, y, weights, n, p, q, r, m, t);
-                    return stopped_fit(s, k, in_second, solves, tries);
+                    return stopped_fit(s, k, in_second, account);
                 }
                 old = pwrss;
             }
         }
     }
-    failed_fit(End::NoStop, solves, tries)
+    failed_fit(End::NoStop, account)
 }

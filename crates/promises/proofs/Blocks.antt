@@ -53,5 +53,5 @@ block-fields x = refl
 pub settings-fields : (x : CodedSettings) → settings.the-type .to x ≡ (x .family, (x .link, (x .«n_agq», (x .limit, (x .n, (x .p, (x .rows, (x .entries, tt))))))))
 settings-fields x = refl
 
-pub answer-fields : (x : PlainAnswer) → answer.the-type .to x ≡ (x .number, (x .deviance, (x .phi, (x .order, (x .flag, (x .iterations, (x .fits, (x .solves, (x .tries, (x .points, (x .why, tt)))))))))))
+pub answer-fields : (x : PlainAnswer) → answer.the-type .to x ≡ (x .number, (x .deviance, (x .phi, (x .order, (x .flag, (x .iterations, (x .fits, (x .solves, (x .tries, (x .points, (x .why, (x .eta, (x .mean, (x .pwrss, (x .ok, tt)))))))))))))))
 answer-fields x = refl

@@ -32,8 +32,8 @@ unfolding pairsText pairsMost
 pairs-few [] = omega arith
 pairs-few (p ∷ ps) = omega (arith, length-append (pairText (32 ∷ p .name) (p .num)) (pairsText ps), pair-few (32 ∷ p .name) (p .num), pairs-few ps)
 
--- nine pairs
-pub end-few : (a : Answer) → length (endLine a) ≤ 256
+-- thirteen pairs
+pub end-few : (a : Answer) → length (endLine a) ≤ 341
 unfolding lineOf endPairs accountPairs tailPairs endLine pairsMost
 end-few a =
     let w : List ℕ = 101 ∷ 110 ∷ 100 ∷ [] in

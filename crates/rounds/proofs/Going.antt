@@ -67,7 +67,7 @@ module _ (G : Given) (wish L : ℕ) (effective : Float) where
       rw e
       (record {
         within = omega arith;
-        few = record { fits = omega arith; solves = omega arith; tries = omega arith; points = omega arith };
+        few = record { fits = omega arith; solves = omega arith; tries = omega arith; points = omega arith; eta = omega arith; mean = omega arith; pwrss = omega arith; ok = omega arith };
         outcome = refl;
         items = sym (none-plus (tally (whole .items)));
         rows-only = only-none 0 (rowsLength (nOf G)) r;

@@ -1,4 +1,4 @@
--- The caps of an inner fit: at most L solves, at most 25 tries a solve and with the inverse link 100, no point, and one fit. Assumes nothing.
+-- The caps of an inner fit: at most L solves, at most 25 tries a solve and with the inverse link 100, no point, and one fit; those of the tries' parts follow. Assumes nothing.
 use mathlib.Core.Path.{_≡_, refl}
 use mathlib.Core.Bool.{Bool, true, false}
 use mathlib.Core.List.{List, [], _∷_, _++_}
@@ -10,6 +10,7 @@ use Rattle.base.specs.Number.{_⊗_, oneF, halfF}
 use Rattle.model.specs.Account.{AtMost}
 use Rattle.model.specs.Caps.{triesCap, innerCapOf}
 use Rattle.model.specs.Items.{Item, aSolve, aTry, isFit, isSolve, isTry, isPoint, countOf, tally}
+use Rattle.model.proofs.Parts.{tally-parts, parts-capped}
 use Rattle.model.proofs.Tallies.{count-append}
 use Rattle.family.specs.Carried.{linkOf}
 use Rattle.rule.specs.Given.{Given}
@@ -17,13 +18,9 @@ use Rattle.rule.specs.Solve.{Solved, Solve, solved, unsolved, solveOf}
 use Rattle.rule.specs.Try.{Trial, Tried, refused, moves, Search, foundMove, noMove, itemBefore, tryOf, afterTry, triesFrom, triesOf, trialOf}
 use Rattle.rule.specs.Stop.{Mode, modeOf, stops}
 use Rattle.rule.specs.Run.{Outcome, State, itemsBefore, failedAfter, afterStop, moved, afterSearch, afterSolve, runFrom, startAt, runOf}
+use Rattle.rule.proofs.Accepted.{itemsIn, run-accepts}
 
 -- ---- the tries of one solve
--- the items of a search
-abbrev pub itemsIn : Search → List Item
-itemsIn (foundMove m is) = is
-itemsIn (noMove is) = is
-
 -- f items at most, and every one a try
 pub record Tries (f : ℕ) (is : List Item) : Type 0 where
   pub fits : countOf isFit is ≡ 0
@@ -105,12 +102,13 @@ run-from G phi (suc f) s = by-solve (solveOf G phi (s .eta) (s .mu)) (λ t. run-
     by-solve (unsolved e) h = nothing (triesCap (linkOf (G .link))) (suc f)
     by-solve (solved v) h = search-runs G (triesCap (linkOf (G .link))) f s (runFrom G phi f) h (triesOf (trialOf G v (s .eta))) v (tries-of (trialOf G v (s .eta)))
 
--- ---- the inner fit: one fit, at most L solves and 25·L tries, with the inverse link 100·L
+-- ---- the inner fit: one fit, at most L solves and 25·L tries, with the inverse link 100·L; no part of the tries is above them, and no more are accepted than there are solves
 pub run-capped : (G : Given) (phi : Float) (L : ℕ) (mu : List Float) → AtMost (innerCapOf (G .design .shape) (linkOf (G .link)) L) (tally (runOf G phi L mu .items))
 unfolding runOf itemsBefore tally innerCapOf countOf
 run-capped G phi L mu =
     let r = run-from G phi L (startAt G mu) in
-    record { fits = omega (arith, r .fits); solves = omega (arith, r .solves); tries = omega (arith, r .tries); points = omega (arith, r .points) }
+    parts-capped _ _ (tally-parts (runOf G phi L mu .items)) (run-accepts G phi L mu) (omega (arith, r .fits)) (omega (arith, r .solves)) (omega (arith, r .tries)) (omega (arith, r .points))
+    (omega arith) (omega arith) (omega arith) (omega arith)
 
 -- ---- no point is among its items
 pub run-points : (G : Given) (phi : Float) (L : ℕ) (mu : List Float) → countOf isPoint (runOf G phi L mu .items) ≡ 0

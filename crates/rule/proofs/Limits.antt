@@ -7,7 +7,7 @@ use native.Mathlib.Nat.{not-suc-le-zero, le-of-suc-le-suc}
 use native.Mathlib.Omega.{arith}
 use lib.Ieee.{Float}
 use Rattle.model.specs.Account.{AtMost}
-use Rattle.model.specs.Items.{Item, aFit, aSolve, isFit, isSolve, isTry, isPoint, countOf, tally}
+use Rattle.model.specs.Items.{Item, aFit, aSolve, isFit, isSolve, isTry, isPoint, isEta, isMean, isPwrss, isOk, countOf, tally}
 use Rattle.model.specs.declared.ends.End.the-variants.{NoStop}
 use Rattle.model.proofs.Tallies.{count-append}
 use Rattle.rule.specs.Given.{Given}
@@ -89,4 +89,8 @@ account-grows G phi mu L M l =
       solves = limit-grows G phi mu isSolve L M l;
       tries = limit-grows G phi mu isTry L M l;
       points = limit-grows G phi mu isPoint L M l;
+      eta = limit-grows G phi mu isEta L M l;
+      mean = limit-grows G phi mu isMean L M l;
+      pwrss = limit-grows G phi mu isPwrss L M l;
+      ok = limit-grows G phi mu isOk L M l;
     }

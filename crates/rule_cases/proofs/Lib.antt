@@ -13,3 +13,5 @@ pub mod NoStep
 pub mod NoStop
 pub mod NoIteration
 pub mod Halved
+pub mod RefusedEta
+pub mod RefusedSums

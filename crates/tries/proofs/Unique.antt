@@ -1,6 +1,6 @@
 -- One answer, one content: each contract of this crate leaves no choice, but for the two rows where no try was accepted. Assumes nothing.
 use mathlib.Core.Path.{_≡_, refl, sym, ap, _∙_}
-use mathlib.Core.List.{List}
+use mathlib.Core.List.{List, [], _∷_}
 use mathlib.Core.Bool.{Bool}
 use mathlib.Core.Logic.{_⊎_, inl, inr, ⊎-elim}
 use Prim.Native.Nat.{ℕ, _+_, _-_, _≤_, _<_}
@@ -14,10 +14,11 @@ use Rattle.base.specs.Rows.{row, Out, Wrote, OnlyTwo}
 use Rattle.base.proofs.Unique.{one-value}
 use Rattle.base.proofs.Sums.{lt-or-ge}
 use Rattle.base.proofs.Rows.{row-at, wrote-unique}
-use Rattle.model.specs.Items.{etaRefused, meanRefused, pwrssRefused, accepted}
+use Rattle.model.specs.Items.{etaRefused, meanRefused, pwrssRefused, accepted, aTry, tally}
+use Rattle.model.specs.declared.counts.Account.{Account}
 use Rattle.family.specs.declared.carried.CarriedLink.{CarriedLink}
 use Rattle.rule.specs.Try.{Trial, candidateAt, fineEtaAt, meanAt, squareAt, addTo, Tried, refused, moves}
-use Rattle.tries.specs.Told.{tellTry, TryDone, Brief, found, none, tellTries, TriesDone}
+use Rattle.tries.specs.Told.{tellTry, fateOf, TryDone, Brief, found, none, tellTries, TriesDone}
 use Rattle.tries.specs.declared.search.Try.{Try}
 use Rattle.tries.specs.declared.search.Try.the-variants.{EtaRefused, MeanRefused, PwrssRefused, Accepted}
 use Rattle.tries.specs.declared.search.TriesEnd.{TriesEnd}
@@ -93,25 +94,29 @@ module _ (T : Trial) (next mu : ℕ) (step : Float) (v x y : List Float) (r s : 
   pub try-rows-unique : x ≡ y
   try-rows-unique = both-unique next mu (T .n) v x y next-in mu-in (d .only) (e .only) (d .candidate ∙ sym (e .candidate)) (d .means ∙ sym (e .means))
 
+-- `of_try`
+pub of-try-unique : (t : Try) (r s : Account) → r ≡ tally (aTry (fateOf t) ∷ []) → s ≡ tally (aTry (fateOf t) ∷ []) → r ≡ s
+of-try-unique t r s d e = one-value d e
+
 -- ---- `tries`
 -- the answer that tells of a search
 abbrev answers : Brief → TriesEnd
-answers (found m k) = Moved (m .pwrss) k
-answers (none k) = NoMove k
+answers (found m a) = Moved (m .pwrss) a
+answers (none a) = NoMove a
 
 answers-told : (r : TriesEnd) (c m : List Float) → r ≡ answers (tellTries r c m)
-answers-told (Moved p k) c m = refl
-answers-told (NoMove k) c m = refl
+answers-told (Moved p a) c m = refl
+answers-told (NoMove a) c m = refl
 
 -- the predictor of the move that was found, c where none was
 abbrev moveRow : Brief → List Float → List Float
-moveRow (found m k) c = m .eta
-moveRow (none k) c = c
+moveRow (found m a) c = m .eta
+moveRow (none a) c = c
 
 -- its means, c where none was
 abbrev meanRow : Brief → List Float → List Float
-meanRow (found m k) c = m .mu
-meanRow (none k) c = c
+meanRow (found m a) c = m .mu
+meanRow (none a) c = c
 
 module _ (T : Trial) (next mu : ℕ) (v x y : List Float) (r s : TriesEnd) (d : TriesDone T next mu v x r) (e : TriesDone T next mu v y s) where
   pub tries-answer-unique : r ≡ s
@@ -119,9 +124,9 @@ module _ (T : Trial) (next mu : ℕ) (v x y : List Float) (r s : TriesEnd) (d : 
       answers-told r (row next (T .n) x) (row mu (T .n) x) ∙ ap answers (d .says ∙ sym (e .says)) ∙ sym (answers-told s (row next (T .n) y) (row mu (T .n) y))
 
 -- where a try was accepted, the rows too
-pub tries-rows-unique : (T : Trial) (next mu : ℕ) (v x y : List Float) (p o : Float) (k j : ℕ) → next + T .n ≤ length v → mu + T .n ≤ length v
-    → TriesDone T next mu v x (Moved p k) → TriesDone T next mu v y (Moved o j) → x ≡ y
-tries-rows-unique T next mu v x y p o k j hn hm d e =
+pub tries-rows-unique : (T : Trial) (next mu : ℕ) (v x y : List Float) (p o : Float) (a b : Account) → next + T .n ≤ length v → mu + T .n ≤ length v
+    → TriesDone T next mu v x (Moved p a) → TriesDone T next mu v y (Moved o b) → x ≡ y
+tries-rows-unique T next mu v x y p o a b hn hm d e =
     both-unique next mu (T .n) v x y hn hm (d .only) (e .only)
     (ap (λ (t : Brief). moveRow t v) (d .says ∙ sym (e .says)))
     (ap (λ (t : Brief). meanRow t v) (d .says ∙ sym (e .says)))

@@ -1,4 +1,4 @@
--- What the answers of a try and of the tries say in the rule's words, and what they leave in the work slice. Document 01, "The inner fit", its paragraph on tries. Assumes nothing.
+-- What the answers of a try and of the tries say in the rule's words, and what they leave in the work slice. Document 01, "The inner fit", its paragraph on tries; document 02, P9. Assumes nothing.
 use mathlib.Core.Path.{_≡_}
 use mathlib.Core.List.{List}
 use mathlib.Core.Bool.{cond}
@@ -7,7 +7,9 @@ use lib.ListN.{length}
 use lib.Ieee.{Float}
 use Rattle.base.specs.Sum.{allTo}
 use Rattle.base.specs.Rows.{row, Apart, OnlyTwo}
-use Rattle.model.specs.Items.{isTry, countOf, etaRefused, meanRefused, pwrssRefused}
+use Rattle.model.specs.Account.{AtMost}
+use Rattle.model.specs.Items.{Fate, etaRefused, meanRefused, pwrssRefused, accepted, tally}
+use Rattle.model.specs.declared.counts.Account.{Account}
 use Rattle.family.specs.declared.carried.CarriedLink.{CarriedLink}
 use Rattle.rule.specs.Try.{Trial, fineEtaAt, candidateOf, meansOf, Move, Tried, refused, moves, tryOf, Search, foundMove, noMove, triesOf}
 use Rattle.tries.specs.declared.search.Try.{Try}
@@ -45,6 +47,13 @@ tellTry MeanRefused c m = refused meanRefused
 tellTry PwrssRefused c m = refused pwrssRefused
 tellTry (Accepted p) c m = moves (record { eta = c; mu = m; pwrss = p })
 
+-- what became of it, as the items of a run tell it: the first test that it failed, or accepted (document 02, P9)
+abbrev pub fateOf : Try → Fate
+fateOf EtaRefused = etaRefused
+fateOf MeanRefused = meanRefused
+fateOf PwrssRefused = pwrssRefused
+fateOf (Accepted p) = accepted
+
 -- a try leaves the candidate in the row at next, and its means in the row at mu where the first test let them be formed
 pub record TryDone (T : Trial) (next mu : ℕ) (step : Float) (before after : List Float) (r : Try) : Type 0 where
   pub says : tellTry r (row next (T .n) after) (row mu (T .n) after) ≡ tryOf T step
@@ -54,28 +63,32 @@ pub record TryDone (T : Trial) (next mu : ℕ) (step : Float) (before after : Li
 
 -- ---- the tries
 
--- a search in short: the move, if one was found, and how many tries were made
+-- a search in short: the move, if one was found, and the account of the tries
 pub data Brief : Type 0 where
-  found : Move → ℕ → Brief
-  none : ℕ → Brief
+  found : Move → Account → Brief
+  none : Account → Brief
 
--- a search without its items but for their count
+-- a search without its items but for their tally
 abbrev pub briefly : Search → Brief
-briefly (foundMove m is) = found m (countOf isTry is)
-briefly (noMove is) = none (countOf isTry is)
+briefly (foundMove m is) = found m (tally is)
+briefly (noMove is) = none (tally is)
 
 -- what became of the tries, c the last candidate and m its means
 abbrev pub tellTries : TriesEnd → List Float → List Float → Brief
-tellTries (Moved p k) c m = found (record { eta = c; mu = m; pwrss = p }) k
-tellTries (NoMove k) c m = none k
+tellTries (Moved p a) c m = found (record { eta = c; mu = m; pwrss = p }) a
+tellTries (NoMove a) c m = none a
 
--- how many there were
-abbrev pub triesIn : TriesEnd → ℕ
-triesIn (Moved p k) = k
-triesIn (NoMove k) = k
+-- what they count
+abbrev pub madeIn : TriesEnd → Account
+madeIn (Moved p a) = a
+madeIn (NoMove a) = a
+
+-- the most that k tries count: each part of them no more than all (document 02, P9), and nothing else
+abbrev pub triesTo : ℕ → Account
+triesTo k = record { fits = 0; solves = 0; tries = k; points = 0; eta = k; mean = k; pwrss = k; ok = k }
 
 -- the tries leave an accepted candidate in the row at next and its means in the row at mu
 pub record TriesDone (T : Trial) (next mu : ℕ) (before after : List Float) (r : TriesEnd) : Type 0 where
   pub says : tellTries r (row next (T .n) after) (row mu (T .n) after) ≡ briefly (triesOf T)
   pub only : OnlyTwo next (T .n) mu (T .n) before after
-  pub few : triesIn r ≤ 100
+  pub few : AtMost (triesTo 100) (madeIn r)

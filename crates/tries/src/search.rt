@@ -7,11 +7,14 @@ use crate::passes::pwrss;
 use base::is_finite;
 use family::CarriedLink;
 use family::link_of;
+use model::Account;
 use model::is_inverse;
 ghost use mathlib.Core.Path.{_≡_};
+ghost use mathlib.Core.List.{[], _∷_};
 ghost use Rattle.model.specs.Caps.{triesCap};
+ghost use Rattle.model.specs.Items.{aTry, tally};
 ghost use Rattle.family.specs.Carried.{linkOf};
-ghost use Rattle.tries.specs.Told.{Room, trialIn, TryDone, TriesDone};
+ghost use Rattle.tries.specs.Told.{Room, trialIn, fateOf, TryDone, TriesDone};
 
 // What became of a candidate: the first of the three tests that it failed, or its PWRSS.
 pub enum Try {
@@ -21,10 +24,10 @@ pub enum Try {
     Accepted(f64),
 }
 
-// What became of the tries: the PWRSS of the one that was accepted, if one was, and how many there were.
+// What became of the tries: the PWRSS of the one that was accepted, if one was, and their account.
 pub enum TriesEnd {
-    Moved(f64, u64),
-    NoMove(u64),
+    Moved(f64, Account),
+    NoMove(Account),
 }
 
 // The try with a step: the candidate into the row at next, its means into the row at mu, each test over all observations before the next.
@@ -73,6 +76,21 @@ fn tries_cap(link: CarriedLink) -> u64
     25
 }
 
+// The account of one try: beside the tries, the one part that it belongs to.
+fn of_try(t: Try) -> Account
+    ensures { λ r. ⌜ r ≡ tally (aTry (fateOf t) ∷ []) ⌝ }
+{
+    let mut one = Account::none();
+    one.tries = 1;
+    match t {
+        Try::EtaRefused => one.eta = 1,
+        Try::MeanRefused => one.mean = 1,
+        Try::PwrssRefused => one.pwrss = 1,
+        Try::Accepted(_) => one.ok = 1,
+    }
+    one
+}
+
 // The tries of an iteration: the whole step, and half of it after each try that is refused.
 pub fn tries(
     link: CarriedLink,
@@ -94,13 +112,13 @@ pub fn tries(
 {
     let cap = tries_cap(link);
     let mut step = 1.0;
-    let mut k: u64 = 0;
-    while k < cap {
+    let mut made = Account::none();
+    while made.tries < cap {
         let t = one_try(link, n, q, prev, next, raw, mu, step, u, w, z, rows);
-        k += 1;
+        made = made.plus(of_try(t));
         match t {
             Try::Accepted(p) => {
-                return TriesEnd::Moved(p, k);
+                return TriesEnd::Moved(p, made);
             }
             Try::EtaRefused => {}
             Try::MeanRefused => {}
@@ -108,5 +126,5 @@ pub fn tries(
         }
         step = step * 0.5;
     }
-    TriesEnd::NoMove(k)
+    TriesEnd::NoMove(made)
 }

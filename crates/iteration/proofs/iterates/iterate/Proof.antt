@@ -68,7 +68,11 @@ enum-known-end : tie.Need-enum-known-end
 enum-known-end c = search needs
 
 same-length-4 : tie.Need-same-length-4
-same-length-4 c = search needs
+same-length-4 c =
+    let step = c .before .before .before .before .before in
+    let solve-into = step .before .before .before .before .before .before .before .before .before .before .before .before in
+    let weigh = solve-into .before .before .before .before .before .before .before .before in
+    step .step .kept .1 .1 .1 .1 .1 .1 .1 .0 ∙ solve-into .solve-into .kept .1 .1 .1 .1 .1 .1 .1 .1 .1 .1 .0 ∙ weigh .weigh .kept .1 .1 .1 .1 .1 .1 .1 .1 .1 .0
 
 same-length-5 : tie.Need-same-length-5
 same-length-5 c = search needs

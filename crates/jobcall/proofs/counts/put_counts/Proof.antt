@@ -1,4 +1,5 @@
 -- `jobcall::put_counts` meets its contract: its stores stand one after another from the front on. Assumes nothing.
+use mathlib.Core.Path.{refl}
 use native.Mathlib.Omega.{arith}
 use lib.ListN.{length-set}
 use Rattle.jobcall.specs.Told.{countsOf}
@@ -40,8 +41,20 @@ slice-write-counts-9 c = simp length-set (omega (arith, c .before .before .befor
 slice-write-counts-10 : tie.Need-slice-write-counts-10
 slice-write-counts-10 c = simp length-set (omega (arith, c .before .before .before .pre))
 
+slice-write-counts-11 : tie.Need-slice-write-counts-11
+slice-write-counts-11 c = simp length-set (omega (arith, c .before .before .before .pre))
+
+slice-write-counts-12 : tie.Need-slice-write-counts-12
+slice-write-counts-12 c = simp length-set (omega (arith, c .before .before .before .pre))
+
+slice-write-counts-13 : tie.Need-slice-write-counts-13
+slice-write-counts-13 c = simp length-set (omega (arith, c .before .before .before .pre))
+
+slice-write-counts-14 : tie.Need-slice-write-counts-14
+slice-write-counts-14 c = simp length-set (omega (arith, c .before .before .before .pre))
+
 same-length : tie.Need-same-length
-same-length c = search needs
+same-length c = simp length-set refl
 
 returns : tie.Need-returns
 unfolding countsOf storedAt
@@ -64,5 +77,9 @@ put-counts-spec =
     slice-write-counts-8
     slice-write-counts-9
     slice-write-counts-10
+    slice-write-counts-11
+    slice-write-counts-12
+    slice-write-counts-13
+    slice-write-counts-14
     same-length
     returns)
