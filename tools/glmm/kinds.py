@@ -4,9 +4,11 @@ import random
 from form import job_bytes
 
 PAIRS = [("binomial", "logit"), ("binomial", "cloglog"), ("poisson", "log"), ("poisson", "identity"), ("poisson", "sqrt"), ("gaussian", "identity"),
-         ("gaussian", "log"), ("gaussian", "inverse")]
+         ("gaussian", "log"), ("gaussian", "inverse"), ("gamma", "inverse"), ("gamma", "identity"), ("gamma", "log")]
+FREE = ("gaussian", "gamma")  # the families with a free dispersion
 CHEAP = PAIRS[:5] * 4 + PAIRS[5:]  # for large jobs: few that run the dispersion loop
-STEEP = [("gaussian", "log"), ("gaussian", "inverse"), ("poisson", "log"), ("poisson", "sqrt"), ("poisson", "identity"), ("binomial", "cloglog")]
+STEEP = [("gaussian", "log"), ("gaussian", "inverse"), ("poisson", "log"), ("poisson", "sqrt"), ("poisson", "identity"), ("binomial", "cloglog"), ("gamma", "inverse"),
+         ("gamma", "log")]
 
 
 def between(r, low, high):
@@ -69,6 +71,8 @@ def response(r, family, link):
         return r.randint(0, size) / size
     if family == "poisson":
         return float(r.randint(0, 2) + r.randint(0, 6) * (r.random() < 0.5))
+    if family == "gamma":
+        return between(r, 0.2, 1.5) * between(r, 0.5, 2.0) * r.choice([1.0, 1.0, 3.0])
     if link == "identity":
         return bell(r)
     return between(r, 0.5, 3.0)
@@ -221,7 +225,7 @@ def limits(r):
 
 
 def dispersion(r):
-    """Gaussian with effects that take up nearly all residuals: slow rounds, some to the last."""
+    """A free dispersion with effects that take up nearly all residuals: slow rounds, some to the last."""
     n = r.randint(3, 9)
     blocks = [{"m": r.randint(max(1, n - 4), n), "k": 1}]
     about = description(r, r.choice(PAIRS[5:]), n, 1, blocks)
@@ -244,7 +248,8 @@ def no_residual(r):
 
 def in_vain(r):
     """No step is accepted: a start without a logarithm, residuals whose squares overflow, or (inverse link) a predictor that stays below zero."""
-    about = description(r, r.choice([("gaussian", "log"), ("gaussian", "identity"), ("poisson", "log"), ("gaussian", "inverse")]), r.randint(2, 5), 1, some_blocks(r, 4))
+    pairs = [("gaussian", "log"), ("gaussian", "identity"), ("poisson", "log"), ("gaussian", "inverse"), ("gamma", "identity"), ("gamma", "inverse")]
+    about = description(r, r.choice(pairs), r.randint(2, 5), 1, some_blocks(r, 4))
     if about["link"] == "inverse":
         about["offset"] = [-9.0] + [0.0] * (len(about["y"]) - 1)
         about["x"][0] = [0.0]
@@ -270,7 +275,7 @@ def squares(r):
 def halved(r):
     """Inverse link with responses of many sizes: steps that leave the positive predictors are halved, and most jobs still fit."""
     n = r.randint(4, 9)
-    about = description(r, ("gaussian", "inverse"), n, 2, some_blocks(r, 3, 1, 1))
+    about = description(r, (r.choice(FREE), "inverse"), n, 2, some_blocks(r, 3, 1, 1))
     about["x"] = [[1.0, between(r, -3.0, 3.0)] for _ in range(n)]
     about["y"] = [r.choice([between(r, 0.05, 0.5), between(r, 0.5, 2.0), between(r, 2.0, 9.0)]) for _ in range(n)]
     about["theta"] = [between(r, 0.0, 0.3)]
@@ -365,13 +370,13 @@ def outlying(r, about, weight, far):
 def weightless(r):
     """A weight of 0 where the means of outer points overflow: 0 times infinity, so that the quadrature declines after its points."""
     blocks = r.choice([[{"m": 1, "k": 1}], [{"m": 2, "k": 1}], [{"m": 1, "k": 2}], [{"m": 1, "k": 1}] * 2])
-    about = description(r, r.choice([("gaussian", "log"), ("gaussian", "log"), ("poisson", "log")]), r.randint(4, 7), 1, blocks)
+    about = description(r, r.choice([("gaussian", "log"), ("gaussian", "log"), ("poisson", "log"), ("gamma", "log")]), r.randint(4, 7), 1, blocks)
     return {**outlying(r, about, 0.0, r.choice([1e3, 1e4, 1e5])), "n_agq": r.choice([3, 5])}
 
 
 def reaching(r):
     """An effect that reaches far out at an observation of little weight: no step is accepted, in some jobs in a late round of the dispersion loop only."""
-    about = description(r, ("gaussian", "log"), r.randint(3, 7), 1, [{"m": 2, "k": 1}])
+    about = description(r, (r.choice(FREE), "log"), r.randint(3, 7), 1, [{"m": 2, "k": 1}])
     about["y"] = [v * r.choice([1e-3, 0.1, 1.0, 1.0, 100.0, 1e4]) for v in about["y"]]
     far = between(r, 1.0, 9.0) * r.choice([1e5, 1e6, 1e7, 1e8, 1e9])
     about["theta"] = [between(r, 0.1, 9.0) * r.choice([1e4, 1e5, 1e6, 1e7]) / far]
@@ -436,7 +441,7 @@ def bad_pair(r, about):
 
 
 def not_carried(r, about):
-    about["family"], about["link"] = r.choice([("binomial", "probit"), ("gamma", "inverse"), ("gamma", "identity"), ("gamma", "log")])
+    about["family"], about["link"] = "binomial", "probit"
 
 
 KINDS = {plain: 24, middle: 6, scalar: 8, product: 8, joint: 6, strong: 4, weights: 5, thetas: 5, stored_zeros: 5, limits: 3, dispersion: 6, halved: 4, overshot: 1, far: 3, least: 3, wide: 2,
@@ -454,7 +459,7 @@ def points(about, wish):
 def spared(about):
     """The job, its wish lowered where some two hundred rounds of the dispersion loop would each take many points."""
     wish = about.get("n_agq", 1)
-    if about["family"] != "gaussian" or wish < 2 or points(about, wish) <= 60:
+    if about["family"] not in FREE or wish < 2 or points(about, wish) <= 60:
         return about
     return {**about, "n_agq": 3 if points(about, 3) <= 60 else 1}
 
