@@ -10,6 +10,7 @@ import struct, sys
 sys.dont_write_bytecode = True
 from rule import answer
 from elementary import exp, exp_m1, ln, ln_1p, sqrt, text
+from log_gamma import ln_gamma
 import fit
 from form import job_bytes
 from reader import Refused, check_table, parse
@@ -166,7 +167,7 @@ def first():
         few_n, few_p, few_q, wanted = 1 <= n <= 512, 1 <= p <= 16, 1 <= q <= 32, asked(n, p, q)
         print("lengths", few_n * wanted["rows"], (few_p and few_q) * wanted["matrices"], wanted["terms"], (few_n and few_p and few_q) * wanted["results"])
     for x in NUMBERS:
-        print("at", *map(text, (x, sqrt(x), exp(x), ln(x), ln_1p(x), exp_m1(x))))
+        print("at", *map(text, (x, sqrt(x), exp(x), ln(x), ln_1p(x), exp_m1(x), ln_gamma(x))))
 
 
 first()
