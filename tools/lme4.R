@@ -176,8 +176,8 @@ sets <- c(
     measured("examples/dark", current ~ warm + (warm | wafer), example("dark"), list(c(2, -0.15, 0.7), c(3, 0.5, 1))),
     skewed("examples/cells", current ~ warm + (1 | wafer), example("cells"), Gamma("log"), c(0.2, 0.6328, 1.5), own = TRUE),
     skewed("examples/cells, weights", current ~ warm + (1 | wafer), example("cells"), Gamma("log"), c(0.3, 0.8), rep(c(0.5, 1, 1.5, 2), 12)),
-    skewed("examples/cells, warm, inverse", current ~ warm + (1 | wafer), subset(example("cells"), warm >= 1), Gamma("inverse"), c(0.02, 0.05)),
-    skewed("examples/cells, warm, identity", current ~ warm + (1 | wafer), subset(example("cells"), warm >= 0), Gamma("identity"), c(0.5, 2)))
+    skewed("examples/cells, warm from 1, inverse", current ~ warm + (1 | wafer), subset(example("cells"), warm >= 1), Gamma("inverse"), c(0.02, 0.05)),
+    skewed("examples/cells, warm from 0, identity", current ~ warm + (1 | wafer), subset(example("cells"), warm >= 0), Gamma("identity"), c(0.5, 2)))
 of_gamma <- c(elements(c(0.68, 1.57, 9.84, 2.53, 0.01), c(0.9, 1.4, 4.5, 3, 0.5), rep(1, 5), 4), elements(c(0.2, 30, 1, 7), c(0.3, 8, 1.25, 70), c(0.5, 2, 1, 0.25), 0.375),
               elements(c(1, 1.001, 0.998), c(1.0005, 1, 0.999), c(1, 3, 2), 1e4, 1e-9))
 cat(object(lme4 = text(packageVersion("lme4")), R = text(getRversion()), sets = listed(sets), gamma = listed(of_gamma)), "\n")
