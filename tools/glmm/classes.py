@@ -112,7 +112,7 @@ WHYS = [f"why {why}" for why in range(7)]
 PARTS = {"eta": "refused for eta", "mean": "refused for a mean", "pwrss": "refused for PWRSS", "ok": "accepted"}
 FLAGS = ["flag 0, Laplace", "flag 0, quadrature", "flag 1, Laplace", "flag 1, quadrature"]
 DRESSES = ["no weights, no offset", "weights, no offset", "no weights, offset", "weights, offset"]
-GAMMA = ["a Gamma response not above 0", "a Gamma response above 0 and below E", "a Gamma mean not above 0"]
+GAMMA = ["a Gamma response not above 0", "a Gamma response above 0 and below E", "a Gamma mean not above 0", "Gamma weights that sum to less than 1", "a Gamma phi near E"]
 WAYS = ["steps halved", "a weight not above 0", "deviance NaN", "deviance infinite", *GAMMA]
 
 
@@ -159,9 +159,9 @@ def on_the_way(job, said, deviance):
 
 
 def gamma_ways(job, lines):
-    """Of a fitted Gamma job what its floors at E change: responses, and means by the lines that were printed."""
-    means = [struct.unpack(">d", bytes.fromhex(line.split()[2]))[0] for line in lines if line.startswith("mu ")]
-    tests = [min(job.y) <= 0.0, any(0.0 < y < 2.0**-52 for y in job.y), min(means) <= 0.0]
+    """Of a fitted Gamma job what its floors change: those at E of responses, of means and of the dispersion, by the lines that were printed, and that of the weights' sum at 1."""
+    (phi,), means = ([struct.unpack(">d", bytes.fromhex(line.split()[2]))[0] for line in lines if line.startswith(name)] for name in ("phi ", "mu "))
+    tests = [min(job.y) <= 0.0, any(0.0 < y < 2.0**-52 for y in job.y), min(means) <= 0.0, job.weights and 0.0 < sum(job.weights) < 1.0, phi < 2.0**-51]
     return [name for name, test in zip(GAMMA, tests) if test]
 
 
