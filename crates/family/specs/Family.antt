@@ -36,7 +36,7 @@ gammaTerm y m = neg (lnOf (y ⊘ m)) ⊕ (y ⊖ m) ⊘ m
 unfoldable pub proportion : Float → Bool
 proportion y = le zeroF y && le y oneF
 
--- `dev_resid`: what a response y with mean mu and weight w adds to the deviance; NaN outside the family's range
+-- `dev_resid`: what a response y with mean mu and weight w adds to the deviance; NaN outside the family's range, but of a NaN response Gamma makes a number, as `max` drops it
 unfoldable pub devResid : CarriedFamily → Float → Float → Float → Float
 devResid Binomial y mu w = cond (proportion y) (twoF ⊗ w ⊗ binomialTerm y (clampE mu)) nan
 devResid Poisson y mu w = cond (lt y zeroF) nan (twoF ⊗ w ⊗ poissonTerm y (maxF mu epsF))

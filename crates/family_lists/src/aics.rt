@@ -86,11 +86,12 @@ fn mean_at(mu: &[f64], i: usize) -> f64
 fn densities(y: &[f64], mu: &[f64], wt: &[f64], phi: f64) -> f64
     ensures { λ r. ⌜ r ≡ sumTo (length (now (y .entry))) (densityAt (now (y .entry)) (now (mu .entry)) (now (wt .entry)) phi) ⌝ }
 {
+    let shape = 1.0 / phi;
     let mut sum = 0.0;
     let mut i = 0;
     while i < y.len() {
         let scale = max(mean_at(mu, i), EPSILON) * phi;
-        sum = sum + weight_at(wt, i) * ln_dgamma(y[i], 1.0 / phi, scale);
+        sum = sum + weight_at(wt, i) * ln_dgamma(y[i], shape, scale);
         i += 1;
     }
     sum

@@ -1,5 +1,5 @@
 -- `family_lists::densities` meets its contract: before turn i the sum is that of the first i responses.
-use mathlib.Core.Path.{_≡_}
+use mathlib.Core.Path.{_≡_, refl}
 use mathlib.Core.List.{List}
 use Prim.Native.Nat.{ℕ, _+_, _-_, _≤_}
 use native.Mathlib.Omega.{arith}
@@ -7,7 +7,7 @@ use lib.ListN.{length}
 use lib.Ieee.{Float}
 use Rattle.base.specs.Number.{_⊕_, _⊗_, _⊘_, oneF, epsF, maxF}
 use Rattle.base.specs.Sum.{_!_, sumTo}
-use Rattle.base.proofs.Sums.{sum-step, sum-end}
+use Rattle.base.proofs.Sums.{sum-none, sum-step, sum-end}
 use Rattle.base.proofs.Loops.{loops}
 use Rattle.family.specs.Family.{lnDgamma}
 use Rattle.family_lists.specs.Lists.{weightAt}
@@ -23,13 +23,13 @@ unfolding densityAt
 density-step y mu w phi i s e = sum-step (densityAt y mu w phi) i s e
 
 abbrev Inv-loop : tie.InvT-loop
-Inv-loop y mu wt phi sum₀ i₀ sum i = (i ≤ length y) × (sum ≡ sumTo i (densityAt y mu wt phi))
+Inv-loop y mu wt phi shape sum₀ i₀ sum i = (i ≤ length y) × (shape ≡ oneF ⊘ phi) × (sum ≡ sumTo i (densityAt y mu wt phi))
 
 abbrev μ-loop : tie.MeasureT-loop
-μ-loop y mu wt phi sum₀ i₀ sum i = length y - i
+μ-loop y mu wt phi shape sum₀ i₀ sum i = length y - i
 
 loop-holds : tie.Need-loop-holds Inv-loop μ-loop
-loop-holds c = search (needs, loops)
+loop-holds c = (omega arith, refl, sum-none _)
 
 mean-at-requires : tie.Need-mean-at-requires Inv-loop μ-loop
 mean-at-requires c κs = search (needs, loops)
@@ -63,12 +63,13 @@ loop-again c =
     let loop = mean-at .before .before in
     let start = loop .before .before .before .before in (
       omega arith,
-      rw (c .ln-dgamma .ensures, weight-at .weight-at .ensures, max .max .ensures, mean-at .mean-at .ensures)
-          (density-step (start .args .y .now) (start .args .mu .now) (start .args .wt .now) _ _ _ (loop .loop .inv .1)),
+      loop .loop .inv .1,
+      rw (c .ln-dgamma .ensures, loop .loop .inv .1, weight-at .weight-at .ensures, max .max .ensures, mean-at .mean-at .ensures)
+          (density-step (start .args .y .now) (start .args .mu .now) (start .args .wt .now) _ _ _ (loop .loop .inv .2)),
     )
 
 returns : tie.Need-returns Inv-loop μ-loop
-returns c = search (needs, loops)
+returns c = sum-end _ _ _ _ (c .before .loop .inv .2) (omega arith) (omega arith)
 
 pub densities-spec : {M : Type 1} → statement M
 densities-spec =
