@@ -89,7 +89,7 @@ abbrev room : LentLengths
 room = record { beta = 1; se = 1; z = 1; u = 1; b = 1; mu = 2; eta = 2; residual = 2; v = 1; rows = 32; matrices = 33; terms = 7000 }
 
 abbrev answer : Lent → Told
-answer L = record { answer = record { number = 0; deviance = bits 0x4014_595f_5490_47a6; phi = bits 0x3ff0_0000_004a_a06d; order = 3; why = 0; converged = true; iterations = 7; account = record { fits = 2; solves = 14; tries = 14; points = 6 } }; results = record { beta = bits 0x4066_e768_b43d_51ee ∷ []; se = bits 0x4072_b533_8649_7caf ∷ []; z = bits 0x3fe3_96b9_6201_48f8 ∷ []; u = bits 0x3f26_2bd5_7a43_2974 ∷ []; b = bits 0x3f16_2bd5_7a43_2974 ∷ []; mu = bits 0x4066_ea9c_98cf_30f3 ∷ bits 0x4066_e769_0cec_a7d7 ∷ []; eta = bits 0x4066_ea9c_98cf_30f3 ∷ bits 0x4066_e769_0cec_a7d7 ∷ []; residual = bits 0x4056_bdc3_2b3e_eec2 ∷ bits 0xc066_b769_0cec_a7d7 ∷ []; v = bits 0x40f5_dfb8_0c89_83aa ∷ [] } }
+answer L = record { answer = record { number = 0; deviance = bits 0x4014_595f_5490_47a6; phi = bits 0x3ff0_0000_004a_a06d; order = 3; why = 0; converged = true; iterations = 7; account = record { fits = 2; solves = 14; tries = 14; points = 6; eta = 0; mean = 0; pwrss = 0; ok = 14 } }; results = record { beta = bits 0x4066_e768_b43d_51ee ∷ []; se = bits 0x4072_b533_8649_7caf ∷ []; z = bits 0x3fe3_96b9_6201_48f8 ∷ []; u = bits 0x3f26_2bd5_7a43_2974 ∷ []; b = bits 0x3f16_2bd5_7a43_2974 ∷ []; mu = bits 0x4066_ea9c_98cf_30f3 ∷ bits 0x4066_e769_0cec_a7d7 ∷ []; eta = bits 0x4066_ea9c_98cf_30f3 ∷ bits 0x4066_e769_0cec_a7d7 ∷ []; residual = bits 0x4056_bdc3_2b3e_eec2 ∷ bits 0xc066_b769_0cec_a7d7 ∷ []; v = bits 0x40f5_dfb8_0c89_83aa ∷ [] } }
 
 -- in slices of these lengths
 computed : (L : Lent) → toldOf (callBy (tableOf 1 settings shape inputs room) settings shape inputs L) ≡ answer L
