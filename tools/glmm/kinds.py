@@ -406,8 +406,7 @@ def extremes(r):
 
 
 def gamma(r):
-    """Gamma in a job of another kind: with responses of its own, or with those that the kind is for; some with weights that sum to less than 1, or with nearly equal
-    responses and no spread."""
+    """Gamma in a job of another kind, with responses of its own or the kind's; some with weights that sum to less than 1, or with nearly equal responses."""
     own = r.choice([plain, plain, middle, scalar, product, joint, weights, thetas, stored_zeros, limits, dispersion, dispersion, least, singular, pivots, coupled, later_group, weightless])
     kind = r.choice([own, own, own, r.choice([out_of_range, extremes, far, halved, reaching, in_vain, no_residual])])
     about = kind(r)
