@@ -11,7 +11,7 @@ static void put(const char *name, double x, double y)
 {
     uint64_t bits;
     memcpy(&bits, &y, sizeof bits);
-    printf("%-6s %-6g %.17g %016" PRIX64 "\n", name, x, y, bits);
+    printf("%-8s %-6g %.17g %016" PRIX64 "\n", name, x, y, bits);
 }
 
 int main(void)
@@ -22,5 +22,6 @@ int main(void)
     put("ln", 10.0, glmm_ln(10.0));
     put("ln_1p", 1e-9, glmm_ln_1p(1e-9));
     put("exp_m1", 1e-9, glmm_exp_m1(1e-9));
+    put("ln_gamma", 0.375, glmm_ln_gamma(0.375));
     return 0;
 }

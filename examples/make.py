@@ -63,6 +63,18 @@ random: 1 warm | wafer
 theta: 0.7 -0.1 0.2
 """
 
+CELLS = """\
+# Dark current of single cells in picoampere, eight wafers, six temperatures (in units of ten degrees from 25): above 0, and skewed.
+# Made up by examples/make.py, seed {seed}: Gamma with shape 4 (a dispersion of 0.25), log mean = 1 + 0.5 warm + a wafer's own, of spread 0.4.
+# Of the thetas 0, 0.05 .. 1.5 the Laplace deviance is lowest at 0.4.
+family: gamma
+link: log
+response: current
+fixed: 1 warm
+random: 1 | wafer
+theta: 0.4
+"""
+
 
 def chance(eta):
     return 1 / (1 + math.exp(-eta))
@@ -79,6 +91,11 @@ def poisson(r, mean):
         left, count = left - term, count + 1
         term *= mean / count
     return count
+
+
+def skewed(r, mean, shape):
+    """A draw of Gamma: the sum of so many waiting times."""
+    return sum(-math.log(1 - r.random()) for _ in range(shape)) * mean / shape
 
 
 def wafers(r):
@@ -117,6 +134,14 @@ def dark(r):
             yield f"W{wafer:02}", warm, f"{2 + level + (0.5 + slope) * warm + 0.3 * bell(r):.2f}"
 
 
+def cells(r):
+    yield "wafer", "warm", "current"
+    for wafer in range(1, 9):
+        own = 0.4 * bell(r)
+        for warm in range(-2, 4):
+            yield f"W{wafer:02}", warm, f"{skewed(r, math.exp(1 + 0.5 * warm + own), 4):.2f}"
+
+
 def table(rows):
     rows = [list(map(str, row)) for row in rows]
     widths = [max(map(len, column)) for column in zip(*rows)]
@@ -125,7 +150,7 @@ def table(rows):
 
 def main():
     folder = Path(sys.argv[1]) if len(sys.argv) > 1 else HERE
-    for rows, head, seed in ((wafers, WAFERS, 1), (defects, DEFECTS, 2), (cards, CARDS, 4), (dark, DARK, 4)):
+    for rows, head, seed in ((wafers, WAFERS, 1), (defects, DEFECTS, 2), (cards, CARDS, 4), (dark, DARK, 4), (cells, CELLS, 3)):
         text = head.format(seed=seed) + "\n" + table(rows(random.Random(seed)))
         (folder / f"{rows.__name__}.txt").write_text(text)
         (folder / f"{rows.__name__}.job").write_bytes(Sheet(text).job())

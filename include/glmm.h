@@ -108,8 +108,7 @@ struct glmm_block {
     size_t m, k;
 };
 
-/* Families and links that can be named; Gamma and probit are refused with 5, a link that does not go with its family with 4, and so is a number that names
- * none. */
+/* Families and links that can be named; probit is refused with 5, a link that does not go with its family with 4, and so is a number that names none. */
 enum { GLMM_BINOMIAL = 0, GLMM_POISSON = 1, GLMM_GAUSSIAN = 2, GLMM_GAMMA = 3 };
 enum { GLMM_LOGIT = 0, GLMM_PROBIT = 1, GLMM_CLOGLOG = 2, GLMM_LOG = 3, GLMM_IDENTITY = 4, GLMM_INVERSE = 5, GLMM_SQRT = 6 };
 
@@ -180,6 +179,7 @@ double glmm_exp(double x);
 double glmm_exp_m1(double x);
 double glmm_ln(double x);
 double glmm_ln_1p(double x);
+double glmm_ln_gamma(double x); /* of the numbers above 0; below 0 it is NaN */
 double glmm_sqrt(double x);
 
 #ifdef __cplusplus

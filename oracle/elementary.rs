@@ -6,6 +6,7 @@ extern "C" {
     fn glmm_exp_m1(x: f64) -> f64;
     fn glmm_ln(x: f64) -> f64;
     fn glmm_ln_1p(x: f64) -> f64;
+    fn glmm_ln_gamma(x: f64) -> f64;
     fn glmm_sqrt(x: f64) -> f64;
 }
 
@@ -14,6 +15,7 @@ pub(crate) trait Elementary {
     fn glmm_exp_m1(self) -> f64;
     fn glmm_ln(self) -> f64;
     fn glmm_ln_1p(self) -> f64;
+    fn glmm_ln_gamma(self) -> f64;
     fn glmm_sqrt(self) -> f64;
 }
 
@@ -32,6 +34,10 @@ impl Elementary for f64 {
 
     fn glmm_ln_1p(self) -> f64 {
         unsafe { glmm_ln_1p(self) }
+    }
+
+    fn glmm_ln_gamma(self) -> f64 {
+        unsafe { glmm_ln_gamma(self) }
     }
 
     fn glmm_sqrt(self) -> f64 {

@@ -686,7 +686,7 @@ impl GlmFamily for GammaFamily {
 }
 
 /// Log-density of a Gamma(`shape`, `scale`) observation. Matches R `dgamma(..., log = TRUE)`.
-fn ln_dgamma(y: f64, shape: f64, scale: f64) -> f64 {
+pub fn ln_dgamma(y: f64, shape: f64, scale: f64) -> f64 { // ALTERED: pub, for the test program
     if !(y > 0.0 && shape > 0.0 && scale > 0.0) {
         return f64::NEG_INFINITY;
     }

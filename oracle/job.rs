@@ -173,7 +173,7 @@ fn table(job: &Job) -> usize {
     if !job.link.valid_for(job.family) {
         return 4;
     }
-    if job.family == Family::Gamma || job.link == Link::Probit {
+    if job.link == Link::Probit {
         return 5;
     }
     0

@@ -1,5 +1,5 @@
 //! The oracle: the Rust's quadrature.rs, family.rs and the fit of glmm_math.rs, with the libraries that they call replaced by plain
-//! loops in document 01's order, and exp, ln, ln_1p, exp_m1 and sqrt those of `elementary_c`.
+//! loops in document 01's order, and exp, ln, ln_1p, exp_m1, ln_gamma and sqrt those of `elementary_c`.
 //! Lines of the three files that were altered say so (ALTERED). The licence of the three is in NOTICE.
 //!
 //! oracle < job            what `fitjob` must print

@@ -1,4 +1,4 @@
-//! Stand-in for what the carried text calls of statrs. Gamma and probit are not carried yet: refusal 5 comes before every call.
+//! Stand-in for what the carried text calls of statrs: log-gamma is that of `elementary_c`. Probit is not carried yet: refusal 5 comes before every call.
 pub mod distribution {
     pub struct Normal;
 
@@ -36,8 +36,10 @@ pub mod distribution {
 
 pub mod function {
     pub mod gamma {
-        pub fn ln_gamma(_x: f64) -> f64 {
-            unimplemented!("Gamma is refused")
+        use crate::elementary::Elementary;
+
+        pub fn ln_gamma(x: f64) -> f64 {
+            x.glmm_ln_gamma()
         }
     }
 }

@@ -5,6 +5,9 @@
 #   Gaussian            phi is S/W, by lme4's residuals at its theta (REML = FALSE); theta here is lme4's times sqrt(phi), se is by phi in place of sigma^2, beta
 #                       and b are lme4's; the deviance is -2 log of the normal density of y with the covariance phi/weights + ZΛΛ'Z', made without lme4, and
 #                       the constant of the weights; beside it are lmer's own sigma^2 and -2 log L
+#   Gamma               phi is the deviance over W, by lme4's means at its theta; theta here is lme4's times sqrt(phi), se is by phi, beta and b are lme4's; the
+#                       deviance is R's AIC at this phi, less 2, with lme4's log determinant and its u'u over phi; beside it is lme4's own Laplace deviance
+# Then what R's Gamma() and dgamma say of single responses.
 suppressPackageStartupMessages(library(lme4))
 
 number <- function(x) sprintf("%.17g", x)
@@ -117,6 +120,38 @@ linked <- function(name, formula, data, family, thetas) {
     object(name = text(name), about = described(parts, "gaussian", family$link, resp$y, NULL), answers = listed(sapply(thetas, at)), own = "[]", allowed = "1e-5")
 }
 
+# A Gamma set. W is the sum of the weights. 1e-5 is allowed, as above.
+skewed <- function(name, formula, data, family, thetas, weighted = rep(1, nrow(data)), own = FALSE) {
+    data$weighted <- weighted
+    control <- glmerControl(tolPwrss = 1e-12)
+    parts <- glFormula(formula, data, family, weights = weighted, control = control)
+    laplace <- do.call(mkGlmerDevfun, c(parts, list(nAGQ = 0L, control = control)))
+    resp <- environment(laplace)$resp
+    at <- function(theta) {
+        glmers <- laplace(theta)
+        pp <- environment(laplace)$pp
+        phi <- sum(family$dev.resids(resp$y, resp$mu, weighted)) / sum(weighted)
+        aic <- family$aic(resp$y, rep(1, length(resp$y)), resp$mu, weighted, phi * sum(weighted))
+        object(theta = numbers(theta * sqrt(phi)), relative = numbers(theta), deviance = number(aic - 2 + pp$ldL2() + pp$sqrL(1) / phi), phi = number(phi),
+               beta = numbers(pp$beta(1)), se = numbers(sqrt(phi * diag(pp$unsc()))), b = numbers(pp$b(1)), glmers = number(glmers))
+    }
+    answers <- listed(sapply(thetas, at))
+    fit <- function() {
+        m <- glmer(formula, data, family, nAGQ = 0, control = control)
+        object(theta = numbers(getME(m, "theta")), beta = numbers(fixef(m)), b = numbers(getME(m, "b")@x), glmers = logged(m))
+    }
+    object(name = text(name), about = described(parts, "gamma", family$link, resp$y, if (any(weighted != 1)) weighted), answers = answers, own = "[]",
+           searched = if (own) fit() else "null", allowed = "1e-5")
+}
+
+# What R says of responses y with means mu and weights: deviances, the AIC, and the logarithm of the density for a shape. For a large shape more is allowed: the
+# Rust's terms cancel there, R's don't.
+elements <- function(y, mu, weights, shape, allowed = 1e-13) {
+    deviances <- Gamma()$dev.resids(y, mu, weights)
+    object(y = numbers(y), mu = numbers(mu), weights = numbers(weights), shape = number(shape), allowed = number(allowed), deviances = numbers(deviances),
+           aic = number(Gamma()$aic(y, rep(1, length(y)), mu, weights, sum(deviances))), density = numbers(dgamma(y, shape, scale = mu / shape, log = TRUE)))
+}
+
 folder <- commandArgs(TRUE)
 sets <- c(
     counted("cbpp", cbind(incidence, size - incidence) ~ period + (1 | herd), cbpp, binomial(), c(0, 0.5, 0.64, 1, 5, 30)),
@@ -138,5 +173,11 @@ sets <- c(
     counted("examples/cards", weak ~ I(ring == "rim") + (1 | wafer) + (1 | card), example("cards"), binomial(), list(c(0.5, 0.5)), own = FALSE),
     counted("examples/defects", defects ~ reflow + offset(log(area)) + (1 | lot), example("defects"), poisson(), c(0.25, 0.45, 1)),
     counted("examples/defects, identity", defects ~ 1 + (1 | lot), example("defects"), poisson("identity"), c(0.5, 2), own = FALSE),
-    measured("examples/dark", current ~ warm + (warm | wafer), example("dark"), list(c(2, -0.15, 0.7), c(3, 0.5, 1))))
-cat(object(lme4 = text(packageVersion("lme4")), R = text(getRversion()), sets = listed(sets)), "\n")
+    measured("examples/dark", current ~ warm + (warm | wafer), example("dark"), list(c(2, -0.15, 0.7), c(3, 0.5, 1))),
+    skewed("examples/cells", current ~ warm + (1 | wafer), example("cells"), Gamma("log"), c(0.2, 0.6328, 1.5), own = TRUE),
+    skewed("examples/cells, weights", current ~ warm + (1 | wafer), example("cells"), Gamma("log"), c(0.3, 0.8), rep(c(0.5, 1, 1.5, 2), 12)),
+    skewed("examples/cells, warm from 1, inverse", current ~ warm + (1 | wafer), subset(example("cells"), warm >= 1), Gamma("inverse"), c(0.02, 0.05)),
+    skewed("examples/cells, warm from 0, identity", current ~ warm + (1 | wafer), subset(example("cells"), warm >= 0), Gamma("identity"), c(0.5, 2)))
+of_gamma <- c(elements(c(0.68, 1.57, 9.84, 2.53, 0.01), c(0.9, 1.4, 4.5, 3, 0.5), rep(1, 5), 4), elements(c(0.2, 30, 1, 7), c(0.3, 8, 1.25, 70), c(0.5, 2, 1, 0.25), 0.375),
+              elements(c(1, 1.001, 0.998), c(1.0005, 1, 0.999), c(1, 3, 2), 1e4, 1e-9))
+cat(object(lme4 = text(packageVersion("lme4")), R = text(getRversion()), sets = listed(sets), gamma = listed(of_gamma)), "\n")

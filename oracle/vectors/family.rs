@@ -1,11 +1,10 @@
 //! `cases_family`, by the Rust's own family.rs.
 use super::{line, one, SPECIAL};
 use crate::answer::hex;
-use crate::family::{Family, GlmLink, Link};
+use crate::family::{ln_dgamma, Family, GlmLink, Link};
 
-/// What the port carries at first.
+/// What the port carries; of the families all.
 pub const CARRIED_LINKS: [Link; 6] = [Link::Logit, Link::Cloglog, Link::Log, Link::Identity, Link::Inverse, Link::Sqrt];
-pub const CARRIED_FAMILIES: [Family; 3] = [Family::Binomial, Family::Poisson, Family::Gaussian];
 /// In the order of their codes.
 pub const LINKS: [Link; 7] =
     [Link::Logit, Link::Probit, Link::Cloglog, Link::Log, Link::Identity, Link::Inverse, Link::Sqrt];
@@ -26,13 +25,17 @@ const RESPONSES: [f64; 18] =
     [NAN, INF, -INF, -0.0, 0.0, 5e-324, E, 0.25, 0.5, 1.0 - E, 1.0, 1.0 + E, 1.5, 2.0, 7.0, -1.0, -5e-324, 1e-300];
 const MEANS: [f64; 10] = [NAN, INF, 0.0, E, 0.3, 1.0 - E, 1.0, 2.5, -3.0, 1e300];
 const WEIGHTS: [f64; 5] = [1.0, 2.5, 0.0, -1.0, NAN];
+/// Responses, shapes and scales of a Gamma density, at the ends of what the fit can ask and outside.
+const DENSITY_RESPONSES: [f64; 7] = [NAN, INF, 0.0, -1.0, 5e-324, 0.25, 3.5];
+const SHAPES: [f64; 9] = [NAN, INF, 0.0, -2.0, 5.6e-309, 0.3, 1.0, 7.25, 4503599627370496.0];
+const SCALES: [f64; 7] = [NAN, INF, 0.0, -1.0, E * E, 0.3, 2.5];
 
 fn by_links(word: &str, x: f64, f: impl Fn(Link) -> f64) {
     line(word, [x].iter().copied().chain(CARRIED_LINKS.iter().map(|&link| f(link))));
 }
 
 fn by_families(word: &str, x: f64, f: impl Fn(Family) -> f64) {
-    line(word, [x].iter().copied().chain(CARRIED_FAMILIES.iter().map(|&family| f(family))));
+    line(word, [x].iter().copied().chain(FAMILIES.iter().map(|&family| f(family))));
 }
 
 /// Every function of one number.
@@ -47,11 +50,18 @@ fn elements(x: f64) {
 fn deviances(y: f64, mu: f64) {
     print!("dev {} {}", hex(y), hex(mu));
     for wt in WEIGHTS {
-        for family in CARRIED_FAMILIES {
+        for family in FAMILIES {
             print!(" {}", hex(family.build().dev_resid(&one(y), &one(mu), &one(wt))[0]));
         }
     }
     println!();
+}
+
+fn densities(y: f64) {
+    for shape in SHAPES {
+        let values = SCALES.iter().map(|&scale| ln_dgamma(y, shape, scale));
+        line("density", [y, shape].iter().copied().chain(values));
+    }
 }
 
 pub fn put() {
@@ -66,6 +76,9 @@ pub fn put() {
             deviances(y, mu);
         }
     }
+    for y in DENSITY_RESPONSES {
+        densities(y);
+    }
     for family in FAMILIES {
         print!("valid");
         for link in LINKS {
@@ -73,10 +86,10 @@ pub fn put() {
         }
         println!(" {}", Link::default_for(family) as usize);
     }
-    // of the links and families all but probit and Gamma: document 01
-    println!("carried 1 0 1 1 1 1 1 1 1 1 0");
+    // of the links all but probit, of the families all, told by their codes: document 01 with P2
+    println!("carried 1 0 1 1 1 1 1 0 1 2 3");
     print!("dispersion");
-    for family in CARRIED_FAMILIES {
+    for family in FAMILIES {
         print!(" {}", family.build().uses_dispersion() as usize);
     }
     println!();

@@ -156,7 +156,7 @@ static void edges(void)
     was = numbers[Y][0], numbers[Y][0] = -1.0 / 0.0, edge("an infinite response"), changed("no link, an infinite response", &settings.link, 7);
     numbers[Y][0] = was, link = settings.link, settings.link = 7, changed("no link, no block", &blocks_length, 0), settings.link = link;
     settings.family = GLMM_BINOMIAL, settings.link = GLMM_SQRT, edge("another family's link");
-    settings.link = GLMM_PROBIT, edge("a link not carried"), settings.family = GLMM_GAMMA, settings.link = GLMM_INVERSE, edge("a family not carried");
+    settings.link = GLMM_PROBIT, edge("a link not carried");
 }
 
 int main(int count, char **words)

@@ -9,7 +9,8 @@
 #include <time.h>
 
 #define WEAK __attribute__((weak))
-double glmm_sqrt(double) WEAK, glmm_exp(double) WEAK, glmm_ln(double) WEAK, glmm_ln_1p(double) WEAK, glmm_exp_m1(double) WEAK;
+double glmm_sqrt(double) WEAK, glmm_exp(double) WEAK, glmm_ln(double) WEAK, glmm_ln_1p(double) WEAK, glmm_exp_m1(double) WEAK,
+    glmm_ln_gamma(double) WEAK;
 
 typedef double (*function)(double);
 
@@ -25,6 +26,7 @@ static const struct entry table[] = {
     {"ln", glmm_ln, log, 0.0, 100.0},
     {"ln_1p", glmm_ln_1p, log1p, -0.9, 10.0},
     {"exp_m1", glmm_exp_m1, expm1, -30.0, 30.0},
+    {"ln_gamma", glmm_ln_gamma, lgamma, 0.0, 100.0},
 };
 
 enum { FUNCTIONS = sizeof table / sizeof table[0], COUNT = 1 << 14, ROUNDS = 15, REPEATS = 8 };

@@ -114,6 +114,7 @@ def fits():
     run("groups and pair", job(n_agq=3, blocks=[{"m": 2, "k": 1}, {"m": 1, "k": 2}], theta=[0.75, 0.5, 0.25, 0.4], x=[[1.0]] * 4,
                                zt=[*job()["zt"], [[i, 1.0] for i in range(4)], [[0, 0.3], [1, -0.7], [2, 1.1], [3, 0.2]]]))
     run("Gaussian", job(family="gaussian", link="identity", n_agq=5, y=[1.5, -0.25, 3.0, 0.75], weights=[4.0, 2.0, 3.0, 1.0]))
+    run("Gamma", job(family="gamma", link="log", n_agq=3, y=[1.5, 0.25, 3.0, 0.75], weights=[4.0, 2.0, 3.0, 1.0]))
     run("unsettled", job(family="gaussian", link="identity", y=[3.0, 0.0, 5.0, 0.25]))
     run("log sum", job(n_agq=3, weights=[-1e308, 1.0, 1.0, 1.0]))
     run("theta", job(theta=[1e200]))
@@ -150,7 +151,7 @@ def refusals():
     run("family 4, NaN", job(), family=4, y=[1.0, NAN, 0.0, 5.0])
     run("link 7, k 9", job(), link=7, blocks=[(2, 9)])
     run("probit", job(), family=0, link=1)
-    run("Gamma", job(), family=3)
+    run("Gamma sqrt", job(), family=3, link=6)
 
 
 fits()

@@ -2,8 +2,8 @@
 """usage: elementary.py > crates/cases_elementary/stdout
        elementary.py --stdin > crates/cases_elementary/stdin
 What `cases_elementary` must print, worked out apart from the Rattle code, and the arguments that it is fed, which meet every row of both tables (rows.py). The square root is the nearest double, by Python's whole
-numbers. The other four are the published algorithms (musl's exp.c, log.c, log1p.c and expm1.c, with their tests on the bits of the
-argument) in Python's own doubles; the two tables are read from the definitions, the arguments from the programs."""
+numbers. The next four are the published algorithms (musl's exp.c, log.c, log1p.c and expm1.c, with their tests on the bits of the
+argument) in Python's own doubles, ln_gamma is that of log_gamma.py; the two tables are read from the definitions, the arguments from the programs."""
 import math, re, struct, sys
 from pathlib import Path
 
@@ -192,7 +192,8 @@ def ln_1p(x):
 
 
 def line(x):
-    print("at", *map(text, (x, sqrt(x), exp(x), ln(x), ln_1p(x), exp_m1(x))))
+    from log_gamma import ln_gamma  # which takes its logarithm from here
+    print("at", *map(text, (x, sqrt(x), exp(x), ln(x), ln_1p(x), exp_m1(x), ln_gamma(x))))
 
 
 EXP_TABLE, LN_TABLE = numbers("crates/tabulated/specs/ExpTable.antt"), numbers("crates/tabulated/specs/LogTable.antt")

@@ -8,10 +8,11 @@ from pathlib import Path
 NAN, INF = math.nan, math.inf
 ROOT = Path(__file__).resolve().parents[2]
 LINKS = ["logit", "cloglog", "log", "inverse", "sqrt"]
-FAMILIES = ["binomial", "poisson", "gaussian"]
+FAMILIES = ["binomial", "poisson", "gaussian", "gamma"]
 # the steps by their codes, which begin at one; what a call takes behind its lists is told by its name
 STEPS = ["link_fun", "link_inv", "mu_eta", "variance", "initialize_mu", "dev_resid", "hold", "end", "double", "aic"]
 HELD = [9.0, 8.0, 7.0]
+DEVIANCES = [NAN, INF, -INF, 0.0, -0.0, -1.0, 5e-324, 0.1, 0.7, 10.0, 1e308]
 
 
 def words(*xs):
@@ -50,12 +51,36 @@ def aic(dev):
     step("end", out=0)
 
 
+def gamma_aic(dev):
+    step("double", "gamma", behind=[dev])
+
+    def call(*lists):
+        step("aic", lists=lists, behind=[FAMILIES.index("gamma"), *map(len, lists), dev])
+
+    # absent weights, ones, some not above zero, a NaN, sizes that overflow, a sum of zero; then too few
+    y, mu = [1.0, 2.0, 3.0], [1.5, 1.5, 2.5]
+    for weights in [[], [1.0, 1.0, 1.0], [0.5, 3.0, 0.0], [-2.0, NAN, 7.0], [1e-300, 1e300, INF], [1e-300, 1e-300, 0.0], [1.0, -2.0, 1.0], [1.0, 1.0]]:
+        call(y, mu, weights)
+    # responses without a density, with a weight and without; a response below E; means that are taken for E; no responses, and too few means
+    call([1.0, 0.0, 3.0], mu, [])
+    call([1.0, NAN, 3.0], mu, [])
+    call([1.0, NAN, 3.0], mu, [1.0, 0.0, 1.0])
+    call([1.0, -2.0, 3.0], mu, [2.0, -1.0, 1.0])
+    call([1e-300, 2.0, 3.0], mu, [])
+    call(y, [NAN, -1.0, 0.0], [])
+    call([], [], [])
+    call(y, mu[:2], [])
+    step("end", out=0)
+
+
 def written():
     """What the list functions write; the deviances with weights and without."""
     x = [0.25, 0.5, NAN]
     calls = [[(link_list, "link_fun", "logit", x), (link_list, "link_inv", "cloglog", x), (link_list, "mu_eta", "inverse", x)],
              [(family_list, "variance", "binomial", x), (family_list, "initialize_mu", "poisson", x)],
-             *[[(family_list, "dev_resid", "binomial", x, [0.4] * 3, weights)] for weights in ([2.0, 3.0, 4.0], [])]]
+             [(family_list, "variance", "gamma", x), (family_list, "initialize_mu", "gamma", x)],
+             *[[(family_list, "dev_resid", "binomial", x, [0.4] * 3, weights)] for weights in ([2.0, 3.0, 4.0], [])],
+             *[[(family_list, "dev_resid", "gamma", x, [0.4] * 3, weights)] for weights in ([2.0, 3.0, 4.0], [])]]
     for group in calls:
         step("hold", behind=HELD)
         for call, *arguments in group:
@@ -101,8 +126,10 @@ def main():
     if "--stdin" not in sys.argv:
         subprocess.run([ROOT / "tools" / "oracle", "vectors", "family_lists"], check=True)
         return
-    for dev in [NAN, INF, -INF, 0.0, -0.0, -1.0, 5e-324, 0.1, 0.7, 10.0, 1e308]:
+    for dev in DEVIANCES:
         aic(dev)
+    for dev in DEVIANCES:
+        gamma_aic(dev)
     written()
     refused()
     empty()

@@ -124,7 +124,7 @@ def good(word, places={}, lengths={}, **sizes):
 
 
 def laplace():
-    """Number 0: every family with every link that is carried; of the last two the dispersion doesn't settle."""
+    """Number 0: every family with every link that is carried; of the three that are called so the dispersion doesn't settle. A Gamma response of 0 gives an infinite deviance."""
     groups("log", "poisson", "log", 1, 24)
     groups("identity", "poisson", "identity", 0, 32, offset=36)
     groups("sqrt", "poisson", "sqrt", 1, 24, offset=36)
@@ -135,6 +135,11 @@ def laplace():
     groups("inverse", "gaussian", "inverse", 1, 44)
     groups("unsettled", "gaussian", "identity", 1, 25)
     groups("unsettled log", "gaussian", "log", 1, 22)
+    groups("Gamma", "gamma", "inverse", 1, 44)
+    groups("Gamma identity", "gamma", "identity", 1, 44)
+    groups("Gamma log", "gamma", "log", 1, 44, 32, 36)
+    groups("unsettled Gamma", "gamma", "identity", 1, 32)
+    groups("Gamma of 0", "gamma", "inverse", 1, 24)
 
 
 def quadrature():
@@ -143,6 +148,7 @@ def quadrature():
     groups("order 3", "poisson", "log", 2, 24)
     groups("order 11", "binomial", "logit", 31, 28, 32, 36)
     groups("order 5", "gaussian", "identity", 4, 40, 32, 36)
+    groups("Gamma order 3", "gamma", "log", 2, 44)
     effects("effects 7", "log", 7, [(1, 2)], 48, 1, 5)
     effects("effects 11", "sqrt", 12, [(1, 2)], 48, 1, 5)
     effects("pairs", "log", 3, [(2, 2)], 48, 1, 5)
@@ -186,7 +192,7 @@ def refusals():
     groups("logit", "poisson", "logit", 3, 24)
     groups("sqrt", "gaussian", "sqrt", 3, 40)
     groups("probit", "binomial", "probit", 3, 28)
-    groups("Gamma", "gamma", "log", 3, 44)
+    groups("Gamma sqrt", "gamma", "sqrt", 3, 44)
 
 
 def noted(declined, number, cause):

@@ -18,7 +18,7 @@ from form import job_bytes
 PLAIN = {"limit": 5}  # of a small job that would be fitted
 SHARES = {"scalar": 4, "product": 4, "joint": 4, "strong": 2, "weights": 3, "thetas": 3, "stored_zeros": 2, "dispersion": 4, "halved": 2, "far": 2, "least": 2, "singular": 1,
           "in_vain": 2, "pivots": 2, "coupled": 2, "later_group": 1, "second_block": 1, "out_of_range": 2, "extremes": 2, "no_residual": 2, "refused": 4, "middle": 1, "wide": 1,
-          "full_joint": 1}
+          "full_joint": 1, "gamma": 16}
 
 
 def job_refusals():
@@ -48,8 +48,8 @@ def table_refusals():
     yield {**fair, "family": "gamma", "link": "sqrt"}  # 4
     yield {**fair, "y": [inf], "link": "cloglog"}  # 3 before 4
     yield {**fair, "link": "probit"}  # 4 before 5
-    yield {**fair, "family": "gamma", "link": "inverse", "theta": [inf]}  # 3 before 5
-    yield {**fair, "family": "gamma", "link": "inverse"}  # 5
+    yield {**fair, "family": "binomial", "link": "probit", "theta": [inf]}  # 3 before 5
+    yield {**fair, "family": "gamma", "link": "probit"}  # 4 before 5
     yield {**fair, "family": "binomial", "link": "probit", "y": [1]}  # 5
 
 

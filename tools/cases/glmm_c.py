@@ -10,6 +10,7 @@ import struct, sys
 sys.dont_write_bytecode = True
 from rule import answer
 from elementary import exp, exp_m1, ln, ln_1p, sqrt, text
+from log_gamma import ln_gamma
 import fit
 from form import job_bytes
 from reader import Refused, check_table, parse
@@ -104,6 +105,7 @@ def fits():
     run("log", job())
     run("logit", job(family="binomial", link="logit", n_agq=3, y=[0.25, 0.5, 0.0, 1.0], weights=[4.0, 2.0, 3.0, 1.0], offset=[0.1, 0.2, -0.3, 0.0]))
     run("Gaussian", job(family="gaussian", link="identity", n_agq=5, y=[1.5, -0.25, 3.0, 0.75], weights=[4.0, 2.0, 3.0, 1.0]))
+    run("Gamma", job(family="gamma", link="log", n_agq=3, y=[1.5, 0.25, 3.0, 0.75], weights=[4.0, 2.0, 3.0, 1.0]))
     run("unsettled", job(family="gaussian", link="identity", y=[3.0, 0.0, 5.0, 0.25]))
     run("two blocks", job(n_agq=3, blocks=[{"m": 2, "k": 1}, {"m": 1, "k": 1}], theta=[0.75, 0.5], zt=[[[0, 1.0], [2, 1.0]], [[1, 1.0], [3, 1.0]], [[0, 1.0], [1, 0.5], [3, 1.0]]]))
     run("two effects", job(n_agq=7, blocks=[{"m": 1, "k": 2}], theta=[0.5, 0.25, 0.4], x=[[1.0]] * 4, zt=[[[i, 1.0] for i in range(4)], [[0, 0.3], [1, -0.7], [2, 1.1], [3, 0.2]]]))
@@ -132,7 +134,7 @@ def refusals():
     run("NaN", job(y=[1.0, NAN, 0.0, 5.0]))
     run("sqrt", job(family="binomial", link="sqrt"))
     run("probit", job(family="binomial", link="probit"))
-    run("Gamma", job(family="gamma"))
+    run("Gamma sqrt", job(family="gamma", link="sqrt"))
 
 
 def lengths():
@@ -165,7 +167,7 @@ def first():
         few_n, few_p, few_q, wanted = 1 <= n <= 512, 1 <= p <= 16, 1 <= q <= 32, asked(n, p, q)
         print("lengths", few_n * wanted["rows"], (few_p and few_q) * wanted["matrices"], wanted["terms"], (few_n and few_p and few_q) * wanted["results"])
     for x in NUMBERS:
-        print("at", *map(text, (x, sqrt(x), exp(x), ln(x), ln_1p(x), exp_m1(x))))
+        print("at", *map(text, (x, sqrt(x), exp(x), ln(x), ln_1p(x), exp_m1(x), ln_gamma(x))))
 
 
 first()

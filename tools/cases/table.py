@@ -51,7 +51,7 @@ def numbers(c):
     return all(math.isfinite(x) for k in ["theta", "y", "weights", "offset", "x", "values"] for x in c[k])
 
 
-TABLE = [(1, sizes), (2, lengths), (7, work), (6, sparse), (3, numbers), (4, lambda c: c["link"] in VALID[c["family"]]), (5, lambda c: c["family"] != "gamma" and c["link"] != "probit")]
+TABLE = [(1, sizes), (2, lengths), (7, work), (6, sparse), (3, numbers), (4, lambda c: c["link"] in VALID[c["family"]]), (5, lambda c: c["link"] != "probit")]
 
 
 def laid(size, lists):

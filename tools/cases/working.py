@@ -59,6 +59,8 @@ rows(POISSON, LOG, 1.0, WEIGHTS)
 rows(GAUSSIAN, IDENTITY, 0.37, WEIGHTS)
 rows(GAUSSIAN, INVERSE, 1e-20, [1.0] * 12)
 rows(POISSON, SQRT, -2.5, WEIGHTS)
+rows(GAMMA, INVERSE, 0.37, WEIGHTS)
+rows(GAMMA, LOG, 1.0, [1.0] * 12)
 
 
 def plus(offset, xs):
@@ -84,18 +86,21 @@ with_offset([0.1, -0.2, 1.0, 1e16, -0.7])
 with_offset([])
 
 
-def deviances(family, weights):
-    y, mu = [0.0, 1.0, 0.3, 0.9], [0.4, 0.6, 0.3, 1.5]
+def deviances(family, y, weights):
+    mu = [0.4, 0.6, 0.3, 1.5]
     devs = [deviance(family, *a) for a in zip(y, mu, weights or [1.0] * 4)]
     show("deviances", 9.0, *mu, 9.0, *devs, 9.0)
     dev = total(devs)
-    aic = gaussian_aic(weights or [1.0] * 4, dev) if family == GAUSSIAN else dev
-    show("fit", dev, aic - 2.0 if family == GAUSSIAN else dev)
+    show("fit", dev, aic(family, y, mu, weights or [1.0] * 4, dev) - 2.0 if uses_dispersion(family) else dev)
 
 
 for family in (BINOMIAL, POISSON, GAUSSIAN):
     show("means", *[start_mean(family, y) for y in [0.0, 1.0, 0.3, -0.0, 1e16]], 9.0)
-    deviances(family, [])
-    deviances(family, [1.0, 0.3, 0.0, -2.0])
+    deviances(family, [0.0, 1.0, 0.3, 0.9], [])
+    deviances(family, [0.0, 1.0, 0.3, 0.9], [1.0, 0.3, 0.0, -2.0])
+show("means", *[start_mean(GAMMA, y) for y in [0.0, 1.0, 0.3, -0.0, 1e16]], 9.0)
+deviances(GAMMA, [0.0, 1.0, 0.3, 0.9], [])
+deviances(GAMMA, [0.7, 1.0, 0.3, 0.9], [])
+deviances(GAMMA, [0.7, 1.0, 0.3, 0.9], [1.0, 0.3, 0.0, 2.0])
 
 show("pivots", *[total(ln(abs(d)) for d in ds) for ds in ([0.3, -7.1, 1e-300], [2.0, -0.0, 3.0], [])])

@@ -1,6 +1,6 @@
 """Classes of jobs with their answers. A class is a title and a name, or a title with a row and a column. `classes_of` gives those of one job; CLAIMED has every
 class that a comparison must have met, IMPOSSIBLE those that no job can be in, with the reason; `missing` and `surprises` hold what was met to both."""
-import math
+import math, struct
 from form import FAMILIES, LINKS
 from kinds import PAIRS
 from reader import CARRIED, VALID, parse
@@ -112,7 +112,8 @@ WHYS = [f"why {why}" for why in range(7)]
 PARTS = {"eta": "refused for eta", "mean": "refused for a mean", "pwrss": "refused for PWRSS", "ok": "accepted"}
 FLAGS = ["flag 0, Laplace", "flag 0, quadrature", "flag 1, Laplace", "flag 1, quadrature"]
 DRESSES = ["no weights, no offset", "weights, no offset", "no weights, offset", "weights, offset"]
-WAYS = ["steps halved", "a weight not above 0", "deviance NaN", "deviance infinite"]
+GAMMA = ["a Gamma response not above 0", "a Gamma response above 0 and below E", "a Gamma mean not above 0", "Gamma weights that sum to less than 1", "a Gamma phi near E"]
+WAYS = ["steps halved", "a weight not above 0", "deviance NaN", "deviance infinite", *GAMMA]
 
 
 def rule_of(job):
@@ -157,7 +158,14 @@ def on_the_way(job, said, deviance):
         yield "deviance NaN" if deviance[3:].strip("0") else "deviance infinite"
 
 
-def fitted(job, data, said, deviance):
+def gamma_ways(job, lines):
+    """Of a fitted Gamma job what its floors change: those at E of responses, of means and of the dispersion, by the lines that were printed, and that of the weights' sum at 1."""
+    (phi,), means = ([struct.unpack(">d", bytes.fromhex(line.split()[2]))[0] for line in lines if line.startswith(name)] for name in ("phi ", "mu "))
+    tests = [min(job.y) <= 0.0, any(0.0 < y < 2.0**-52 for y in job.y), min(means) <= 0.0, job.weights and 0.0 < sum(job.weights) < 1.0, phi < 2.0**-51]
+    return [name for name, test in zip(GAMMA, tests) if test]
+
+
+def fitted(job, data, said, lines):
     pair = name_of((job.family, job.link))
     kind, detail = integration(job, said)
     yield "quadrature", (pair, kind)
@@ -167,7 +175,8 @@ def fitted(job, data, said, deviance):
     yield "lists", (pair, ("weights" if job.weights else "no weights") + (", offset" if job.offset else ", no offset"))
     for name in largest(job, data, said["order"]):
         yield "largest", (pair, name)
-    for name in on_the_way(job, said, deviance):
+    ways = [*on_the_way(job, said, lines[0].split()[-1]), *(gamma_ways(job, lines) if FAMILIES[job.family] == "gamma" else [])]
+    for name in ways:
         yield "on the way", name
 
 
@@ -191,7 +200,7 @@ def classes_of(data, text):
     if said["end"] != 0:
         yield "inner fits", (f"end {said['end']}", "in the first" if said["fits"] == 1 else "in a later one")
     else:
-        yield from fitted(job, data, said, text.split("\n")[1].split()[-1])
+        yield from fitted(job, data, said, text.split("\n")[1:])
 
 
 # ---- what must have been met, and what cannot be

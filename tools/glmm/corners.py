@@ -2,7 +2,7 @@
 observations and 16 columns, and none has more than 6,233 entries of Z'."""
 import random
 from form import job_bytes
-from kinds import PAIRS, between, description, positive_weights, small_offset
+from kinds import FREE, PAIRS, between, description, positive_weights, small_offset
 
 LONGEST = 65536
 CORNERS = {  # observations, columns of X, blocks, whether there are weights and an offset, wish
@@ -30,7 +30,7 @@ def filled(r, about, room):
 
 def corner(name, pair):
     n, p, blocks, dressed, wish = CORNERS[name]
-    n = 40 if name in ("product", "joint") and pair[0] == "gaussian" else n  # some two hundred inner fits, each with all points
+    n = 40 if name in ("product", "joint") and pair[0] in FREE else n  # some two hundred inner fits, each with all points
     r = random.Random(f"{name}/{'/'.join(pair)}")
     about = description(r, pair, n, p, blocks)
     about["y"], about["zt"] = [steady(r, pair) for _ in range(n)], [[] for _ in about["zt"]]

@@ -129,7 +129,7 @@ def faulty_lists(about):
 
 def two_of_the_table(name, about):
     """Two faults of the table at once, of 6, 3, 4 and 5: which is first?"""
-    pairs = {"4": ("binomial", "sqrt"), "5": ("binomial", "probit"), "5-gamma": ("gamma", "log"), "4-5": ("poisson", "probit"), "4-5-gamma": ("gamma", "logit")}
+    pairs = {"4": ("binomial", "sqrt"), "5": ("binomial", "probit"), "gamma": ("gamma", "log"), "4-5": ("poisson", "probit"), "4-5-gamma": ("gamma", "probit")}
     column = {**about, "zt": [[[len(about["y"]), about["zt"][0][0][1]], *about["zt"][0][1:]], *about["zt"][1:]]}
     for pair, (family, link) in pairs.items():
         named = {"family": family, "link": link}

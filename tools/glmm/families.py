@@ -1,14 +1,15 @@
 """Links and families of the reference, element by element, with Rust's `max` and `clamp` in document 01's words. exp, ln, ln_1p, exp_m1 and the square
-root are those of tools/cases/elementary.py: the algorithms of docs/ELEMENTARY.md in Python's own doubles."""
+root are those of tools/cases/elementary.py, ln_gamma that of tools/cases/log_gamma.py: the algorithms of docs/ELEMENTARY.md in Python's own doubles."""
 import math, sys
 from pathlib import Path
 
 sys.path.append(str(Path(__file__).resolve().parents[1] / "cases"))
 from elementary import exp, exp_m1, ln, ln_1p, sqrt
+from log_gamma import ln_gamma
 
 E = 2.0**-52
 INF, NAN = math.inf, math.nan
-BINOMIAL, POISSON, GAUSSIAN = 0, 1, 2
+BINOMIAL, POISSON, GAUSSIAN, GAMMA = 0, 1, 2, 3
 LOGIT, CLOGLOG, LOG, IDENTITY, INVERSE, SQRT = 0, 2, 3, 4, 5, 6
 
 
@@ -72,6 +73,8 @@ def mu_eta(link, e):
 def start_mean(family, y):
     if family == BINOMIAL:
         return (y + 0.5) / 2.0
+    if family == GAMMA:
+        return larger(y, E)
     return y + 0.1 if family == POISSON else y
 
 
@@ -79,6 +82,8 @@ def variance(family, m):
     if family == BINOMIAL:
         m = inside(m)
         return m * (1.0 - m)
+    if family == GAMMA:
+        return larger(m, E) * larger(m, E)
     return larger(m, E) if family == POISSON else 1.0
 
 
@@ -103,10 +108,22 @@ def poisson_deviance(y, m, w):
     return 2.0 * w * d
 
 
+def gamma_deviance(y, m, w):
+    """Of a NaN response that of E: it is not at or below 0, and `max` drops it."""
+    if y <= 0.0:
+        return NAN
+    y, m = larger(y, E), larger(m, E)
+    return 2.0 * w * (-ln(over(y, m)) + over(y - m, m))
+
+
 def deviance(family, y, m, w):
     if family == GAUSSIAN:
         return w * ((y - m) * (y - m))
-    return (binomial_deviance if family == BINOMIAL else poisson_deviance)(y, m, w)
+    return {BINOMIAL: binomial_deviance, POISSON: poisson_deviance, GAMMA: gamma_deviance}[family](y, m, w)
+
+
+def uses_dispersion(family):
+    return family in (GAUSSIAN, GAMMA)
 
 
 def gaussian_aic(weights, total):
@@ -118,3 +135,29 @@ def gaussian_aic(weights, total):
         if w > 0.0:
             logs += ln(w)
     return n * (ln(2.0 * math.pi * total / n) + 1.0) + 2.0 - logs
+
+
+def ln_dgamma(y, shape, scale):
+    if not (y > 0.0 and shape > 0.0 and scale > 0.0):
+        return -INF
+    return -ln_gamma(shape) - shape * ln(scale) + (shape - 1.0) * ln(y) - over(y, scale)
+
+
+def gamma_aic(y, mu, weights, total):
+    """-2 times the weighted sum of log densities with shape 1 / d and scale mu d, plus 2; d is the deviance over the sum of weights."""
+    n = 0.0
+    for w in weights:
+        n += w
+    if n <= 0.0 or not math.isfinite(total) or total <= 0.0:
+        return INF
+    dispersion = larger(over(total, n), E)
+    shape, logs = over(1.0, dispersion), 0.0
+    for one, m, w in zip(y, mu, weights):
+        logs += w * ln_dgamma(one, shape, larger(m, E) * dispersion)
+    return -2.0 * logs + 2.0
+
+
+def aic(family, y, mu, weights, total):
+    if family == GAUSSIAN:
+        return gaussian_aic(weights, total)
+    return gamma_aic(y, mu, weights, total) if family == GAMMA else total

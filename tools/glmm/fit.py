@@ -1,7 +1,7 @@
 """The whole call as document 01 has it: the inner fit, the Laplace deviance, quadrature, the dispersion loop, the counts. Written from document 01 and
 document 000 alone, in plain loops over lists, as a second reading beside the Rust oracle and the Rattle code."""
 import math
-from families import E, GAUSSIAN, INVERSE, deviance, exp, gaussian_aic, larger, link_fun, link_inv, ln, mu_eta, over, sqrt, start_mean, variance
+from families import E, INVERSE, aic, deviance, exp, larger, link_fun, link_inv, ln, mu_eta, over, sqrt, start_mean, uses_dispersion, variance
 from linear import Ended, cholesky, dot, forward, backward, ldl, ldl_inverse, ldl_solve, lower_inverse, total
 from rules import DIAGONAL, SPREAD, SUM, Declined, joint_order, log_sum_exp, product_order, rule
 
@@ -44,8 +44,9 @@ class Problem:
         """b = Λu."""
         return [total(v * u[c] for c, v in row) for row in self.rows]
 
-    def fit_term(self, deviance_sum):
-        return gaussian_aic(self.weights, deviance_sum) - 2.0 if self.job.family == GAUSSIAN else deviance_sum
+    def fit_term(self, mu, deviance_sum):
+        family = self.job.family
+        return aic(family, self.job.y, mu, self.weights, deviance_sum) - 2.0 if uses_dispersion(family) else deviance_sum
 
 
 def lambda_rows(job):
@@ -153,7 +154,7 @@ class Mode:
         self.step, self.eta, self.mu, self.iterations = step, eta, mu, iterations
         self.deviances = problem.deviances(mu)
         self.deviance_sum = total(self.deviances)
-        self.fit_term = problem.fit_term(self.deviance_sum)
+        self.fit_term = problem.fit_term(mu, self.deviance_sum)
         logs = total(ln(abs(d)) for d in step.factor[1])
         self.deviance = self.fit_term + logs + dot(step.u, step.u)
         self.order, self.why = 1, 0
@@ -285,7 +286,7 @@ def inner_fit(problem, account, phi):
 
 def fit(problem, account):
     """The mode, phi, and whether the dispersion loop converged."""
-    if problem.job.family != GAUSSIAN:
+    if not uses_dispersion(problem.job.family):
         return inner_fit(problem, account, 1.0), 1.0, 1
     effective, phi = larger(total(problem.weights), 1.0), 1.0
     for _ in range(240):

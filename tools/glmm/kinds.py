@@ -3,9 +3,12 @@ the C library enters, so a seed gives the same jobs everywhere."""
 import random
 from form import job_bytes
 
-PAIRS = [("binomial", "logit"), ("binomial", "cloglog"), ("poisson", "log"), ("poisson", "identity"), ("poisson", "sqrt"), ("gaussian", "identity"),
-         ("gaussian", "log"), ("gaussian", "inverse")]
-CHEAP = PAIRS[:5] * 4 + PAIRS[5:]  # for large jobs: few that run the dispersion loop
+BASE = [("binomial", "logit"), ("binomial", "cloglog"), ("poisson", "log"), ("poisson", "identity"), ("poisson", "sqrt"), ("gaussian", "identity"),
+        ("gaussian", "log"), ("gaussian", "inverse")]
+GAMMA = [("gamma", "inverse"), ("gamma", "identity"), ("gamma", "log")]
+PAIRS = BASE + GAMMA
+FREE = ("gaussian", "gamma")  # the families with a free dispersion
+CHEAP = BASE[:5] * 4 + BASE[5:]  # for large jobs: few that run the dispersion loop
 STEEP = [("gaussian", "log"), ("gaussian", "inverse"), ("poisson", "log"), ("poisson", "sqrt"), ("poisson", "identity"), ("binomial", "cloglog")]
 
 
@@ -69,6 +72,8 @@ def response(r, family, link):
         return r.randint(0, size) / size
     if family == "poisson":
         return float(r.randint(0, 2) + r.randint(0, 6) * (r.random() < 0.5))
+    if family == "gamma":
+        return between(r, 0.2, 1.5) * between(r, 0.5, 2.0) * r.choice([1.0, 1.0, 3.0])
     if link == "identity":
         return bell(r)
     return between(r, 0.5, 3.0)
@@ -103,13 +108,13 @@ def dressed(r, about):
 def plain(r):
     """Every family and link, small."""
     n = r.randint(2, 14)
-    return dressed(r, description(r, r.choice(PAIRS), n, r.randint(1, max(1, min(3, n // 3))), some_blocks(r, 6), r.choice([0.0, 0.0, 0.3])))
+    return dressed(r, description(r, r.choice(BASE), n, r.randint(1, max(1, min(3, n // 3))), some_blocks(r, 6), r.choice([0.0, 0.0, 0.3])))
 
 
 def middle(r):
     """20 to 80 observations."""
     n = r.randint(20, 80)
-    return dressed(r, description(r, r.choice(PAIRS), n, r.randint(1, 5), some_blocks(r, 16), r.choice([0.0, 0.3])))
+    return dressed(r, description(r, r.choice(BASE), n, r.randint(1, 5), some_blocks(r, 16), r.choice([0.0, 0.3])))
 
 
 def large(r):
@@ -145,12 +150,12 @@ def exact(r):
 def least(r):
     """One observation, with 1 or 32 effects."""
     blocks = r.choice([[{"m": 1, "k": 1}], [{"m": 32, "k": 1}], [{"m": 4, "k": 8}], [{"m": 16, "k": 2}], [{"m": 4, "k": 1}] * 8])
-    return dressed(r, description(r, r.choice(PAIRS), 1, 1, blocks, 0.5))
+    return dressed(r, description(r, r.choice(BASE), 1, 1, blocks, 0.5))
 
 
 def scalar(r):
     """Quadrature of one block with one effect."""
-    about = description(r, r.choice(PAIRS), r.randint(4, 20), r.randint(1, 2), [{"m": r.randint(1, 8), "k": 1}], r.choice([0.0, 0.0, 0.4]))
+    about = description(r, r.choice(BASE), r.randint(4, 20), r.randint(1, 2), [{"m": r.randint(1, 8), "k": 1}], r.choice([0.0, 0.0, 0.4]))
     about = dressed(r, about)
     about["n_agq"] = r.choice([2, 3, 4, 5, 7, 8, 9, 10, 11, 12, 31])
     return about
@@ -159,7 +164,7 @@ def scalar(r):
 def product(r):
     """Quadrature of one block with several effects; none from six effects on."""
     k = r.choice([2, 2, 2, 3, 3, 4, 5, 6, 8])
-    about = description(r, r.choice(PAIRS), r.randint(5, 12), r.randint(1, 2), [{"m": r.randint(1, 3), "k": k}], r.choice([0.0, 0.3]))
+    about = description(r, r.choice(BASE), r.randint(5, 12), r.randint(1, 2), [{"m": r.randint(1, 3), "k": k}], r.choice([0.0, 0.3]))
     about = dressed(r, about)
     about["n_agq"] = r.randint(2, 12)
     return about
@@ -167,7 +172,7 @@ def product(r):
 
 def joint(r):
     """Quadrature over several blocks; none from nine effects on."""
-    about = description(r, r.choice(PAIRS), r.randint(4, 10), r.randint(1, 2), some_blocks(r, r.choice([3, 4, 4, 5, 6, 8, 10]), 2, 2), r.choice([0.0, 0.3]))
+    about = description(r, r.choice(BASE), r.randint(4, 10), r.randint(1, 2), some_blocks(r, r.choice([3, 4, 4, 5, 6, 8, 10]), 2, 2), r.choice([0.0, 0.3]))
     about = dressed(r, about)
     about["n_agq"] = r.randint(2, 12)
     return about
@@ -175,7 +180,7 @@ def joint(r):
 
 def strong(r):
     """Large effects u: few groups that lie far apart, theta below 1. Here a sum of squares tells its order."""
-    about = description(r, r.choice(PAIRS[2:6]), r.randint(5, 9), 1, r.choice([[{"m": 2, "k": 1}, {"m": 1, "k": 2}], [{"m": 3, "k": 1}, {"m": 2, "k": 1}], [{"m": 2, "k": 2}]]), 0.2)
+    about = description(r, r.choice(BASE[2:6]), r.randint(5, 9), 1, r.choice([[{"m": 2, "k": 1}, {"m": 1, "k": 2}], [{"m": 3, "k": 1}, {"m": 2, "k": 1}], [{"m": 2, "k": 2}]]), 0.2)
     low = r.choice(about["zt"])
     for i, _ in low:
         about["y"][i] += float(r.randint(30, 300))
@@ -185,7 +190,7 @@ def strong(r):
 
 def full_joint(r):
     """Eight effects in two blocks: 6,561 points."""
-    about = description(r, r.choice(PAIRS[:5]), r.randint(3, 5), 1, [{"m": 3, "k": 2}, {"m": 2, "k": 1}])
+    about = description(r, r.choice(BASE[:5]), r.randint(3, 5), 1, [{"m": 3, "k": 2}, {"m": 2, "k": 1}])
     return {**about, "n_agq": 11}
 
 
@@ -224,7 +229,7 @@ def dispersion(r):
     """Gaussian with effects that take up nearly all residuals: slow rounds, some to the last."""
     n = r.randint(3, 9)
     blocks = [{"m": r.randint(max(1, n - 4), n), "k": 1}]
-    about = description(r, r.choice(PAIRS[5:]), n, 1, blocks)
+    about = description(r, r.choice(BASE[5:]), n, 1, blocks)
     if r.random() < 0.5:
         about["zt"] = [[[i, 1.0] for i in range(n) if i % blocks[0]["m"] == g] for g in range(blocks[0]["m"])]
     about["theta"] = [r.choice([between(r, 0.1, 1.0), between(r, 0.5, 2.0), between(r, 2.0, 20.0)])]
@@ -327,7 +332,7 @@ def apart(about):
 def coupled(r):
     """Large effects on the same observations: an inverse that cannot be factored, so that the quadrature declines."""
     blocks = r.choice([[{"m": 1, "k": 2}], [{"m": 1, "k": 3}], [{"m": 2, "k": 2}], [{"m": 1, "k": 1}, {"m": 1, "k": 1}], [{"m": 1, "k": 2}, {"m": 1, "k": 1}]])
-    about = description(r, r.choice(PAIRS), r.randint(3, 6), 1, blocks)
+    about = description(r, r.choice(BASE), r.randint(3, 6), 1, blocks)
     size = r.choice([2e7, 3e7, 5e7, 1e8, 2e8])
     n = len(about["y"])
     about["zt"] = [[[i, 1.0 + (r.choice([0.0, 1e-8, 1e-7]) * r.random())] for i in range(n) if r.random() < 0.8] for _ in about["zt"]]
@@ -337,7 +342,7 @@ def coupled(r):
 
 def later_group(r):
     """The first group is sound, the second is too large: a quadrature that declines with points counted."""
-    about = description(r, r.choice(PAIRS[:5]), 7, 1, [{"m": 2, "k": 2}])
+    about = description(r, r.choice(BASE[:5]), 7, 1, [{"m": 2, "k": 2}])
     size = r.choice([1e7, 3e7, 1e8])
     about["zt"] = [[[0, 1.0], [1, 1.0], [2, 1.0]], [[0, 0.5], [1, -0.5], [2, between(r, -1.0, 1.0)]],
                    [[i, size * (1.0 + r.choice([0.0, 1e-8]))] for i in (3, 4, 5)], [[i, size * (1.0 + r.choice([0.0, 1e-8]))] for i in (3, 4, 5)]]
@@ -400,6 +405,21 @@ def extremes(r):
     return about
 
 
+def gamma(r):
+    """Gamma in a job of another kind, with responses of its own or the kind's; some with weights that sum to less than 1, or with nearly equal responses."""
+    own = r.choice([plain, plain, middle, scalar, product, joint, weights, thetas, stored_zeros, limits, dispersion, dispersion, least, singular, pivots, coupled, later_group, weightless])
+    kind = r.choice([own, own, own, r.choice([out_of_range, extremes, far, halved, reaching, in_vain, no_residual])])
+    about = kind(r)
+    about["family"], about["link"] = r.choice(GAMMA)
+    if kind is own:
+        about["y"] = [response(r, *GAMMA[0]) for _ in about["y"]]
+    if r.random() < 0.1:
+        about["weights"] = [between(r, 0.1, 0.9) / len(about["y"]) for _ in about["y"]]
+    elif r.random() < 0.05:
+        about["y"], about["theta"] = [1.5 + r.randint(0, 3) * 2.0**r.choice([-28, -32]) for _ in about["y"]], [0.0 for _ in about["theta"]]
+    return about
+
+
 def refused(r):
     """One fault of the table: 1, 6, 3, 4 or 5; or two of them."""
     about = plain(r)
@@ -436,11 +456,11 @@ def bad_pair(r, about):
 
 
 def not_carried(r, about):
-    about["family"], about["link"] = r.choice([("binomial", "probit"), ("gamma", "inverse"), ("gamma", "identity"), ("gamma", "log")])
+    about["family"], about["link"] = "binomial", "probit"
 
 
 KINDS = {plain: 24, middle: 6, scalar: 8, product: 8, joint: 6, strong: 4, weights: 5, thetas: 5, stored_zeros: 5, limits: 3, dispersion: 6, halved: 4, overshot: 1, far: 3, least: 3, wide: 2,
-         singular: 2, in_vain: 1, squares: 1, pivots: 3, coupled: 4, later_group: 1, second_block: 1, weightless: 1, reaching: 1, out_of_range: 3, extremes: 3, no_residual: 1, refused: 3, large: 1, full_joint: 1}
+         singular: 2, in_vain: 1, squares: 1, pivots: 3, coupled: 4, later_group: 1, second_block: 1, weightless: 1, reaching: 1, out_of_range: 3, extremes: 3, no_residual: 1, refused: 3, large: 1, full_joint: 1, gamma: 30}
 
 
 def points(about, wish):
@@ -454,7 +474,7 @@ def points(about, wish):
 def spared(about):
     """The job, its wish lowered where some two hundred rounds of the dispersion loop would each take many points."""
     wish = about.get("n_agq", 1)
-    if about["family"] != "gaussian" or wish < 2 or points(about, wish) <= 60:
+    if about["family"] not in FREE or wish < 2 or points(about, wish) <= 60:
         return about
     return {**about, "n_agq": 3 if points(about, 3) <= 60 else 1}
 

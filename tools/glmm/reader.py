@@ -2,8 +2,8 @@
 import math, struct
 
 LONGEST = 65536
-CARRIED = {(0, 0), (0, 2), (1, 3), (1, 4), (1, 6), (2, 4), (2, 3), (2, 5)}  # family and link of a call that can be fitted
-VALID = CARRIED | {(0, 1), (3, 5), (3, 4), (3, 3)}
+CARRIED = {(0, 0), (0, 2), (1, 3), (1, 4), (1, 6), (2, 4), (2, 3), (2, 5), (3, 5), (3, 4), (3, 3)}  # family and link of a call that can be fitted
+VALID = CARRIED | {(0, 1)}
 
 
 class Refused(Exception):

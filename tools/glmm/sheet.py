@@ -1,8 +1,8 @@
 """The text that a job is made from: a head of lines 'name: words', then a table with a line of column names and a row for each response.
 
     # weak cells of a lot             a line that starts with # says nothing
-    family: binomial                  binomial, poisson or gaussian
-    link: logit                       binomial: logit, cloglog; poisson: log, identity, sqrt; gaussian: identity, log, inverse
+    family: binomial                  binomial, poisson, gaussian or gamma
+    link: logit                       binomial: logit, cloglog; poisson: log, identity, sqrt; gaussian: identity, log, inverse; gamma: inverse, identity, log
     response: weak / cells            a column; or a count and its total: their quotient, with the total as weight
     weights: sure                     a column; left out: absent (or the total)
     offset: log area                  a column, or the natural logarithm of one; left out: absent
@@ -240,10 +240,8 @@ class Sheet:
 
     def pair(self):
         (at, family), (below, link) = self.head["family"], self.head["link"]
-        if family == "gamma":
-            raise Fault(f"line {at}: gamma is not carried yet; binomial, poisson and gaussian are")
         if family not in FAMILIES:
-            raise Fault(f"line {at}: no family '{short(family)}'; binomial, poisson and gaussian are carried")
+            raise Fault(f"line {at}: no family '{short(family)}'; binomial, poisson, gaussian and gamma are carried")
         if link not in LINKS:
             raise Fault(f"line {below}: no link '{short(link)}'; the links are {', '.join(LINKS)}")
         pair = FAMILIES.index(family), LINKS.index(link)
@@ -335,6 +333,8 @@ class Sheet:
                 raise Fault(f"line {line}: a binomial response is 0, 1 or a proportion between, not {value:g}; a count is written 'response: count / total'")
             if family == "poisson" and value < 0:
                 raise Fault(f"line {line}: a Poisson response is a count, not {value:g}")
+            if family == "gamma" and value <= 0:
+                raise Fault(f"line {line}: a Gamma response is above 0, not {value:g}")
         self.about["y"] = y
 
     def offset(self):

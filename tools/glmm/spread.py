@@ -19,7 +19,7 @@ def slope(link, mu, eta):
 
 
 def variance(family, mu):
-    return max({"binomial": mu * (1 - mu), "poisson": mu, "gaussian": 1}[family], LEAST)
+    return max({"binomial": mu * (1 - mu), "poisson": mu, "gaussian": 1, "gamma": max(mu, LEAST) ** 2}[family], LEAST)
 
 
 def working_weights(job, lists):

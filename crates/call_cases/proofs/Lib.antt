@@ -7,3 +7,4 @@ pub mod OneEffect
 pub mod TwoEffects
 pub mod Joint
 pub mod NoStop
+pub mod GammaRounds

@@ -98,6 +98,30 @@ const MEANS: [u64; 10] = [
     0x7e37_e43c_8800_759c,
 ];
 
+// Responses of a Gamma density, and its shapes, at the ends of what the fit can ask and outside.
+const DENSITY_RESPONSES: [u64; 7] = [
+    0x7ff8_0000_0000_0000,
+    0x7ff0_0000_0000_0000,
+    0x0000_0000_0000_0000,
+    0xbff0_0000_0000_0000,
+    0x0000_0000_0000_0001,
+    0x3fd0_0000_0000_0000,
+    0x400c_0000_0000_0000,
+];
+
+// From where 1 over it overflows to 2^52.
+const SHAPES: [u64; 9] = [
+    0x7ff8_0000_0000_0000,
+    0x7ff0_0000_0000_0000,
+    0x0000_0000_0000_0000,
+    0xc000_0000_0000_0000,
+    0x0004_06de_80b2_596b,
+    0x3fd3_3333_3333_3333,
+    0x3ff0_0000_0000_0000,
+    0x401d_0000_0000_0000,
+    0x4330_0000_0000_0000,
+];
+
 fn fun_line(x: f64) {
     text::put_word(b"fun");
     text::put_double(x);
@@ -140,6 +164,7 @@ fn var_line(x: f64) {
     text::put_double(family::variance(CarriedFamily::Binomial, x));
     text::put_double(family::variance(CarriedFamily::Poisson, x));
     text::put_double(family::variance(CarriedFamily::Gaussian, x));
+    text::put_double(family::variance(CarriedFamily::Gamma, x));
     text::end_line();
 }
 
@@ -149,6 +174,7 @@ fn start_line(x: f64) {
     text::put_double(family::initialize_mu(CarriedFamily::Binomial, x));
     text::put_double(family::initialize_mu(CarriedFamily::Poisson, x));
     text::put_double(family::initialize_mu(CarriedFamily::Gaussian, x));
+    text::put_double(family::initialize_mu(CarriedFamily::Gamma, x));
     text::end_line();
 }
 
@@ -177,11 +203,12 @@ fn ordinary() {
     }
 }
 
-// The deviance of one response under the three families.
+// The deviance of one response under the four families.
 fn deviances(y: f64, mu: f64, wt: f64) {
     text::put_double(family::dev_resid(CarriedFamily::Binomial, y, mu, wt));
     text::put_double(family::dev_resid(CarriedFamily::Poisson, y, mu, wt));
     text::put_double(family::dev_resid(CarriedFamily::Gaussian, y, mu, wt));
+    text::put_double(family::dev_resid(CarriedFamily::Gamma, y, mu, wt));
 }
 
 fn dev_line(y: f64, mu: f64) {
@@ -212,6 +239,37 @@ fn responses() {
     }
 }
 
+// The logarithm of a Gamma density at seven scales: NaN, infinity, 0, -1, E², 0.3 and 2.5.
+fn density_line(y: f64, shape: f64) {
+    text::put_word(b"density");
+    text::put_double(y);
+    text::put_double(shape);
+    text::put_double(family::ln_dgamma(y, shape, 0.0 / 0.0));
+    text::put_double(family::ln_dgamma(y, shape, 1.0 / 0.0));
+    text::put_double(family::ln_dgamma(y, shape, 0.0));
+    text::put_double(family::ln_dgamma(y, shape, -1.0));
+    text::put_double(family::ln_dgamma(y, shape, base::EPSILON * base::EPSILON));
+    text::put_double(family::ln_dgamma(y, shape, 0.3));
+    text::put_double(family::ln_dgamma(y, shape, 2.5));
+    text::end_line();
+}
+
+fn with_each_shape(y: f64) {
+    let mut i = 0;
+    while i < 9 {
+        density_line(y, base::double(SHAPES[i]));
+        i += 1;
+    }
+}
+
+fn densities() {
+    let mut i = 0;
+    while i < 7 {
+        with_each_shape(base::double(DENSITY_RESPONSES[i]));
+        i += 1;
+    }
+}
+
 // Which links are valid for the family, and the code of its default.
 fn valid_line(family: Family) {
     text::put_word(b"valid");
@@ -235,12 +293,14 @@ fn put_link(link: Link) {
 
 fn put_family(family: Family) {
     match family::carried_family(family) {
-        family::FamilyCarried::Carried(_) => text::put_count(1),
-        family::FamilyCarried::NotYet => text::put_count(0),
+        CarriedFamily::Binomial => text::put_count(0),
+        CarriedFamily::Poisson => text::put_count(1),
+        CarriedFamily::Gaussian => text::put_count(2),
+        CarriedFamily::Gamma => text::put_count(3),
     }
 }
 
-// Seven links and four families: all but probit and Gamma.
+// Seven links, of which all but probit are carried, and four families by their codes.
 fn carried() {
     text::put_word(b"carried");
     put_link(Link::Logit);
@@ -259,6 +319,7 @@ fn carried() {
     text::put_test(family::uses_dispersion(CarriedFamily::Binomial));
     text::put_test(family::uses_dispersion(CarriedFamily::Poisson));
     text::put_test(family::uses_dispersion(CarriedFamily::Gaussian));
+    text::put_test(family::uses_dispersion(CarriedFamily::Gamma));
     text::end_line();
 }
 
@@ -266,6 +327,7 @@ fn main() {
     specials();
     ordinary();
     responses();
+    densities();
     valid_line(Family::Binomial);
     valid_line(Family::Poisson);
     valid_line(Family::Gaussian);

@@ -9,7 +9,8 @@ fn next_family() -> CarriedFamily {
     match fed::count() {
         0 => CarriedFamily::Binomial,
         1 => CarriedFamily::Poisson,
-        _ => CarriedFamily::Gaussian,
+        2 => CarriedFamily::Gaussian,
+        _ => CarriedFamily::Gamma,
     }
 }
 

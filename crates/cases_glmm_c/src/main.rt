@@ -46,6 +46,7 @@ fn put_values(x: f64) {
     text::put_double(glmm_c::glmm_ln(x));
     text::put_double(glmm_c::glmm_ln_1p(x));
     text::put_double(glmm_c::glmm_exp_m1(x));
+    text::put_double(glmm_c::glmm_ln_gamma(x));
     text::end_line();
 }
 

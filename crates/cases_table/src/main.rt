@@ -11,6 +11,7 @@ fn family_code(family: CarriedFamily) -> u64 {
         CarriedFamily::Binomial => 0,
         CarriedFamily::Poisson => 1,
         CarriedFamily::Gaussian => 2,
+        CarriedFamily::Gamma => 3,
     }
 }
 

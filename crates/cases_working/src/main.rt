@@ -80,6 +80,8 @@ fn all_working_rows() {
     );
     working_rows(CarriedFamily::Gaussian, CarriedLink::Inverse, 1e-20, &[]);
     working_rows(CarriedFamily::Poisson, CarriedLink::Sqrt, -2.5, &weights);
+    working_rows(CarriedFamily::Gamma, CarriedLink::Inverse, 0.37, &weights);
+    working_rows(CarriedFamily::Gamma, CarriedLink::Log, 1.0, &[]);
 }
 
 // X of five rows and two columns; out holds Zb.
@@ -157,9 +159,9 @@ fn start_means(family: CarriedFamily) {
     text::put_list(b"means", &out, 6);
 }
 
-// The means stand from 1 on, the deviances from 6 on; then their sum and the fit term.
-fn deviances(family: CarriedFamily, weights: &[f64]) {
-    let y = [0.0, 1.0, 0.3, 0.9];
+// Of four responses, the first of them named. The means stand from 1 on, the deviances from 6 on; then their sum and the fit term.
+fn deviances(family: CarriedFamily, first: f64, weights: &[f64]) {
+    let y = [first, 1.0, 0.3, 0.9];
     let mut rows = [9.0, 0.4, 0.6, 0.3, 1.5, 9.0, 9.0, 9.0, 9.0, 9.0, 9.0];
     working::mode_deviances(family, &y, weights, 4, 1, 6, &mut rows);
     text::put_list(b"deviances", &rows, 11);
@@ -172,8 +174,16 @@ fn deviances(family: CarriedFamily, weights: &[f64]) {
 
 fn by_family(family: CarriedFamily) {
     start_means(family);
-    deviances(family, &[]);
-    deviances(family, &[1.0, 0.3, 0.0, -2.0]);
+    deviances(family, 0.0, &[]);
+    deviances(family, 0.0, &[1.0, 0.3, 0.0, -2.0]);
+}
+
+// A response of 0, for which the fit term is infinite; then responses that have a density.
+fn gamma() {
+    start_means(CarriedFamily::Gamma);
+    deviances(CarriedFamily::Gamma, 0.0, &[]);
+    deviances(CarriedFamily::Gamma, 0.7, &[]);
+    deviances(CarriedFamily::Gamma, 0.7, &[1.0, 0.3, 0.0, 2.0]);
 }
 
 // Factors of three rows: pivots of both signs, and one that is zero.
@@ -195,5 +205,6 @@ fn main() {
     by_family(CarriedFamily::Binomial);
     by_family(CarriedFamily::Poisson);
     by_family(CarriedFamily::Gaussian);
+    gamma();
     log_pivots();
 }

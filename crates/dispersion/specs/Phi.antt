@@ -4,11 +4,10 @@ use mathlib.Core.Bool.{Bool, not, _||_, cond}
 use Prim.Native.Nat.{ℕ}
 use lib.Ieee.{Float, lt, le}
 use Rattle.base.specs.Number.{_⊕_, _⊖_, _⊗_, _⊘_, bits, zeroF, oneF, epsF, finite, absF, maxF}
-use Rattle.base.specs.Sum.{sumTo}
 use Rattle.elementary.specs.Exp.{expOf}
 use Rattle.elementary.specs.Log.{lnOf}
 use Rattle.family.specs.Family.{tenthF}
-use Rattle.family_lists.specs.Lists.{weightAt}
+use Rattle.family_lists.specs.Lists.{weightSum}
 use Rattle.rule.specs.Constant.{tolF}
 use Rattle.dispersion.specs.declared.round.Round.{Round}
 use Rattle.dispersion.specs.declared.round.Round.the-variants.{Settled, Next}
@@ -19,7 +18,7 @@ nineTenthsF = bits 0x3fec_cccc_cccc_cccd
 
 -- max (sum of the weights, 1)
 unfoldable pub effectiveN : ℕ → List Float → Float
-effectiveN n weights = maxF (sumTo n (weightAt weights)) oneF
+effectiveN n weights = maxF (weightSum n weights) oneF
 
 -- not finite, or not above zero
 unfoldable pub unusable : Float → Bool

@@ -5,7 +5,7 @@ use base::is_finite;
 use base::max;
 use elementary::exp;
 use elementary::ln;
-use family_lists::weight_at;
+use family_lists::weight_sum;
 ghost use mathlib.Core.Path.{_≡_};
 ghost use Rattle.dispersion.specs.Phi.{effectiveN, unusable, close, mixed, estimateOf};
 
@@ -13,13 +13,7 @@ ghost use Rattle.dispersion.specs.Phi.{effectiveN, unusable, close, mixe
 pub fn effective_n(weights: &[f64], n: usize) -> f64
     ensures { λ r. ⌜ r ≡ effectiveN n (now (weights .entry)) ⌝ }
 {
-    let mut sum = 0.0;
-    let mut i = 0;
-    while i < n {
-        sum = sum + weight_at(weights, i);
-        i += 1;
-    }
-    max(sum, 1.0)
+    max(weight_sum(weights, n), 1.0)
 }
 
 // Neither a deviance sum nor a phi can be used unless it is finite and above zero.

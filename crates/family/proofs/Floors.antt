@@ -1,14 +1,18 @@
 -- The floors: which derivatives and variances are kept off zero, and which are not. Document 01, module 3. Assumes nothing.
 use mathlib.Core.Path.{_≡_, refl, sym, ap}
-use mathlib.Core.Bool.{true, false}
-use lib.Ieee.{Float, nan, inf, neg, add, sub, mul, lt, eq, le, isNan, ofBits}
+use mathlib.Core.Bool.{Bool, true, false}
+use lib.Dec.{T}
+use lib.Ieee.{Float, nan, inf, fin, binary64, neg, add, sub, mul, lt, eq, le, isNan, ofBits}
+use lib.Ieee.Bits.{is-true}
+use lib.Ieee.Positive.{positive, above-of-le, mul-mono}
 use Rattle.base.specs.Number.{_⊖_, _⊗_, bits, zeroF, oneF, epsF, maxF, clampF}
 use Rattle.elementary.specs.Exp.{expOf}
 use Rattle.elementary.proofs.ExpFacts.{exp-nan, exp-minus-inf, exp-never-below-zero}
 use Rattle.family.specs.Link.{clampE, muEta}
-use Rattle.family.specs.Family.{varianceOf}
+use Rattle.family.specs.Family.{varianceOf, initializeMu}
 use Rattle.family.specs.declared.carried.CarriedLink.the-variants.{Logit, Cloglog, Log, Inverse, Sqrt}
-use Rattle.family.specs.declared.carried.CarriedFamily.the-variants.{Binomial, Poisson}
+use Rattle.family.specs.declared.carried.CarriedFamily.the-variants.{Binomial, Poisson, Gamma}
+use Rattle.base.proofs.Doubles.{ff}
 use Rattle.base.proofs.Order.{max-from, le-turned, clamp-again}
 
 floor : (x : Float) → le epsF (maxF x epsF) ≡ true
@@ -69,3 +73,32 @@ binomial-variance-of-nan = refl
 pub binomial-variance-at-ends : (varianceOf Binomial zeroF ≡ bits 0x3caf_ffff_ffff_fffe) × (varianceOf Binomial oneF ≡ bits 0x3caf_ffff_ffff_fffe)
 unfolding varianceOf clampE clampF lt sub add mul neg ofBits
 binomial-variance-at-ends = (refl, refl)
+
+-- Gamma: at least E², 2 ^ -104, also of a NaN: a square grows with its number
+asked : (b : Bool) → b ≡ true → T b
+asked true h = tt
+asked false h = absurd (ff h)
+
+square-from : (m : Float) → le epsF m ≡ true → le (bits 0x3970_0000_0000_0000) (m ⊗ m) ≡ true
+unfolding le lt eq mul ofBits
+square-from nan h = absurd (ff h)
+square-from (inf true) h = absurd (ff h)
+square-from (inf false) h = refl
+square-from (fin s n e) h =
+    let m = fin s n e in
+    let l : T (le epsF m) = asked (le epsF m) h in
+    let p : T (positive m) = above-of-le epsF m tt l in
+    is-true _ (mul-mono binary64 epsF m epsF m tt p tt p l l)
+
+pub gamma-variance-from : (mu : Float) → le (bits 0x3970_0000_0000_0000) (varianceOf Gamma mu) ≡ true
+unfolding varianceOf
+gamma-variance-from mu = square-from (maxF mu epsF) (floor mu)
+
+pub gamma-variance-of-nan : varianceOf Gamma nan ≡ bits 0x3970_0000_0000_0000
+unfolding varianceOf maxF lt isNan mul ofBits
+gamma-variance-of-nan = refl
+
+-- ---- starts: Gamma's is at least E, also of a NaN
+pub gamma-start-from : (y : Float) → le epsF (initializeMu Gamma y) ≡ true
+unfolding initializeMu
+gamma-start-from y = floor y

@@ -1,11 +1,14 @@
--- R's table of links and families, each pair; the default links are valid; a carried link is found again by its link. Assumes nothing.
-use mathlib.Core.Path.{_≡_, refl}
+-- R's table of links and families, each pair; the default links are valid; a carried link is found again by its link, and only probit is not carried. Assumes nothing.
+use mathlib.Core.Path.{_≡_, refl, sym, ap}
 use mathlib.Core.Bool.{Bool, true, false}
 use mathlib.Core.List.{List, [], _∷_, map}
 use Rattle.model.specs.declared.names.Family.{Family}
 use Rattle.model.specs.declared.names.Family.the-variants.{Binomial, Poisson, Gaussian, Gamma}
+use Rattle.model.specs.declared.names.Link.{Link}
 use Rattle.model.specs.declared.names.Link.the-variants.{Logit, Probit, Cloglog, Log, Identity, Inverse, Sqrt}
 use Rattle.family.specs.Carried.{carriedLink, linkOf, linksFor, among, validFor, defaultFor}
+use Rattle.base.proofs.Doubles.{ff}
+use Rattle.family.specs.declared.carried.LinkCarried.{LinkCarried}
 use Rattle.family.specs.declared.carried.LinkCarried.the-variants as linkCarried
 use Rattle.family.specs.declared.carried.CarriedLink.{CarriedLink}
 use Rattle.family.specs.declared.carried.CarriedLink.the-variants as link
@@ -47,3 +50,24 @@ carried-link-of link.Log = refl
 carried-link-of link.Identity = refl
 carried-link-of link.Inverse = refl
 carried-link-of link.Sqrt = refl
+
+-- ---- a link that is not carried is probit, and goes with binomial alone
+abbrev isCarried : LinkCarried → Bool
+isCarried (linkCarried.Carried l) = true
+isCarried linkCarried.NotYet = false
+
+pub only-probit : (l : Link) → carriedLink l ≡ linkCarried.NotYet → l ≡ Probit
+only-probit Probit e = refl
+only-probit Logit e = absurd (ff (sym (ap isCarried e)))
+only-probit Cloglog e = absurd (ff (sym (ap isCarried e)))
+only-probit Log e = absurd (ff (sym (ap isCarried e)))
+only-probit Identity e = absurd (ff (sym (ap isCarried e)))
+only-probit Inverse e = absurd (ff (sym (ap isCarried e)))
+only-probit Sqrt e = absurd (ff (sym (ap isCarried e)))
+
+pub probit-for-binomial : (f : Family) → validFor Probit f ≡ true → f ≡ Binomial
+unfolding validFor among linksFor
+probit-for-binomial Binomial e = refl
+probit-for-binomial Poisson e = absurd (ff e)
+probit-for-binomial Gaussian e = absurd (ff e)
+probit-for-binomial Gamma e = absurd (ff e)

@@ -1,12 +1,16 @@
--- Values by computation: the sqrt link of -0.0, and the cases that document 01 has run. Assumes nothing.
+-- Values by computation: the sqrt link of -0.0, the cases that document 01 has run, and Gamma's. Assumes nothing.
 use mathlib.Core.Path.{_≡_, refl}
-use lib.Ieee.{neg, add, mul, div, lt, isNan, ofBits}
+use lib.Ieee.{nan, neg, add, sub, mul, div, lt, le, eq, isNan, ofBits, toBits, ofInt}
 use Rattle.base.specs.Number.{bits, zeroF, oneF, twoF, epsF, maxF}
 use Rattle.root.specs.Sqrt.{sqrtOf}
+use Rattle.tabulated.specs.LogTable.{logTable, logRow}
+use Rattle.elementary.specs.LogPoly.{nearPoly, nearSum, nearOf, lnSum}
+use Rattle.elementary.specs.Log.{nearOne, lnNear, lnRow, lnMain, lnFar, lnOf}
+use Rattle.log_gamma.proofs.LogGammaFacts.{at-two}
 use Rattle.family.specs.Link.{linkFun, muEta}
-use Rattle.family.specs.Family.{initializeMu}
+use Rattle.family.specs.Family.{gammaTerm, devResid, initializeMu, hasDensity, lnDgamma}
 use Rattle.family.specs.declared.carried.CarriedLink.the-variants.{Inverse, Sqrt}
-use Rattle.family.specs.declared.carried.CarriedFamily.the-variants.{Binomial}
+use Rattle.family.specs.declared.carried.CarriedFamily.the-variants.{Binomial, Gamma}
 
 -- the sqrt link of -0.0 is +0.0
 pub sqrt-link-of-minus-zero : linkFun Sqrt (neg zeroF) ≡ zeroF
@@ -27,3 +31,29 @@ inverse-slope-at-two = refl
 pub sqrt-slope-at-minus-one : muEta Sqrt (neg oneF) ≡ epsF
 unfolding muEta maxF lt isNan neg mul ofBits
 sqrt-slope-at-minus-one = refl
+
+-- ---- Gamma
+-- the start of a response 0, and of a NaN, is E
+pub gamma-start-of-zero : (initializeMu Gamma zeroF ≡ epsF) × (initializeMu Gamma nan ≡ epsF)
+unfolding initializeMu maxF lt isNan ofBits
+gamma-start-of-zero = (refl, refl)
+
+-- the deviance of 2 with mean 1 and weight 1 is 2 (1 - ln 2)
+pub gamma-deviance-of-two : devResid Gamma twoF oneF oneF ≡ bits 0x3fe3_a37a_020b_8c22
+unfolding devResid gammaTerm maxF lnOf lnFar lnMain lnRow lnNear nearOne lnSum nearOf nearSum nearPoly logTable logRow neg add sub mul div lt le eq isNan ofBits toBits ofInt
+gamma-deviance-of-two = refl
+
+-- that of a NaN is a number, 70.0873..: it counts as E
+pub gamma-deviance-of-nan : devResid Gamma nan oneF oneF ≡ bits 0x4051_8596_6f2b_4f12
+unfolding devResid gammaTerm maxF lnOf lnFar lnMain lnRow lnNear nearOne lnSum nearOf nearSum nearPoly logTable logRow neg add sub mul div lt le eq isNan ofBits toBits ofInt
+gamma-deviance-of-nan = refl
+
+-- of two NaNs it is 0
+pub gamma-deviance-of-nans : devResid Gamma nan nan oneF ≡ zeroF
+unfolding devResid gammaTerm maxF lnOf lnNear nearOne neg add sub mul div lt le eq isNan ofBits
+gamma-deviance-of-nans = refl
+
+-- the log density at 2 with shape 2 and scale 1 is ln 2 - 2
+pub gamma-density-of-two : lnDgamma twoF twoF oneF ≡ bits 0xbff4_e8de_8082_e308
+unfolding lnDgamma hasDensity lnOf lnFar lnMain lnRow lnNear nearOne lnSum nearOf nearSum nearPoly logTable logRow neg add sub mul div lt le eq ofBits toBits ofInt
+gamma-density-of-two = rw at-two

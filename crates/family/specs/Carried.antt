@@ -1,4 +1,4 @@
--- What of the links and families is carried, each family's default link, and which pairs are valid. Document 01, "What the port carries"; `Link` of family.rs. Assumes nothing.
+-- What of the links and families is carried, each family's default link, and which pairs are valid. Document 01, "What the port carries", as amended by document 02, P2; `Link` of family.rs. Assumes nothing.
 use mathlib.Core.Bool.{Bool, false, _||_}
 use mathlib.Core.List.{List, [], _∷_}
 use Prim.Native.Nat.{ℕ}
@@ -10,10 +10,9 @@ use Rattle.model.specs.declared.names.Link.{Link}
 use Rattle.model.specs.declared.names.Link.the-variants.{Logit, Probit, Cloglog, Log, Identity, Inverse, Sqrt}
 use Rattle.family.specs.declared.carried.LinkCarried.{LinkCarried}
 use Rattle.family.specs.declared.carried.LinkCarried.the-variants as linkCarried
-use Rattle.family.specs.declared.carried.FamilyCarried.{FamilyCarried}
-use Rattle.family.specs.declared.carried.FamilyCarried.the-variants as familyCarried
 use Rattle.family.specs.declared.carried.CarriedLink.{CarriedLink}
 use Rattle.family.specs.declared.carried.CarriedLink.the-variants as link
+use Rattle.family.specs.declared.carried.CarriedFamily.{CarriedFamily}
 use Rattle.family.specs.declared.carried.CarriedFamily.the-variants as family
 
 -- every link but probit
@@ -35,12 +34,12 @@ linkOf link.Identity = Identity
 linkOf link.Inverse = Inverse
 linkOf link.Sqrt = Sqrt
 
--- every family but Gamma
-abbrev pub carriedFamily : Family → FamilyCarried
-carriedFamily Binomial = familyCarried.Carried family.Binomial
-carriedFamily Poisson = familyCarried.Carried family.Poisson
-carriedFamily Gaussian = familyCarried.Carried family.Gaussian
-carriedFamily Gamma = familyCarried.NotYet
+-- every family
+abbrev pub carriedFamily : Family → CarriedFamily
+carriedFamily Binomial = family.Binomial
+carriedFamily Poisson = family.Poisson
+carriedFamily Gaussian = family.Gaussian
+carriedFamily Gamma = family.Gamma
 
 -- `default_for`: the family's canonical link
 abbrev pub defaultFor : Family → Link

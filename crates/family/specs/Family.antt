@@ -1,18 +1,20 @@
--- The families that are carried: variance, deviance of one response, starting mean. Document 01, module 3; `GlmFamily` of family.rs. Assumes nothing.
+-- The families that are carried: variance, deviance of one response, starting mean, and the logarithm of Gamma's density. Document 01, module 3, and document 02, P2; `GlmFamily` and `ln_dgamma` of family.rs. Assumes nothing.
 use mathlib.Core.Bool.{Bool, true, false, _&&_, cond}
-use lib.Ieee.{Float, nan, lt, le, neg}
+use lib.Ieee.{Float, nan, inf, lt, le, neg}
 use Rattle.base.specs.Number.{_⊕_, _⊖_, _⊗_, _⊘_, bits, zeroF, oneF, halfF, twoF, epsF, maxF}
 use Rattle.base.specs.Sum.{addWhere}
 use Rattle.elementary.specs.Log.{lnOf}
+use Rattle.log_gamma.specs.LogGamma.{lnGammaOf}
 use Rattle.family.specs.Link.{clampE}
 use Rattle.family.specs.declared.carried.CarriedFamily.{CarriedFamily}
-use Rattle.family.specs.declared.carried.CarriedFamily.the-variants.{Binomial, Poisson, Gaussian}
+use Rattle.family.specs.declared.carried.CarriedFamily.the-variants.{Binomial, Poisson, Gaussian, Gamma}
 
 -- `variance`: that of a response with this mean, the dispersion aside
 unfoldable pub varianceOf : CarriedFamily → Float → Float
 varianceOf Binomial mu = let m = clampE mu in m ⊗ (oneF ⊖ m)
 varianceOf Poisson mu = maxF mu epsF
 varianceOf Gaussian mu = oneF
+varianceOf Gamma mu = let m = maxF mu epsF in m ⊗ m
 
 -- from +0.0, y ln (y / m) added where y > 0
 unfoldable pub successTerm : Float → Float → Float
@@ -26,15 +28,20 @@ binomialTerm y m = addWhere (lt y oneF) (successTerm y m) ((oneF ⊖ y) ⊗ lnOf
 unfoldable pub poissonTerm : Float → Float → Float
 poissonTerm y m = addWhere (lt zeroF y) (neg (y ⊖ m)) (y ⊗ lnOf (y ⊘ m))
 
+-- -ln (y / m) + (y - m) / m: the minus is the logarithm's
+unfoldable pub gammaTerm : Float → Float → Float
+gammaTerm y m = neg (lnOf (y ⊘ m)) ⊕ (y ⊖ m) ⊘ m
+
 -- `(0.0..=1.0).contains(&y)`
 unfoldable pub proportion : Float → Bool
 proportion y = le zeroF y && le y oneF
 
--- `dev_resid`: what a response y with mean mu and weight w adds to the deviance; NaN outside the family's range
+-- `dev_resid`: what a response y with mean mu and weight w adds to the deviance; NaN outside the family's range, but of a NaN response Gamma makes a number, as `max` drops it
 unfoldable pub devResid : CarriedFamily → Float → Float → Float → Float
 devResid Binomial y mu w = cond (proportion y) (twoF ⊗ w ⊗ binomialTerm y (clampE mu)) nan
 devResid Poisson y mu w = cond (lt y zeroF) nan (twoF ⊗ w ⊗ poissonTerm y (maxF mu epsF))
 devResid Gaussian y mu w = let d = y ⊖ mu in w ⊗ (d ⊗ d)
+devResid Gamma y mu w = cond (le y zeroF) nan (twoF ⊗ w ⊗ gammaTerm (maxF y epsF) (maxF mu epsF))
 
 -- 0.1
 abbrev pub tenthF : Float
@@ -45,9 +52,20 @@ unfoldable pub initializeMu : CarriedFamily → Float → Float
 initializeMu Binomial y = (y ⊕ halfF) ⊘ twoF
 initializeMu Poisson y = y ⊕ tenthF
 initializeMu Gaussian y = y
+initializeMu Gamma y = maxF y epsF
 
 -- `uses_dispersion`
 abbrev pub usesDispersion : CarriedFamily → Bool
 usesDispersion Binomial = false
 usesDispersion Poisson = false
 usesDispersion Gaussian = true
+usesDispersion Gamma = true
+
+-- a response, a shape and a scale above zero
+unfoldable pub hasDensity : Float → Float → Float → Bool
+hasDensity y shape scale = lt zeroF y && lt zeroF shape && lt zeroF scale
+
+-- `ln_dgamma`: the logarithm of Gamma's density at y, with a shape and a scale; -infinity unless all three are above zero
+unfoldable pub lnDgamma : Float → Float → Float → Float
+lnDgamma y shape scale =
+    cond (hasDensity y shape scale) (neg (lnGammaOf shape) ⊖ shape ⊗ lnOf scale ⊕ (shape ⊖ oneF) ⊗ lnOf y ⊖ y ⊘ scale) (inf true)

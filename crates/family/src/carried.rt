@@ -19,17 +19,12 @@ pub enum CarriedFamily {
     Binomial,
     Poisson,
     Gaussian,
+    Gamma,
 }
 
 // A link's formulas, or that they are still to come.
 pub enum LinkCarried {
     Carried(CarriedLink),
-    NotYet,
-}
-
-// A family's formulas, or that they are still to come.
-pub enum FamilyCarried {
-    Carried(CarriedFamily),
     NotYet,
 }
 
@@ -63,14 +58,14 @@ pub fn link_of(link: CarriedLink) -> Link
 }
 
 // The one way to a carried family.
-pub fn carried_family(family: Family) -> FamilyCarried
+pub fn carried_family(family: Family) -> CarriedFamily
     ensures { λ r. ⌜ r ≡ carriedFamily family ⌝ }
 {
     match family {
-        Family::Binomial => FamilyCarried::Carried(CarriedFamily::Binomial),
-        Family::Poisson => FamilyCarried::Carried(CarriedFamily::Poisson),
-        Family::Gaussian => FamilyCarried::Carried(CarriedFamily::Gaussian),
-        Family::Gamma => FamilyCarried::NotYet,
+        Family::Binomial => CarriedFamily::Binomial,
+        Family::Poisson => CarriedFamily::Poisson,
+        Family::Gaussian => CarriedFamily::Gaussian,
+        Family::Gamma => CarriedFamily::Gamma,
     }
 }
 

@@ -1,11 +1,13 @@
-// The families, for one number: variance, deviance, starting mean.
+// The families, for one number: variance, deviance, starting mean, and the logarithm of Gamma's density.
 use crate::carried::CarriedFamily;
 use crate::links::inside;
 use base::EPSILON;
+use base::infinity;
 use base::max;
 use elementary::ln;
+use log_gamma::ln_gamma;
 ghost use mathlib.Core.Path.{_≡_};
-ghost use Rattle.family.specs.Family.{varianceOf, successTerm, binomialTerm, poissonTerm, proportion, devResid, initializeMu, usesDispersion};
+ghost use Rattle.family.specs.Family.{varianceOf, successTerm, binomialTerm, poissonTerm, gammaTerm, proportion, devResid, initializeMu, usesDispersion, hasDensity, lnDgamma};
 
 // The variance of a response with mean mu, up to the dispersion.
 pub fn variance(family: CarriedFamily, mu: f64) -> f64
@@ -18,6 +20,10 @@ pub fn variance(family: CarriedFamily, mu: f64) -> f64
         }
         CarriedFamily::Poisson => max(mu, EPSILON),
         CarriedFamily::Gaussian => 1.0,
+        CarriedFamily::Gamma => {
+            let m = max(mu, EPSILON);
+            m * m
+        }
     }
 }
 
@@ -53,6 +59,13 @@ fn poisson_term(y: f64, m: f64) -> f64
     rest
 }
 
+// Half the deviance of a response y with mean m, both at least E.
+fn gamma_term(y: f64, m: f64) -> f64
+    ensures { λ r. ⌜ r ≡ gammaTerm y m ⌝ }
+{
+    -ln(y / m) + (y - m) / m
+}
+
 // From 0 to 1, which no NaN is.
 fn is_proportion(y: f64) -> bool
     ensures { λ r. ⌜ r ≡ proportion y ⌝ }
@@ -83,6 +96,16 @@ fn poisson_deviance(y: f64, mu: f64, wt: f64) -> f64
     2.0 * wt * poisson_term(y, max(mu, EPSILON))
 }
 
+// The deviance of a Gamma response; NaN of one that is 0 or below. A NaN passes the test, and its floor takes it for E.
+fn gamma_deviance(y: f64, mu: f64, wt: f64) -> f64
+    ensures { λ r. ⌜ r ≡ devResid CarriedFamily.Gamma y mu wt ⌝ }
+{
+    if y <= 0.0 {
+        return 0.0 / 0.0;
+    }
+    2.0 * wt * gamma_term(max(y, EPSILON), max(mu, EPSILON))
+}
+
 // What a response y with mean mu and weight wt adds to the deviance.
 pub fn dev_resid(family: CarriedFamily, y: f64, mu: f64, wt: f64) -> f64
     ensures { λ r. ⌜ r ≡ devResid family y mu wt ⌝ }
@@ -94,6 +117,7 @@ pub fn dev_resid(family: CarriedFamily, y: f64, mu: f64, wt: f64) -> f64
             let diff = y - mu;
             wt * (diff * diff)
         }
+        CarriedFamily::Gamma => gamma_deviance(y, mu, wt),
     }
 }
 
@@ -105,6 +129,7 @@ pub fn initialize_mu(family: CarriedFamily, y: f64) -> f64
         CarriedFamily::Binomial => (y + 0.5) / 2.0,
         CarriedFamily::Poisson => y + 0.1,
         CarriedFamily::Gaussian => y,
+        CarriedFamily::Gamma => max(y, EPSILON),
     }
 }
 
@@ -116,5 +141,29 @@ pub fn uses_dispersion(family: CarriedFamily) -> bool
         CarriedFamily::Binomial => false,
         CarriedFamily::Poisson => false,
         CarriedFamily::Gaussian => true,
+        CarriedFamily::Gamma => true,
     }
+}
+
+// Whether a response, a shape and a scale have a density: all three are above zero, which no NaN is.
+fn has_density(y: f64, shape: f64, scale: f64) -> bool
+    ensures { λ r. ⌜ r ≡ hasDensity y shape scale ⌝ }
+{
+    if 0.0 < y {
+        if 0.0 < shape {
+            return 0.0 < scale;
+        }
+        return false;
+    }
+    false
+}
+
+// The logarithm of Gamma's density at y.
+pub fn ln_dgamma(y: f64, shape: f64, scale: f64) -> f64
+    ensures { λ r. ⌜ r ≡ lnDgamma y shape scale ⌝ }
+{
+    if has_density(y, shape, scale) {
+        return -ln_gamma(shape) - shape * ln(scale) + (shape - 1.0) * ln(y) - y / scale;
+    }
+    -infinity()
 }

@@ -5,7 +5,6 @@ mod links;
 
 pub use carried::CarriedFamily;
 pub use carried::CarriedLink;
-pub use carried::FamilyCarried;
 pub use carried::LinkCarried;
 pub use carried::carried_family;
 pub use carried::carried_link;
@@ -14,6 +13,7 @@ pub use carried::link_of;
 pub use carried::valid_for;
 pub use families::dev_resid;
 pub use families::initialize_mu;
+pub use families::ln_dgamma;
 pub use families::uses_dispersion;
 pub use families::variance;
 pub use links::link_fun;

@@ -12,8 +12,7 @@ use Rattle.base.specs.Sum.{_!_}
 use Rattle.base.specs.List.{fillTo}
 use Rattle.base.proofs.Fills.{fill-step}
 use Rattle.base.proofs.Sums.{and-true}
-use Rattle.family_lists.specs.Aic.{lengthsAgree}
-use Rattle.family_lists.specs.Lists.{Listed, each}
+use Rattle.family_lists.specs.Lists.{Listed, each, lengthsAgree}
 use Rattle.family_lists.specs.declared.lists.ListAnswer.the-variants.{Written, LengthsDiffer}
 
 -- ---- one entry more

@@ -1,3 +1,3 @@
 -- The links and families over lists, and the AIC. Assumes nothing.
-pub mod Aic
 pub mod Lists
+pub mod Aic

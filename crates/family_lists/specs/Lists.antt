@@ -1,17 +1,16 @@
 -- The list functions: each entry of the output by the rule of one number. Document 01, module 3, and number 2 of "Numbers of an answer". Assumes nothing.
 use mathlib.Core.Path.{_≡_}
 use mathlib.Core.List.{List}
-use mathlib.Core.Bool.{Bool, _&&_, cond}
+use mathlib.Core.Bool.{Bool, _&&_, _||_, cond}
 use Prim.Native.Nat.{ℕ}
 use lib.Dec.{eqb}
 use lib.ListN.{length, getD}
 use lib.Ieee.{Float}
 use Rattle.base.specs.Number.{oneF}
-use Rattle.base.specs.Sum.{_!_}
+use Rattle.base.specs.Sum.{_!_, sumTo}
 use Rattle.base.specs.List.{fillTo}
 use Rattle.family.specs.Family.{devResid}
 use Rattle.family.specs.declared.carried.CarriedFamily.{CarriedFamily}
-use Rattle.family_lists.specs.Aic.{lengthsAgree}
 use Rattle.family_lists.specs.declared.lists.ListAnswer.{ListAnswer}
 use Rattle.family_lists.specs.declared.lists.ListAnswer.the-variants.{Written, LengthsDiffer}
 
@@ -36,6 +35,14 @@ ListedEach f xs before after r = Listed (eqb (length xs) (length before)) (lengt
 -- weight i; where the weights are absent it is 1
 abbrev pub weightAt : List Float → ℕ → Float
 weightAt w i = getD w i oneF
+
+-- the sum of the weights of n responses
+unfoldable pub weightSum : ℕ → List Float → Float
+weightSum n w = sumTo n (weightAt w)
+
+-- there are as many means as responses, and as many weights or none, where they are absent
+unfoldable pub lengthsAgree : ℕ → ℕ → ℕ → Bool
+lengthsAgree n mu w = eqb mu n && (eqb w 0 || eqb w n)
 
 -- the deviance of response i
 unfoldable pub devAt : CarriedFamily → List Float → List Float → List Float → ℕ → Float

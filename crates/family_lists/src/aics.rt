@@ -1,14 +1,21 @@
 // The families' AIC over lent lists.
+use crate::lists::lengths_agree;
+use crate::lists::weight_at;
+use crate::lists::weight_sum;
+use base::EPSILON;
 use base::infinity;
 use base::is_finite;
+use base::max;
 use elementary::ln;
 use family::CarriedFamily;
+use family::ln_dgamma;
 ghost use mathlib.Core.Path.{_≡_};
+ghost use lib.ListN.{length};
 ghost use lib.Ieee.{lt};
 ghost use Rattle.base.specs.Number.{zeroF};
-ghost use Rattle.base.specs.Sum.{addWhere};
+ghost use Rattle.base.specs.Sum.{_!_, sumTo, addWhere};
 ghost use Rattle.elementary.specs.Log.{lnOf};
-ghost use Rattle.family_lists.specs.Aic.{logWeights, gaussianTerm, gaussianAic, aicOf, lengthsAgree, aicAnswer};
+ghost use Rattle.family_lists.specs.Aic.{logWeights, gaussianTerm, gaussianAic, densityAt, gammaAic, aicOf, aicAnswer};
 
 const PI: f64 = 3.141592653589793;
 
@@ -65,7 +72,49 @@ fn gaussian_aic(n: usize, wt: &[f64], dev: f64) -> f64
     gaussian_term(n, wt, dev)
 }
 
-// The AIC of responses y with means mu and weights wt, whose deviances sum to dev. The means are for families to come.
+// Mean i, and NaN past the end of the means.
+fn mean_at(mu: &[f64], i: usize) -> f64
+    ensures { λ r. ⌜ r ≡ now (mu .entry) ! i ⌝ }
+{
+    if i < mu.len() {
+        return mu[i];
+    }
+    0.0 / 0.0
+}
+
+// The sum of the responses' log densities, each times its weight, where the dispersion is phi.
+fn densities(y: &[f64], mu: &[f64], wt: &[f64], phi: f64) -> f64
+    ensures { λ r. ⌜ r ≡ sumTo (length (now (y .entry))) (densityAt (now (y .entry)) (now (mu .entry)) (now (wt .entry)) phi) ⌝ }
+{
+    let shape = 1.0 / phi;
+    let mut sum = 0.0;
+    let mut i = 0;
+    while i < y.len() {
+        let scale = max(mean_at(mu, i), EPSILON) * phi;
+        sum = sum + weight_at(wt, i) * ln_dgamma(y[i], shape, scale);
+        i += 1;
+    }
+    sum
+}
+
+// The Gamma AIC of responses whose deviances sum to dev.
+fn gamma_aic(y: &[f64], mu: &[f64], wt: &[f64], dev: f64) -> f64
+    ensures { λ r. ⌜ r ≡ gammaAic (now (y .entry)) (now (mu .entry)) (now (wt .entry)) dev ⌝ }
+{
+    let n = weight_sum(wt, y.len());
+    if n <= 0.0 {
+        return infinity();
+    }
+    if !is_finite(dev) {
+        return infinity();
+    }
+    if dev <= 0.0 {
+        return infinity();
+    }
+    -2.0 * densities(y, mu, wt, max(dev / n, EPSILON)) + 2.0
+}
+
+// The AIC of responses y with means mu and weights wt, whose deviances sum to dev.
 pub fn aic_of(family: CarriedFamily, y: &[f64], mu: &[f64], wt: &[f64], dev: f64) -> f64
     ensures { λ r. ⌜ r ≡ aicOf family (now (y .entry)) (now (mu .entry)) (now (wt .entry)) dev ⌝ }
 {
@@ -73,20 +122,8 @@ pub fn aic_of(family: CarriedFamily, y: &[f64], mu: &[f64], wt: &[f64], dev: f64
         CarriedFamily::Binomial => dev,
         CarriedFamily::Poisson => dev,
         CarriedFamily::Gaussian => gaussian_aic(y.len(), wt, dev),
+        CarriedFamily::Gamma => gamma_aic(y, mu, wt, dev),
     }
-}
-
-// Whether there are as many means as the n responses, and as many weights or none.
-pub fn lengths_agree(n: usize, means: usize, weights: usize) -> bool
-    ensures { λ r. ⌜ r ≡ lengthsAgree n means weights ⌝ }
-{
-    if means != n {
-        return false;
-    }
-    if weights == 0 {
-        return true;
-    }
-    weights == n
 }
 
 // `aic_of`, for any lists.

@@ -1,5 +1,4 @@
 // The list functions: each entry of a lent output by the function of one number. Nothing is asked of the lists.
-use crate::aics::lengths_agree;
 use family::CarriedFamily;
 use family::CarriedLink;
 use family::dev_resid;
@@ -11,7 +10,7 @@ use family::variance;
 ghost use mathlib.Core.Path.{_≡_};
 ghost use Rattle.family.specs.Link.{linkFun, linkInv, muEta};
 ghost use Rattle.family.specs.Family.{varianceOf, initializeMu};
-ghost use Rattle.family_lists.specs.Lists.{listNumber, ListedEach, ListedDeviances, weightAt};
+ghost use Rattle.family_lists.specs.Lists.{listNumber, ListedEach, ListedDeviances, weightAt, weightSum, lengthsAgree};
 
 // What became of the output: written whole, or, as the lists differ in length, not touched.
 pub enum ListAnswer {
@@ -112,6 +111,32 @@ pub fn weight_at(wt: &[f64], i: usize) -> f64
         return wt[i];
     }
     1.0
+}
+
+// The sum of the weights of n responses.
+pub fn weight_sum(wt: &[f64], n: usize) -> f64
+    ensures { λ r. ⌜ r ≡ weightSum n (now (wt .entry)) ⌝ }
+{
+    let mut sum = 0.0;
+    let mut i = 0;
+    while i < n {
+        sum = sum + weight_at(wt, i);
+        i += 1;
+    }
+    sum
+}
+
+// Whether there are as many means as the n responses, and as many weights or none.
+pub fn lengths_agree(n: usize, means: usize, weights: usize) -> bool
+    ensures { λ r. ⌜ r ≡ lengthsAgree n means weights ⌝ }
+{
+    if means != n {
+        return false;
+    }
+    if weights == 0 {
+        return true;
+    }
+    weights == n
 }
 
 // The deviance of each response. The weights are as many as the responses, or absent: an empty list.

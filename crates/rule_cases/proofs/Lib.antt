@@ -15,3 +15,4 @@ pub mod NoIteration
 pub mod Halved
 pub mod RefusedEta
 pub mod RefusedSums
+pub mod GammaInverse

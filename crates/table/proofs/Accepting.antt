@@ -17,13 +17,11 @@ use Rattle.model.proofs.Tests.{both}
 use Rattle.family.specs.Carried.{carriedFamily, carriedLink, validFor}
 use Rattle.family.specs.declared.carried.CarriedFamily.{CarriedFamily}
 use Rattle.family.specs.declared.carried.CarriedLink.{CarriedLink}
-use Rattle.family.specs.declared.carried.FamilyCarried.{FamilyCarried}
-use Rattle.family.specs.declared.carried.FamilyCarried.the-variants as familyCarried
 use Rattle.family.specs.declared.carried.LinkCarried.{LinkCarried}
 use Rattle.family.specs.declared.carried.LinkCarried.the-variants as linkCarried
 use Rattle.table.specs.Tests.{goodInputs, goodResults, goodWork, goodNumbers}
 use Rattle.model.specs.Inputs.{Inputs}
-use Rattle.table.specs.Table.{refuseUnless, withLink, withFamily, carriedPair, tableOf}
+use Rattle.table.specs.Table.{refuseUnless, withLink, carriedPair, tableOf}
 use Rattle.table.specs.Facts.{Sound}
 use Rattle.table.specs.declared.verdicts.LentLengths.{LentLengths}
 use Rattle.table.specs.declared.verdicts.Verdict.{Verdict}
@@ -72,21 +70,13 @@ module _ (r : ℕ) (t : Settings) (s : Shape) (I : Inputs) (L : LentLengths) whe
 
 -- ---- the last line
 module _ (family : Family) (link : Link) where
-  pub no-family : carriedFamily family ≡ familyCarried.NotYet → carriedPair family link ≡ Refused NotCarried
-  unfolding carriedPair withFamily
-  no-family a = ap (λ (x : FamilyCarried). withFamily x (carriedLink link)) a
+  pub no-link : carriedLink link ≡ linkCarried.NotYet → carriedPair family link ≡ Refused NotCarried
+  unfolding carriedPair withLink
+  no-link b = ap (λ (x : LinkCarried). withLink (carriedFamily family) x) b
 
-  pub some-family : (f : CarriedFamily) → carriedFamily family ≡ familyCarried.Carried f → carriedPair family link ≡ withLink f (carriedLink link)
-  unfolding carriedPair withFamily
-  some-family f a = ap (λ (x : FamilyCarried). withFamily x (carriedLink link)) a
-
-  pub no-link : (f : CarriedFamily) → carriedFamily family ≡ familyCarried.Carried f → carriedLink link ≡ linkCarried.NotYet → carriedPair family link ≡ Refused NotCarried
-  unfolding withLink
-  no-link f a b = some-family f a ∙ ap (λ (x : LinkCarried). withLink f x) b
-
-  pub both-carried : (f : CarriedFamily) (l : CarriedLink) → carriedFamily family ≡ familyCarried.Carried f → carriedLink link ≡ linkCarried.Carried l → carriedPair family link ≡ Accepted f l
-  unfolding withLink
-  both-carried f l a b = some-family f a ∙ ap (λ (x : LinkCarried). withLink f x) b
+  pub both-carried : (f : CarriedFamily) (l : CarriedLink) → carriedFamily family ≡ f → carriedLink link ≡ linkCarried.Carried l → carriedPair family link ≡ Accepted f l
+  unfolding carriedPair withLink
+  both-carried f l a b = rw (b, a) refl
 
 -- ---- an accepted call passed every test
 -- a verdict accepts
@@ -110,11 +100,10 @@ unfolding refuseUnless
 passed true refusal rest f l e = (refl, e)
 passed false refusal rest f l e = absurd (ff (ap isAccepted e))
 
-pub last-line : (x : FamilyCarried) (y : LinkCarried) (f : CarriedFamily) (l : CarriedLink) → withFamily x y ≡ Accepted f l → (x ≡ familyCarried.Carried f) × (y ≡ linkCarried.Carried l)
-unfolding withFamily withLink
-last-line (familyCarried.Carried g) (linkCarried.Carried k) f l e = (ap (λ (x : Verdict). familyCarried.Carried (familyIn f x)) e, ap (λ (x : Verdict). linkCarried.Carried (linkIn l x)) e)
-last-line (familyCarried.Carried g) linkCarried.NotYet f l e = absurd (ff (ap isAccepted e))
-last-line familyCarried.NotYet y f l e = absurd (ff (ap isAccepted e))
+pub last-line : (g : CarriedFamily) (y : LinkCarried) (f : CarriedFamily) (l : CarriedLink) → withLink g y ≡ Accepted f l → (g ≡ f) × (y ≡ linkCarried.Carried l)
+unfolding withLink
+last-line g (linkCarried.Carried k) f l e = (ap (familyIn f) e, ap (λ (x : Verdict). linkCarried.Carried (linkIn l x)) e)
+last-line g linkCarried.NotYet f l e = absurd (ff (ap isAccepted e))
 
 pub accepted-sound : (r : ℕ) (t : Settings) (s : Shape) (I : Inputs) (L : LentLengths) (f : CarriedFamily) (l : CarriedLink) → tableOf r t s I L ≡ Accepted f l → Sound r t s I L f l
 unfolding tableOf carriedPair

@@ -1,4 +1,4 @@
--- Each refusal is given exactly when the table says, and a call is accepted exactly when every test is passed. Assumes nothing.
+-- Each refusal is given exactly when the table says, and a call is accepted exactly when every test is passed; number 5 means probit. Assumes nothing.
 use mathlib.Core.Path.{_≡_, refl, sym, ap, _∙_}
 use mathlib.Core.Logic.{_↔_, _⊎_, inl, inr, ⊎-elim}
 use mathlib.Core.Bool.{Bool, true, false, _&&_}
@@ -7,6 +7,8 @@ use Rattle.base.specs.Sparse.{goodRows}
 use Rattle.base.proofs.Doubles.{ff}
 use Rattle.model.specs.Inputs.{Inputs}
 use Rattle.model.specs.Settings.{goodSizes}
+use Rattle.model.specs.declared.names.Family.the-variants.{Binomial}
+use Rattle.model.specs.declared.names.Link.the-variants.{Probit}
 use Rattle.model.specs.declared.sizes.Shape.{Shape}
 use Rattle.model.specs.declared.sizes.Settings.{Settings}
 use Rattle.model.specs.declared.ends.Refusal.{Refusal}
@@ -14,17 +16,16 @@ use Rattle.model.specs.declared.ends.Refusal.the-variants.{OutOfRange, Lengths,
 use Rattle.family.specs.Carried.{carriedFamily, carriedLink, validFor}
 use Rattle.family.specs.declared.carried.CarriedFamily.{CarriedFamily}
 use Rattle.family.specs.declared.carried.CarriedLink.{CarriedLink}
-use Rattle.family.specs.declared.carried.FamilyCarried.{FamilyCarried}
-use Rattle.family.specs.declared.carried.FamilyCarried.the-variants as familyCarried
 use Rattle.family.specs.declared.carried.LinkCarried.{LinkCarried}
 use Rattle.family.specs.declared.carried.LinkCarried.the-variants as linkCarried
+use Rattle.family.proofs.ValidPairs.{only-probit, probit-for-binomial}
 use Rattle.table.specs.Tests.{goodInputs, goodResults, goodWork, goodNumbers}
-use Rattle.table.specs.Table.{refuseUnless, withLink, withFamily, carriedPair, tableOf}
+use Rattle.table.specs.Table.{refuseUnless, carriedPair, tableOf}
 use Rattle.table.specs.When.{PastLink, GivenWhen, AcceptedWhen, SomeAccepted}
 use Rattle.table.specs.declared.verdicts.LentLengths.{LentLengths}
 use Rattle.table.specs.declared.verdicts.Verdict.{Verdict}
 use Rattle.table.specs.declared.verdicts.Verdict.the-variants.{Accepted, Refused}
-use Rattle.table.proofs.Accepting.{isAccepted, both-carried, last-line}
+use Rattle.table.proofs.Accepting.{isAccepted, no-link, both-carried, last-line}
 
 -- the refusal of a refusing verdict, x of any other
 abbrev refusalIn : Refusal → Verdict → Refusal
@@ -42,25 +43,15 @@ module _ (r : ℕ) (t : Settings) (s : Shape) (I : Inputs) (L : LentLengths) whe
   unfolding tableOf refuseUnless
   past-all p = rw (p .0 .0 .0 .0 .0, p .0 .0 .0 .0 .1, p .0 .0 .0 .1, p .0 .0 .1, p .0 .1, p .1) refl
 
-  not-carried : (x : FamilyCarried) (y : LinkCarried) → (x ≡ familyCarried.NotYet) ⊎ (y ≡ linkCarried.NotYet) → withFamily x y ≡ Refused NotCarried
-  unfolding withFamily withLink
-  not-carried familyCarried.NotYet y c = refl
-  not-carried (familyCarried.Carried f) y (inr c) = rw c refl
-  not-carried (familyCarried.Carried f) y (inl c) = absurd (ff (sym (ap isCarried c)))
-    where
-      isCarried : FamilyCarried → Bool
-      isCarried (familyCarried.Carried f) = true
-      isCarried familyCarried.NotYet = false
-
   given : (x : Refusal) → GivenWhen r t s I L x → tableOf r t s I L ≡ Refused x
-  unfolding GivenWhen tableOf refuseUnless carriedPair
+  unfolding GivenWhen tableOf refuseUnless
   given OutOfRange a = rw a refl
   given Lengths a = rw (a .0, a .1) refl
   given Work a = rw (a .0 .0, a .0 .1, a .1) refl
   given SparseRows a = rw (a .0 .0 .0, a .0 .0 .1, a .0 .1, a .1) refl
   given NotFinite a = rw (a .0 .0 .0 .0, a .0 .0 .0 .1, a .0 .0 .1, a .0 .1, a .1) refl
   given LinkForFamily a = rw (a .0 .0 .0 .0 .0, a .0 .0 .0 .0 .1, a .0 .0 .0 .1, a .0 .0 .1, a .0 .1, a .1) refl
-  given NotCarried a = past-all (a .0) ∙ not-carried (carriedFamily (t .family)) (carriedLink (t .link)) (a .1)
+  given NotCarried a = past-all (a .0) ∙ no-link (t .family) (t .link) (a .1)
 
   accepted : (f : CarriedFamily) (l : CarriedLink) → AcceptedWhen r t s I L f l → tableOf r t s I L ≡ Accepted f l
   accepted f l a = past-all (a .0) ∙ both-carried (t .family) (t .link) f l (a .1 .0) (a .1 .1)
@@ -69,11 +60,10 @@ module _ (r : ℕ) (t : Settings) (s : Shape) (I : Inputs) (L : LentLengths) whe
   abbrev pub Decided : Type 0
   Decided = ((x : Refusal) × GivenWhen r t s I L x) ⊎ SomeAccepted r t s I L
 
-  carried : PastLink r t s I L → (x : FamilyCarried) → carriedFamily (t .family) ≡ x → (y : LinkCarried) → carriedLink (t .link) ≡ y → Decided
+  carried : PastLink r t s I L → (y : LinkCarried) → carriedLink (t .link) ≡ y → Decided
   unfolding GivenWhen
-  carried p (familyCarried.Carried f) a (linkCarried.Carried l) b = inr (f, l, (p, (a, b)))
-  carried p (familyCarried.Carried f) a linkCarried.NotYet b = inl (NotCarried, (p, inr b))
-  carried p familyCarried.NotYet a y b = inl (NotCarried, (p, inl a))
+  carried p (linkCarried.Carried l) b = inr (carriedFamily (t .family), l, (p, (refl, b)))
+  carried p linkCarried.NotYet b = inl (NotCarried, (p, b))
 
   pub decided : Decided
   unfolding GivenWhen
@@ -84,7 +74,7 @@ module _ (r : ℕ) (t : Settings) (s : Shape) (I : Inputs) (L : LentLengths) whe
       (λ c. by-said (goodRows (I .starts) (I .columns) (t .rows) (t .n))
       (λ d. by-said (goodNumbers I)
       (λ g. by-said (validFor (t .link) (t .family))
-      (λ h. carried (((((a, b), c), d), g), h) (carriedFamily (t .family)) refl (carriedLink (t .link)) refl)
+      (λ h. carried (((((a, b), c), d), g), h) (carriedLink (t .link)) refl)
       (λ x. inl (LinkForFamily, (((((a, b), c), d), g), x))))
       (λ x. inl (NotFinite, ((((a, b), c), d), x))))
       (λ x. inl (SparseRows, (((a, b), c), x))))
@@ -113,3 +103,11 @@ module _ (r : ℕ) (t : Settings) (s : Shape) (I : Inputs) (L : LentLengths) whe
         decided,
     accepted f l,
   )
+
+  -- ---- number 5: probit, with binomial
+  pub five-is-probit : tableOf r t s I L ≡ Refused NotCarried → (t .link ≡ Probit) × (t .family ≡ Binomial)
+  unfolding GivenWhen
+  five-is-probit e =
+      let w = refused-when NotCarried .0 e in
+      let q : t .link ≡ Probit = only-probit (t .link) (w .1) in
+      (q, probit-for-binomial (t .family) (rw q at (w .0 .1)))

@@ -19,7 +19,6 @@ use Rattle.layout.specs.WorkTerms.{termsLength}
 use Rattle.family.specs.Carried.{carriedFamily, carriedLink, validFor}
 use Rattle.family.specs.declared.carried.CarriedFamily.{CarriedFamily}
 use Rattle.family.specs.declared.carried.CarriedLink.{CarriedLink}
-use Rattle.family.specs.declared.carried.FamilyCarried.the-variants as familyCarried
 use Rattle.family.specs.declared.carried.LinkCarried.the-variants as linkCarried
 use Rattle.model.specs.Inputs.{Inputs}
 use Rattle.table.specs.declared.verdicts.LentLengths.{LentLengths}
@@ -85,5 +84,5 @@ pub record Sound (r : ℕ) (t : Settings) (s : Shape) (I : Inputs) (L : LentLeng
   pub rows : Rows (I .starts) (I .columns) (I .values) (t .rows) (t .n)
   pub numbers : NumbersFinite I
   pub valid : validFor (t .link) (t .family) ≡ true
-  pub family : carriedFamily (t .family) ≡ familyCarried.Carried f
+  pub family : carriedFamily (t .family) ≡ f
   pub link : carriedLink (t .link) ≡ linkCarried.Carried l

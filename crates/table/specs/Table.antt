@@ -1,4 +1,4 @@
--- The table of refusals, in its order: 1, 2, 7, 6, 3, 4, 5. Document 01, "Numbers of an answer". Assumes nothing.
+-- The table of refusals, in its order: 1, 2, 7, 6, 3, 4, 5. Document 01, "Numbers of an answer"; document 02, P2: 5 means probit only. Assumes nothing.
 use mathlib.Core.Bool.{Bool, true, false, _&&_}
 use Prim.Native.Nat.{ℕ}
 use Rattle.base.specs.Sparse.{goodRows}
@@ -11,8 +11,6 @@ use Rattle.model.specs.declared.ends.Refusal.{Refusal}
 use Rattle.model.specs.declared.ends.Refusal.the-variants.{OutOfRange, Lengths, Work, SparseRows, NotFinite, LinkForFamily, NotCarried}
 use Rattle.family.specs.Carried.{carriedFamily, carriedLink, validFor}
 use Rattle.family.specs.declared.carried.CarriedFamily.{CarriedFamily}
-use Rattle.family.specs.declared.carried.FamilyCarried.{FamilyCarried}
-use Rattle.family.specs.declared.carried.FamilyCarried.the-variants as familyCarried
 use Rattle.family.specs.declared.carried.LinkCarried.{LinkCarried}
 use Rattle.family.specs.declared.carried.LinkCarried.the-variants as linkCarried
 use Rattle.table.specs.Tests.{goodInputs, goodResults, goodWork, goodNumbers}
@@ -31,14 +29,9 @@ unfoldable pub withLink : CarriedFamily → LinkCarried → Verdict
 withLink f (linkCarried.Carried l) = Accepted f l
 withLink f linkCarried.NotYet = Refused NotCarried
 
--- by the family's formulas
-unfoldable pub withFamily : FamilyCarried → LinkCarried → Verdict
-withFamily (familyCarried.Carried f) link = withLink f link
-withFamily familyCarried.NotYet link = Refused NotCarried
-
--- the last line: a family and a link that are carried are accepted, Gamma and probit are not
+-- the last line: a link that is carried is accepted with its family, probit is not
 unfoldable pub carriedPair : Family → Link → Verdict
-carriedPair family link = withFamily (carriedFamily family) (carriedLink link)
+carriedPair family link = withLink (carriedFamily family) (carriedLink link)
 
 -- the table, for r responses on one design
 unfoldable pub tableOf : ℕ → Settings → Shape → Inputs → LentLengths → Verdict

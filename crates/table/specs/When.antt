@@ -1,6 +1,5 @@
 -- When each number of the table is given: its own test fails and every test before it is passed. Document 01, "Numbers of an answer". Assumes nothing.
 use mathlib.Core.Path.{_≡_}
-use mathlib.Core.Logic.{_⊎_}
 use mathlib.Core.Bool.{true, false, _&&_}
 use Prim.Native.Nat.{ℕ}
 use Rattle.base.specs.Sparse.{goodRows}
@@ -13,7 +12,6 @@ use Rattle.model.specs.declared.ends.Refusal.the-variants.{OutOfRange, Lengths,
 use Rattle.family.specs.Carried.{carriedFamily, carriedLink, validFor}
 use Rattle.family.specs.declared.carried.CarriedFamily.{CarriedFamily}
 use Rattle.family.specs.declared.carried.CarriedLink.{CarriedLink}
-use Rattle.family.specs.declared.carried.FamilyCarried.the-variants as familyCarried
 use Rattle.family.specs.declared.carried.LinkCarried.the-variants as linkCarried
 use Rattle.table.specs.Tests.{goodInputs, goodResults, goodWork, goodNumbers}
 use Rattle.table.specs.declared.verdicts.LentLengths.{LentLengths}
@@ -47,11 +45,11 @@ module _ (r : ℕ) (t : Settings) (s : Shape) (I : Inputs) (L : LentLengths) whe
   GivenWhen SparseRows = PastWork × (goodRows (I .starts) (I .columns) (t .rows) (t .n) ≡ false)
   GivenWhen NotFinite = PastRows × (goodNumbers I ≡ false)
   GivenWhen LinkForFamily = PastNumbers × (validFor (t .link) (t .family) ≡ false)
-  GivenWhen NotCarried = PastLink × ((carriedFamily (t .family) ≡ familyCarried.NotYet) ⊎ (carriedLink (t .link) ≡ linkCarried.NotYet))
+  GivenWhen NotCarried = PastLink × (carriedLink (t .link) ≡ linkCarried.NotYet)
 
   -- when a call is accepted with the formulas of f and l: every test is passed
   abbrev pub AcceptedWhen : CarriedFamily → CarriedLink → Type 0
-  AcceptedWhen f l = PastLink × ((carriedFamily (t .family) ≡ familyCarried.Carried f) × (carriedLink (t .link) ≡ linkCarried.Carried l))
+  AcceptedWhen f l = PastLink × ((carriedFamily (t .family) ≡ f) × (carriedLink (t .link) ≡ linkCarried.Carried l))
 
   -- when it is accepted
   abbrev pub SomeAccepted : Type 0

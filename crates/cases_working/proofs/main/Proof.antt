@@ -30,6 +30,9 @@ by-family-requires-2 c κs = search needs
 by-family-requires-3 : tie.Need-by-family-requires-3
 by-family-requires-3 c κs = search needs
 
+gamma-requires : tie.Need-gamma-requires
+gamma-requires c κs = search needs
+
 log-pivots-requires : tie.Need-log-pivots-requires
 log-pivots-requires c κs = search needs
 
@@ -48,5 +51,6 @@ main-spec =
     by-family-requires
     by-family-requires-2
     by-family-requires-3
+    gamma-requires
     log-pivots-requires
     returns)

@@ -19,6 +19,12 @@ poisson-deviance-requires c κs = search needs
 enum-told-3 : tie.Need-enum-told-3
 enum-told-3 c = search needs
 
+enum-told-4 : tie.Need-enum-told-4
+enum-told-4 c = search needs
+
+gamma-deviance-requires : tie.Need-gamma-deviance-requires
+gamma-deviance-requires c κs = search needs
+
 returns : tie.Need-returns
 unfolding devResid
 returns c = rw (c .binomial-deviance .ensures, c .before .enum-told .given .1)
@@ -31,6 +37,10 @@ returns-3 : tie.Need-returns-3
 unfolding devResid
 returns-3 c = rw (c .enum-told3 .given .1)
 
+returns-4 : tie.Need-returns-4
+unfolding devResid
+returns-4 c = rw (c .gamma-deviance .ensures, c .before .enum-told4 .given .1)
+
 pub dev-resid-spec : {M : Type 1} → statement M
 dev-resid-spec =
     tie.close
@@ -40,6 +50,9 @@ dev-resid-spec =
     enum-told-2
     poisson-deviance-requires
     enum-told-3
+    enum-told-4
+    gamma-deviance-requires
     returns
     returns-2
-    returns-3)
+    returns-3
+    returns-4)

@@ -1,8 +1,8 @@
 -- `family_lists::lengths_agree` meets its contract: its tests are those of the definition.
-use Rattle.family_lists.specs.Aic.{lengthsAgree}
+use Rattle.family_lists.specs.Lists.{lengthsAgree}
 use borrow.Author.Tests.{eq-eqb, ne-eqb}
-use Rattle.family_lists.proofs.aics.lengths_agree.Statement.{statement}
-use Rattle.family_lists.proofs.aics.lengths_agree.Tie as tie
+use Rattle.family_lists.proofs.lists.lengths_agree.Statement.{statement}
+use Rattle.family_lists.proofs.lists.lengths_agree.Tie as tie
 
 returns : tie.Need-returns
 unfolding lengthsAgree

@@ -1,0 +1,64 @@
+-- Gamma, inverse, weights that sum to 3/8: the dispersion loop stops after this inner fit, and the AIC's shape is near 3/8. Made by tools/cases/rule.py; the right side is the oracle's answer. Assumes nothing.
+use mathlib.Core.Path.{_≡_, refl}
+use mathlib.Core.List.{[], _∷_}
+use lib.Ieee.{add, sub, mul, div, neg, lt, le, eq, ne, isNan, ofBits, toBits, ofInt, toUnsigned, round}
+use Rattle.base.specs.Number.{bits}
+use Rattle.base.specs.InPlace.{ruled, fillBy, fillDown}
+use Rattle.base.specs.List.{build, matrix, fillTo, fillAt, gridTo}
+use Rattle.base.specs.Number.{finite, infinite, negative, absF, maxF, clampF}
+use Rattle.base.specs.Rows.{row}
+use Rattle.base.specs.Sparse.{notFalling, goodStarts, columnFits, goodColumns, goodRow, goodRows, storedIn, findTo, placeIn, stored, valueAt, rowSum, bothSum}
+use Rattle.base.specs.Sum.{sumTo, sumFrom, addWhere, sumWhere, allTo, anyTo}
+use Rattle.root.specs.Sqrt.{withDigit, nearestFrom, placeOf, rootOf, unitsOf, sqrtOf}
+use Rattle.tabulated.specs.ExpTable.{expTable, expRow}
+use Rattle.tabulated.specs.LogTable.{logTable, logRow}
+use Rattle.elementary.specs.Exp.{reduced, rowTail, scaleBits, excess, scaled, large, refitted, fitted, small, edge, ended, expMain, aboveZero, expFar, expOf}
+use Rattle.elementary.specs.Expm1.{quotientOf, restOf, scaledOf, upOf, downOf, grownOf, shrunkOf, grownBy, shrunkBy, risingOf, fallingOf, expm1Main, aboveMinusOne, expm1Of}
+use Rattle.elementary.specs.Log.{nearOne, lnNear, lnRow, lnMain, lnFar, lnOf}
+use Rattle.elementary.specs.Log1p.{tailOf, lostOf, splitOf, farOf, ln1pMain, ln1pOf}
+use Rattle.elementary.specs.LogPoly.{nearPoly, nearSum, nearOf, lnSum}
+use Rattle.elementary.specs.Parts.{wholeOf, powerOf, inversePowerOf}
+use Rattle.log_gamma.specs.LogGamma.{nextOf, belowTwo, productOf, loweredOf, belowEight, seriesOf, stirlingBy, stirlingOf, lnGammaOf}
+use Rattle.log_gamma.specs.Near.{aboutTwo, aboutLeast, aboutOne, belowThree}
+use Rattle.model.specs.Account.{_⊞_}
+use Rattle.model.specs.Answer.{refusedAnswer, unfittedAnswer, fittedAnswer}
+use Rattle.model.specs.Caps.{triesCap, pointsCap, innerCapOf}
+use Rattle.model.specs.Items.{countOf, tally}
+use Rattle.model.specs.Names.{familyCoded, linkCoded, limitOf}
+use Rattle.model.specs.Settings.{goodLimit, goodSizes}
+use Rattle.model.specs.Shape.{totalTo, blockEffects, blockThetas, goodBlock, goodShape}
+use Rattle.family.specs.Carried.{linksFor, among, validFor}
+use Rattle.family.specs.Family.{varianceOf, successTerm, binomialTerm, poissonTerm, gammaTerm, proportion, devResid, initializeMu, hasDensity, lnDgamma}
+use Rattle.family.specs.Link.{clampE, linkFun, logistic, linkInv, cloglogSlope, muEta}
+use Rattle.family_lists.specs.Aic.{logWeights, gaussianTerm, gaussianAic, densityAt, densityTerm, gammaAic, aicOf, aicAnswer}
+use Rattle.family_lists.specs.Lists.{each, weightSum, lengthsAgree, devAt}
+use Rattle.factor.specs.Factor.{ldlTerm, ldlSum, ldlPivot, ldlBelow, ldlRule, ldlOf, ldlPasses, ldlEnd, choleskyPivot, choleskyBelow, choleskyRule, choleskyOf, choleskyPasses, choleskyEnd}
+use Rattle.factor.specs.Inverse.{unitAt, unitColumn, ldlColumn, ldlInverseAt, ldlColumnAt, ldlInverse, choleskyColumn, choleskyColumnAt, choleskyInverse, vAt}
+use Rattle.factor.specs.Substitution.{acrossTerm, downTerm, unitForwardRule, unitBackwardRule, overDRule, forwardRule, backwardRule, unitForward, overD, unitBackward, forward, backward, ldlSolve, choleskySolve}
+use Rattle.factor.specs.Transpose.{turnedAt, swapped, rowTurned, squareTurned}
+use Rattle.factor.specs.Triangle.{rowsDot, triangle, rowBy, usable, positive, andThen, firstBad, reach}
+use Rattle.lambda.specs.Column.{blockOf, columnStart, columnIn, columnOf, isEntry, lambdaAt, lambdaFull}
+use Rattle.lambda.specs.Product.{acrossRow, downColumn, timesTerm, lambdaTimesAt, transposedTerm, lambdaTransposedAt, rightTerm, rightAt, leftTerm, systemAt, columnAddedAt}
+use Rattle.linear.specs.Product.{effectAt, normalAt}
+use Rattle.stored.specs.Stored.{storedTerm, ztTimesAt, weightedTerm, ztwzAt, effectTerm, zTimesAt, addedAt}
+use Rattle.rule.specs.Given.{absent, plusOffset, lessOffset}
+use Rattle.rule.specs.Results.{vFrom, vOf, seAt, seOf, zValueAt, zValues, residualAt, residualsOf}
+use Rattle.rule.specs.Run.{itemsBefore, failedAfter, afterStop, moved, afterSearch, afterSolve, runFrom, startMeanAt, startMeans, startEtaAt, startEta, startAt, runOf}
+use Rattle.rule.specs.Solve.{ztwzOf, rightColumns, systemOf, factorOf, ztTimes, sideOf, wyOf, unsolvedColumn, solvedColumn, solvedColumnAt, solvedColumns, normalEntry, normalOf, normalSideAt, normalSide, betaOf, effectsAfter, bOf, zTimes, rawAt, rawOf, reducedOf, foundWith, foundBeta, found, afterRoot, solveRoot, solveNormal, solveReduced, afterFactor, solveFactor, solveSystem, solveWorking, solveOf}
+use Rattle.rule.specs.Stop.{stops, deviancesOf, devianceSum, fitTerm, logPivotAt, logPivots, laplaceOf, modeFit, modeSum, modeDevs, modeOf}
+use Rattle.rule.specs.Try.{candidateAt, candidateOf, fineEta, meanAt, meansOf, squareAt, addTo, pwrssOf, afterPwrss, tryPwrss, afterMeans, tryMeans, afterEta, tryEta, tryOf, itemBefore, afterTry, triesFrom, triesOf, trialOf}
+use Rattle.rule.specs.Working.{workingWeight, workingWeightAt, divisor, workingResponse, workingResponseAt, workingWeights, workingResponses, targetAt, targets, weightedTargets, weightedColumn}
+use Rattle.rule.specs.Given.{Given}
+use Rattle.family.specs.declared.carried.CarriedFamily.the-variants as family
+use Rattle.family.specs.declared.carried.CarriedLink.the-variants as link
+use Rattle.rule_cases.specs.Told.{Told, toldMode, toldV, toldEnding, toldOutcome, toldOf}
+
+abbrev job : Given
+job = record { family = family.Gamma; link = link.Inverse; y = bits 0x3fa5_6193_c3c1_b643 ∷ bits 0x3ff8_0000_0000_0000 ∷ []; weights = bits 0x3fd0_0000_0000_0000 ∷ bits 0x3fc0_0000_0000_0000 ∷ []; design = record { n = 2; p = 1; shape = record { count = 1; m = 1 ∷ 0 ∷ 0 ∷ 0 ∷ 0 ∷ 0 ∷ 0 ∷ 0 ∷ []; k = 1 ∷ 0 ∷ 0 ∷ 0 ∷ 0 ∷ 0 ∷ 0 ∷ 0 ∷ [] }; theta = bits 0x3fe0_0000_0000_0000 ∷ []; offset = []; x = bits 0x3ff0_0000_0000_0000 ∷ bits 0x3ff0_0000_0000_0000 ∷ []; zt = record { starts = 0 ∷ 1 ∷ []; columns = 0 ∷ []; values = bits 0x3ff0_0000_0000_0000 ∷ [] } } }
+
+abbrev answer : Told
+answer = record { number = 0; iterations = 9; account = record { fits = 1; solves = 9; tries = 9; points = 0; eta = 0; mean = 0; pwrss = 0; ok = 9 }; deviance = bits 0x3fbd_1516_4331_598b; beta = bits 0x3ffd_fde4_04bf_3231 ∷ []; se = bits 0x4008_e374_d91b_719e ∷ []; z = bits 0x3fe3_47dd_18dd_2ccc ∷ []; u = bits 0x3fae_edbb_a8d4_4e3e ∷ []; b = bits 0x3f9e_edbb_a8d4_4e3e ∷ []; mu = bits 0x3fe0_ccf7_10a6_4283 ∷ bits 0x3fe1_1244_572b_b1c4 ∷ []; eta = bits 0x3ffe_799a_f362_836a ∷ bits 0x3ffd_fde4_04bf_3231 ∷ []; residual = bits 0xbfde_edbb_a8d4_4e3e ∷ bits 0x3fee_edbb_a8d4_4e3c ∷ []; v = bits 0x4023_5b80_091c_0b91 ∷ [] }
+
+pub holds : toldOf job 1000 ≡ answer
+unfolding toldMode toldV toldEnding toldOutcome toldOf add sub mul div neg lt le eq ne isNan ofBits toBits ofInt toUnsigned round ruled fillBy fillDown build matrix fillTo fillAt gridTo finite infinite negative absF maxF clampF row notFalling goodStarts columnFits goodColumns goodRow goodRows storedIn findTo placeIn stored valueAt rowSum bothSum sumTo sumFrom addWhere sumWhere allTo anyTo withDigit nearestFrom placeOf rootOf unitsOf sqrtOf expTable expRow logTable logRow reduced rowTail scaleBits excess scaled large refitted fitted small edge ended expMain aboveZero expFar expOf quotientOf restOf scaledOf upOf downOf grownOf shrunkOf grownBy shrunkBy risingOf fallingOf expm1Main aboveMinusOne expm1Of nearOne lnNear lnRow lnMain lnFar lnOf tailOf lostOf splitOf farOf ln1pMain ln1pOf nearPoly nearSum nearOf lnSum wholeOf powerOf inversePowerOf nextOf belowTwo productOf loweredOf belowEight seriesOf stirlingBy stirlingOf lnGammaOf aboutTwo aboutLeast aboutOne belowThree _⊞_ refusedAnswer unfittedAnswer fittedAnswer triesCap pointsCap innerCapOf countOf tally familyCoded linkCoded limitOf goodLimit goodSizes totalTo blockEffects blockThetas goodBlock goodShape linksFor among validFor varianceOf successTerm binomialTerm poissonTerm gammaTerm proportion devResid initializeMu hasDensity lnDgamma clampE linkFun logistic linkInv cloglogSlope muEta logWeights gaussianTerm gaussianAic densityAt densityTerm gammaAic aicOf aicAnswer each weightSum lengthsAgree devAt ldlTerm ldlSum ldlPivot ldlBelow ldlRule ldlOf ldlPasses ldlEnd choleskyPivot choleskyBelow choleskyRule choleskyOf choleskyPasses choleskyEnd unitAt unitColumn ldlColumn ldlInverseAt ldlColumnAt ldlInverse choleskyColumn choleskyColumnAt choleskyInverse vAt acrossTerm downTerm unitForwardRule unitBackwardRule overDRule forwardRule backwardRule unitForward overD unitBackward forward backward ldlSolve choleskySolve turnedAt swapped rowTurned squareTurned rowsDot triangle rowBy usable positive andThen firstBad reach blockOf columnStart columnIn columnOf isEntry lambdaAt lambdaFull acrossRow downColumn timesTerm lambdaTimesAt transposedTerm lambdaTransposedAt rightTerm rightAt leftTerm systemAt columnAddedAt effectAt normalAt storedTerm ztTimesAt weightedTerm ztwzAt effectTerm zTimesAt addedAt absent plusOffset lessOffset vFrom vOf seAt seOf zValueAt zValues residualAt residualsOf itemsBefore failedAfter afterStop moved afterSearch afterSolve runFrom startMeanAt startMeans startEtaAt startEta startAt runOf ztwzOf rightColumns systemOf factorOf ztTimes sideOf wyOf unsolvedColumn solvedColumn solvedColumnAt solvedColumns normalEntry normalOf normalSideAt normalSide betaOf effectsAfter bOf zTimes rawAt rawOf reducedOf foundWith foundBeta found afterRoot solveRoot solveNormal solveReduced afterFactor solveFactor solveSystem solveWorking solveOf stops deviancesOf devianceSum fitTerm logPivotAt logPivots laplaceOf modeFit modeSum modeDevs modeOf candidateAt candidateOf fineEta meanAt meansOf squareAt addTo pwrssOf afterPwrss tryPwrss afterMeans tryMeans afterEta tryEta tryOf itemBefore afterTry triesFrom triesOf trialOf workingWeight workingWeightAt divisor workingResponse workingResponseAt workingWeights workingResponses targetAt targets weightedTargets weightedColumn
+holds = refl
