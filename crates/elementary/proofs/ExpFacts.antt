@@ -33,11 +33,11 @@ unfolding expOf absF lt ofBits add neg
 exp-minus-zero = refl
 
 -- ---- NaN for NaN only
-no-nan : (r : Float) → isNan r ≡ false → r ≡ nan → ⊥
+pub no-nan : (r : Float) → isNan r ≡ false → r ≡ nan → ⊥
 unfolding isNan
 no-nan r h e = ff (sym h ∙ ap isNan e)
 
-above-number : (z : Float) → lt zeroF z ≡ true → isNan z ≡ false
+pub above-number : (z : Float) → lt zeroF z ≡ true → isNan z ≡ false
 unfolding lt isNan ofBits
 above-number nan t = absurd (ff t)
 above-number (inf s) t = refl
