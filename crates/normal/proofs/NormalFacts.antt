@@ -1,14 +1,17 @@
 -- What is fixed of norm_cdf and norm_pdf: where they are NaN, between what they lie, that they are 0 and 1 from 39 on, that the density is even, and some values by computation. Document 02, P8. Assumes nothing.
 use mathlib.Core.Path.{_≡_, refl, sym, ap, _∙_}
-use mathlib.Core.Bool.{Bool, true, false, _&&_}
-use Prim.Native.Nat.{ℕ, _*_, _<_}
+use mathlib.Core.Bool.{Bool, true, false, _&&_, _||_}
+use Prim.Native.Nat.{ℕ, _+_, _*_, _<_}
+use native.Mathlib.Nat.{zero-mul}
 use native.Mathlib.Omega.{arith}
-use borrow.Author.Tests.{eq-eqb, eqb-true}
-use lib.Dec.{eqb}
+use borrow.Author.Tests.{lt-ltb, ltb-true, eqb-true}
+use lib.Dec.{ltb, eqb}
 use lib.Ieee.{Float, nan, inf, fin, up, down, isNan, lt, le, eq, neg, ofBits, toBits, add, sub, mul, div}
 use lib.Ieee.Fits.{down-pos}
 use Rattle.base.specs.Number.{_⊖_, bits, zeroF, oneF, halfF, absF}
 use Rattle.base.proofs.Doubles.{by-test, ff, is-nan, not-both}
+use Rattle.base.proofs.Order.{le-turned, below-not-from}
+use Rattle.base.proofs.Rounded.{neg-number}
 use Rattle.tabulated.specs.ExpTable.{expTable, expRow}
 use Rattle.elementary.specs.Exp.{reduced, rowTail, scaleBits, excess, scaled, refitted, fitted, small, edge, ended, aboveZero, expTwo}
 use Rattle.elementary.proofs.ExpFacts.{no-nan, above-number, exp-two-number, exp-two-never-below-zero}
@@ -62,39 +65,88 @@ pub cdf-not-above-one : (x : Float) → lt oneF (normCdf x) ≡ false
 unfolding lt ofBits
 cdf-not-above-one x = cdf-by (λ r. lt oneF r ≡ false) x (λ h. rw (← (is-nan x h)) refl) refl refl guard-to-one
 
--- of two tests that cannot both pass
-never : (p q : Bool) → (p ≡ true → q ≡ true → ⊥) → p && q ≡ false
-never true true f = absurd (f refl refl)
-never true false f = refl
-never false q f = refl
-
-no-zero : (a b : ℕ) → 0 < b → eqb a b ≡ true → eqb a 0 ≡ true → ⊥
-no-zero a b l p z = omega (arith, eqb-true a b p, eqb-true a 0 z)
-
 -- up to -39, -infinity too
 pub cdf-low : (x : Float) → le x (neg endF) ≡ true → normCdf x ≡ zeroF
 unfolding normCdf le lt eq
 cdf-low x h = by-test (λ r. r ≡ zeroF) (isNan x) (λ n. absurd (ff (ap (λ z. le z (neg endF)) (is-nan x n) ∙ h))) (λ _. rw h refl)
 
--- a number from 39 on is not up to -39
-not-low : (x : Float) → le endF x ≡ true → le x (neg endF) ≡ false
+-- two tests of which not both can pass
+never : (p q : Bool) → (p ≡ true → q ≡ true → ⊥) → p && q ≡ false
+never true true f = absurd (f refl refl)
+never true false f = refl
+never false q f = refl
+
+-- what is not below a number above zero is above zero
+reached : (a b : ℕ) (q : Bool) → 0 < b → ltb b a || eqb b a && q ≡ true → 0 < a
+reached a b q l = by-tests (ltb b a) (eqb b a) refl refl
+  where
+    by-tests : (s t : Bool) → ltb b a ≡ s → eqb b a ≡ t → s || t && q ≡ true → 0 < a
+    by-tests true t u v h = omega (arith, ltb-true b a u)
+    by-tests false true u v h = omega (arith, l, eqb-true b a v)
+    by-tests false false u v h = absurd (ff h)
+
+-- a number above zero is not up to -39
+above-not-low : (x : Float) → lt zeroF x ≡ true → le x (neg endF) ≡ false
 unfolding le lt eq neg ofBits
-not-low nan h = refl
-not-low (inf true) h = absurd (ff h)
-not-low (inf false) h = refl
-not-low (fin true m e) h =
-    let l : 0 < 39 * down e = omega (arith, down-pos e) in
-    absurd (ff (sym (never (eqb (39 * down e) (m * up e * 1)) (eqb (39 * down e) 0) (λ _ z. no-zero (39 * down e) (39 * down e) l (eq-eqb (39 * down e) (39 * down e) refl) z)) ∙ h))
-not-low (fin false m e) h =
-    let l : 0 < 39 * down e = omega (arith, down-pos e) in
-    never _ _ (λ p z. no-zero (m * up e * 1) (39 * down e) l p z)
+above-not-low nan h = refl
+above-not-low (inf true) h = absurd (ff h)
+above-not-low (inf false) h = refl
+above-not-low (fin true m e) h = absurd (ff h)
+above-not-low (fin false m e) h =
+    never (eqb (m * up e * 1) (39 * down e)) (eqb (m * up e * 1) 0)
+    (λ p z. omega (arith, down-pos e, eqb-true (m * up e * 1) (39 * down e) p, eqb-true (m * up e * 1) 0 z))
+
+-- a number from 39 on is above zero
+high-above : (x : Float) → le endF x ≡ true → lt zeroF x ≡ true
+unfolding le lt eq ofBits
+high-above nan h = absurd (ff h)
+high-above (inf true) h = absurd (ff h)
+high-above (inf false) h = refl
+high-above (fin true m e) h =
+    absurd (ff (sym (never (eqb (39 * down e) (m * up e * 1)) (eqb (39 * down e) 0) (λ _ z. omega (arith, down-pos e, eqb-true (39 * down e) 0 z))) ∙ h))
+high-above (fin false m e) h =
+    lt-ltb (0 * down e) (m * up e * 1)
+    (omega (arith, zero-mul (down e), reached (m * up e * 1) (39 * down e) true (omega (arith, down-pos e)) h))
 
 -- from 39 on, +infinity too
 pub cdf-high : (x : Float) → le endF x ≡ true → normCdf x ≡ oneF
 unfolding normCdf le lt eq ofBits
 cdf-high x h =
     by-test (λ r. r ≡ oneF) (isNan x) (λ n. absurd (ff (ap (le endF) (is-nan x n) ∙ h)))
-    (λ _. rw (not-low x h, h) refl)
+    (λ _. rw (above-not-low x (high-above x h), h) refl)
+
+-- a minus turns the tests of norm_cdf
+twice : (x : Float) → neg (neg x) ≡ x
+unfolding neg
+twice nan = refl
+twice (inf true) = refl
+twice (inf false) = refl
+twice (fin true m e) = refl
+twice (fin false m e) = refl
+
+turned : (x y : Float) → le (neg y) (neg x) ≡ false → le x y ≡ false
+turned x y h = by-tests (le x y) refl
+  where
+    by-tests : (t : Bool) → le x y ≡ t → t ≡ false
+    by-tests true e = sym (le-turned x y e) ∙ h
+    by-tests false e = refl
+
+below-turned : (x : Float) → lt zeroF x ≡ true → lt (neg x) zeroF ≡ true
+unfolding lt neg ofBits
+below-turned nan h = absurd (ff h)
+below-turned (inf true) h = absurd (ff h)
+below-turned (inf false) h = refl
+below-turned (fin true m e) h = absurd (ff h)
+below-turned (fin false m e) h = lt-ltb 0 (m * up e * 1 + 0 * down e) (omega (arith, ltb-true (0 * down e) (m * up e * 1) h))
+
+-- on either side of zero one tail t is taken: guarded as it is, and as 1 - t
+pub cdf-mirrored : (x : Float) → lt zeroF x ≡ true → lt x endF ≡ true → (normCdf (neg x) ≡ fromZeroToOne (upperTail x)) × (normCdf x ≡ fromZeroToOne (oneF ⊖ upperTail x))
+unfolding normCdf
+cdf-mirrored x l h =
+    let n : isNan x ≡ false = above-number x l in
+    let a : le x (neg endF) ≡ false = above-not-low x l in
+    let b : le endF x ≡ false = below-not-from x endF h in
+    (rw (neg-number x n, turned (neg x) (neg endF) (rw (twice x, twice endF) b), turned endF (neg x) (rw (twice x) a), below-turned x l, twice x) refl, rw (n, a, b, not-both zeroF x l) refl)
 
 -- ---- norm_pdf
 pdf-by : (P : Float → Type 0) (x : Float) → (isNan x ≡ true → P x) → P zeroF → ((y : Float) → P (densityOf y)) → P (normPdf x)
