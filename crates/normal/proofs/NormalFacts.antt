@@ -192,39 +192,30 @@ unfolding normCdf fromZeroToOne upperTail tailNear takenFrom onGrid halfSquare h
 cdf-zeros = (refl, refl)
 
 -- at -0.5, 0.5 and -1.125
-pub cdf-near :
-    (normCdf (bits 0xbfe0_0000_0000_0000) ≡ bits 0x3fd3_bf14_3b9a_a712) ×
-    (normCdf (bits 0x3fe0_0000_0000_0000) ≡ bits 0x3fe6_2075_e232_ac77) ×
-    (normCdf (bits 0xbff2_0000_0000_0000) ≡ bits 0x3fc0_ad7d_a0f9_b0b9)
+pub cdf-near : (normCdf (bits 0xbfe0_0000_0000_0000) ≡ bits 0x3fd3_bf14_3b9a_a712) × (normCdf (bits 0x3fe0_0000_0000_0000) ≡ bits 0x3fe6_2075_e232_ac77) × (normCdf (bits 0xbff2_0000_0000_0000) ≡ bits 0x3fc0_ad7d_a0f9_b0b9)
 unfolding normCdf fromZeroToOne upperTail tailNear takenFrom onGrid halfSquare halfRest rootRest erfRest isNan add sub mul div lt le eq neg ofBits
 cdf-near = (refl, refl, refl)
 
 -- at -1.5 and 1.5
-pub cdf-middle :
-    (normCdf (bits 0xbff8_0000_0000_0000) ≡ bits 0x3fb1_1a46_d896_47ef) ×
-    (normCdf (bits 0x3ff8_0000_0000_0000) ≡ bits 0x3fed_dcb7_24ed_3702)
+pub cdf-middle : (normCdf (bits 0xbff8_0000_0000_0000) ≡ bits 0x3fb1_1a46_d896_47ef) × (normCdf (bits 0x3ff8_0000_0000_0000) ≡ bits 0x3fed_dcb7_24ed_3702)
 unfolding normCdf fromZeroToOne upperTail tailMiddle onGrid rootRest erfcNearOne isNan add sub mul div lt le eq neg ofBits
 cdf-middle = (refl, refl)
 
--- at -2, 2, -3, -8 and -38
-pub cdf-far :
-    (normCdf (bits 0xc000_0000_0000_0000) ≡ bits 0x3f97_4bcf_82c9_d860) ×
-    (normCdf (bits 0x4000_0000_0000_0000) ≡ bits 0x3fef_45a1_83e9_b13d) ×
-    (normCdf (bits 0xc008_0000_0000_0000) ≡ bits 0x3f56_1de1_f985_b5d7) ×
-    (normCdf (bits 0xc020_0000_0000_0000) ≡ bits 0x3cc6_69d2_c90d_55ce) ×
-    (normCdf (bits 0xc043_0000_0000_0000) ≡ bits 0x0000_0000_037b_23b8)
-unfolding normCdf fromZeroToOne upperTail tailFar tailBy farPart innerPart outerPart onGrid halfSquare halfRest expTwo aboveZero ended edge small fitted refitted scaled excess scaleBits rowTail reduced expTable expRow absF toBits isNan add sub mul div lt le eq neg ofBits
-cdf-far = (refl, refl, refl, refl, refl)
+-- at -2, 2 and -3
+pub cdf-inner : (normCdf (bits 0xc000_0000_0000_0000) ≡ bits 0x3f97_4bcf_82c9_d860) × (normCdf (bits 0x4000_0000_0000_0000) ≡ bits 0x3fef_45a1_83e9_b13d) × (normCdf (bits 0xc008_0000_0000_0000) ≡ bits 0x3f56_1de1_f985_b5d7)
+unfolding normCdf fromZeroToOne upperTail tailFar tailBy farPart innerPart onGrid halfSquare halfRest expTwo aboveZero ended scaled excess scaleBits rowTail reduced expTable expRow absF toBits isNan add sub mul div lt le eq neg ofBits
+cdf-inner = (refl, refl, refl)
+
+-- at -8 and -38
+pub cdf-outer : (normCdf (bits 0xc020_0000_0000_0000) ≡ bits 0x3cc6_69d2_c90d_55ce) × (normCdf (bits 0xc043_0000_0000_0000) ≡ bits 0x0000_0000_037b_23b8)
+unfolding normCdf fromZeroToOne upperTail tailFar tailBy farPart outerPart onGrid halfSquare halfRest expTwo aboveZero ended edge small fitted refitted scaled excess scaleBits rowTail reduced expTable expRow absF toBits isNan add sub mul div lt le eq neg ofBits
+cdf-outer = (refl, refl)
 
 pub pdf-zeros : (normPdf zeroF ≡ bits 0x3fd9_8845_33d4_3651) × (normPdf (neg zeroF) ≡ bits 0x3fd9_8845_33d4_3651)
 unfolding normPdf densityOf onGrid halfSquare halfRest expTwo aboveZero ended edge small fitted refitted scaled excess scaleBits rowTail reduced expTable expRow absF toBits isNan add sub mul div lt le eq neg ofBits
 pdf-zeros = (refl, refl)
 
 -- at 1, -3, 8 and 38
-pub pdf-computed :
-    (normPdf (bits 0x3ff0_0000_0000_0000) ≡ bits 0x3fce_f8e5_8e33_1737) ×
-    (normPdf (bits 0xc008_0000_0000_0000) ≡ bits 0x3f72_2721_3fd7_7689) ×
-    (normPdf (bits 0x4020_0000_0000_0000) ≡ bits 0x3cf6_c0df_3a09_4834) ×
-    (normPdf (bits 0x4043_0000_0000_0000) ≡ bits 0x0000_0000_845e_b885)
+pub pdf-computed : (normPdf (bits 0x3ff0_0000_0000_0000) ≡ bits 0x3fce_f8e5_8e33_1737) × (normPdf (bits 0xc008_0000_0000_0000) ≡ bits 0x3f72_2721_3fd7_7689) × (normPdf (bits 0x4020_0000_0000_0000) ≡ bits 0x3cf6_c0df_3a09_4834) × (normPdf (bits 0x4043_0000_0000_0000) ≡ bits 0x0000_0000_845e_b885)
 unfolding normPdf densityOf onGrid halfSquare halfRest expTwo aboveZero ended edge small fitted refitted scaled excess scaleBits rowTail reduced expTable expRow absF toBits isNan add sub mul div lt le eq neg ofBits
 pdf-computed = (refl, refl, refl, refl)

@@ -48,22 +48,16 @@ at-half = refl
 
 -- ---- values, computed by the checker
 -- at 0.3 and 0.75
-pub in-the-middle :
-    (normQuantile (bits 0x3fd3_3333_3333_3333) ≡ bits 0xbfe0_c7e3_9582_c5fc) ×
-    (normQuantile (bits 0x3fe8_0000_0000_0000) ≡ bits 0x3fe5_956b_8752_8a49)
+pub in-the-middle : (normQuantile (bits 0x3fd3_3333_3333_3333) ≡ bits 0xbfe0_c7e3_9582_c5fc) × (normQuantile (bits 0x3fe8_0000_0000_0000) ≡ bits 0x3fe5_956b_8752_8a49)
 unfolding normQuantile insideOf centralOf isNan absF add sub mul div lt le eq neg ofBits
 in-the-middle = (refl, refl)
 
 -- at 0.2 and 0.8125: the middle's form and one of Newton's steps
-pub with-a-step :
-    (normQuantile (bits 0x3fc9_9999_9999_999a) ≡ bits 0xbfea_ee8f_a73a_1333) ×
-    (normQuantile (bits 0x3fea_0000_0000_0000) ≡ bits 0x3fec_6381_2e37_d718)
+pub with-a-step : (normQuantile (bits 0x3fc9_9999_9999_999a) ≡ bits 0xbfea_ee8f_a73a_1333) × (normQuantile (bits 0x3fea_0000_0000_0000) ≡ bits 0x3fec_6381_2e37_d718)
 unfolding normQuantile insideOf centralOf upperQuantile guessOf upperTail tailNear takenFrom onGrid halfSquare halfRest rootRest erfRest densityOf expTwo aboveZero ended scaled excess scaleBits rowTail reduced expTable expRow toBits isNan absF add sub mul div lt le eq neg ofBits
 with-a-step = (refl, refl)
 
 -- the guess where sqrt(-2 ln t) is 4 and 16
-pub guess-in-the-tail :
-    (guessBy (bits 0x4010_0000_0000_0000) ≡ bits 0x400b_35a4_7ecc_4b2f) ×
-    (guessBy (bits 0x4030_0000_0000_0000) ≡ bits 0x402f_8959_f0fe_4743)
+pub guess-in-the-tail : (guessBy (bits 0x4010_0000_0000_0000) ≡ bits 0x400b_35a4_7ecc_4b2f) × (guessBy (bits 0x4030_0000_0000_0000) ≡ bits 0x402f_8959_f0fe_4743)
 unfolding guessBy nearPart distantPart lnOf lnFar lnMain lnRow nearOne lnSum nearOf nearSum nearPoly logTable logRow ofBits toBits ofInt lt le eq add sub mul div
 guess-in-the-tail = (refl, refl)
