@@ -49,20 +49,20 @@ def numbers(path):
     return [int(n.replace("_", ""), 16) for n in re.findall(r"0x([0-9a-f_]+)", entries)]
 
 
-def exp(x):
-    field = pattern(x) >> 52 & 0x7FF
-    if field < 0x3C9:
-        return 1.0 + x
-    if field >= 0x409:
-        return x if math.isnan(x) else 0.0 if x < 0.0 else math.inf
+def exp_parts(x):
+    """The pattern of the shifted k, and the reduced argument."""
     shifted = 128 * float.fromhex("0x1.71547652b82fep0") * x + float.fromhex("0x1.8p52")
-    k, bits = shifted - float.fromhex("0x1.8p52"), pattern(shifted)
-    r = x + k * float.fromhex("-0x1.62e42fefa0000p-8") + k * float.fromhex("-0x1.cf79abc9e3b3ap-47")
+    k = shifted - float.fromhex("0x1.8p52")
+    return pattern(shifted), x + k * float.fromhex("-0x1.62e42fefa0000p-8") + k * float.fromhex("-0x1.cf79abc9e3b3ap-47")
+
+
+def exp_from(x, bits, r):
+    """The result, of these two."""
     scale = EXP_TABLE[2 * (bits % 128) + 1] + (bits << 45) & MASK
     c2, c3, c4, c5 = map(float.fromhex, ("0x1.ffffffffffdbdp-2", "0x1.555555555543cp-3", "0x1.55555cf172b91p-5", "0x1.1111167a4d017p-7"))
     square = r * r
     t = double(EXP_TABLE[2 * (bits % 128)]) + r + square * (c2 + r * c3) + square * square * (c4 + r * c5)
-    if field < 0x408:
+    if pattern(x) >> 52 & 0x7FF < 0x408:
         return double(scale) + double(scale) * t
     if bits & 0x80000000 == 0:
         s = double(scale - (1009 << 52) & MASK)
@@ -73,6 +73,21 @@ def exp(x):
         low, high = s - y + s * t, 1.0 + y
         y = high + (1.0 - high + y + low) - 1.0
     return 2.0**-1022 * y
+
+
+def exp(x):
+    field = pattern(x) >> 52 & 0x7FF
+    if field < 0x3C9:
+        return 1.0 + x
+    if field >= 0x409:
+        return x if math.isnan(x) else 0.0 if x < 0.0 else math.inf
+    return exp_from(x, *exp_parts(x))
+
+
+def exp_two(x, low):
+    """exp(x + low), low far below x: as ARM's `pow` has it (exp_inline), low is added to the reduced argument. normal.py uses it."""
+    bits, r = exp_parts(x)
+    return exp_from(x, bits, r + low)
 
 
 A = [float.fromhex(h) for h in ("-0x1.0000000000001p-1", "0x1.555555551305bp-2", "-0x1.fffffffeb459p-3", "0x1.999b324f10111p-3", "-0x1.55575e506c89fp-3")]

@@ -1,9 +1,9 @@
--- exp and ln at closed arguments, computed by the checker: what the published C answers there, bit for bit. Assumes nothing.
+-- exp, exp of two parts and ln at closed arguments, computed by the checker: for exp and ln what the published C answers there, bit for bit. Assumes nothing.
 use mathlib.Core.Path.{_≡_, refl}
 use lib.Ieee.{ofBits, toBits, ofInt, lt, le, eq, add, sub, mul}
 use Rattle.base.specs.Number.{bits, absF}
 use Rattle.tabulated.specs.ExpTable.{expTable, expRow}
-use Rattle.elementary.specs.Exp.{reduced, rowTail, scaleBits, excess, scaled, large, refitted, fitted, small, edge, ended, expMain, aboveZero, expOf}
+use Rattle.elementary.specs.Exp.{reduced, rowTail, scaleBits, excess, scaled, large, refitted, fitted, small, edge, ended, expMain, aboveZero, expTwo, expOf}
 use Rattle.tabulated.specs.LogTable.{logTable, logRow}
 use Rattle.elementary.specs.LogPoly.{nearPoly, nearSum, nearOf, lnSum}
 use Rattle.elementary.specs.Log.{nearOne, lnNear, lnRow, lnMain, lnFar, lnOf}
@@ -19,6 +19,15 @@ exp-computed :
     (expOf (bits 0x3bc7_9ca1_0c92_4223) ≡ bits 0x3ff0_0000_0000_0000)
 unfolding expOf aboveZero expMain ended edge small fitted refitted large scaled excess scaleBits rowTail reduced expTable expRow absF ofBits toBits lt add sub mul
 exp-computed = (refl, refl, refl, refl, refl, refl, refl)
+
+-- exp of -1 and 2^-16, -600.25 and -2^-20, -720.3 and 2^-17, -745 and -2^-16
+exp-two-computed :
+    (expTwo (bits 0xbff0_0000_0000_0000) (bits 0x3ef0_0000_0000_0000) ≡ bits 0x3fd7_8b6d_c18e_eb14) ×
+    (expTwo (bits 0xc082_c200_0000_0000) (bits 0xbeb0_0000_0000_0000) ≡ bits 0x09d0_3fce_2ff5_c748) ×
+    (expTwo (bits 0xc086_8266_6666_6666) (bits 0x3ee0_0000_0000_0000) ≡ bits 0x0000_0007_1848_5ed9) ×
+    (expTwo (bits 0xc087_4800_0000_0000) (bits 0xbef0_0000_0000_0000) ≡ bits 0x0000_0000_0000_0001)
+unfolding expTwo aboveZero ended edge small fitted refitted scaled excess scaleBits rowTail reduced expTable expRow absF ofBits toBits lt add sub mul
+exp-two-computed = (refl, refl, refl, refl)
 
 -- ln of 2, 10, 1.01, 0.95, 1e-310, 1e300
 ln-computed :

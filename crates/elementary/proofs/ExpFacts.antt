@@ -1,4 +1,4 @@
--- What document 01 fixes of exp: its values at NaN, the infinities and the zeros, NaN for NaN only, and never below zero. Assumes nothing.
+-- What document 01 fixes of exp: its values at NaN, the infinities and the zeros, NaN for NaN only, and never below zero; of exp of two parts that it is no NaN and never below zero. Assumes nothing.
 use mathlib.Core.Path.{_≡_, refl, sym, ap, _∙_}
 use mathlib.Core.Bool.{true, false}
 use Prim.Native.Nat.{_+_, _-_, _*_, _<_}
@@ -8,7 +8,7 @@ use lib.IntN.{pos}
 use lib.Ieee.{Float, nan, inf, fin, up, down, binary64, isNan, lt, neg, ofBits, add, sum}
 use Rattle.base.specs.Number.{_⊕_, bits, zeroF, oneF, absF}
 use Rattle.base.proofs.Doubles.{by-test, ff, not-both}
-use Rattle.elementary.specs.Exp.{expMain, aboveZero, expFar, expOf}
+use Rattle.elementary.specs.Exp.{expMain, aboveZero, expTwo, expFar, expOf}
 use Rattle.base.proofs.Rounded.{add-number, round-plus}
 
 -- ---- special arguments
@@ -33,11 +33,11 @@ unfolding expOf absF lt ofBits add neg
 exp-minus-zero = refl
 
 -- ---- NaN for NaN only
-no-nan : (r : Float) → isNan r ≡ false → r ≡ nan → ⊥
+pub no-nan : (r : Float) → isNan r ≡ false → r ≡ nan → ⊥
 unfolding isNan
 no-nan r h e = ff (sym h ∙ ap isNan e)
 
-above-number : (z : Float) → lt zeroF z ≡ true → isNan z ≡ false
+pub above-number : (z : Float) → lt zeroF z ≡ true → isNan z ≡ false
 unfolding lt isNan ofBits
 above-number nan t = absurd (ff t)
 above-number (inf s) t = refl
@@ -92,3 +92,12 @@ unfolding expOf
 exp-never-below-zero x =
     by-test (λ r. lt r zeroF ≡ false) (lt (absF x) (bits 0x3c90_0000_0000_0000)) (tiny-plus x)
     (λ _. by-test (λ r. lt r zeroF ≡ false) (lt (absF x) (bits 0x4090_0000_0000_0000)) (λ _. guard-plus (expMain x)) (λ _. far-plus x))
+
+-- ---- exp of two parts: its last step is the same guard
+pub exp-two-number : (x low : Float) → isNan (expTwo x low) ≡ false
+unfolding expTwo
+exp-two-number x low = guard-number _
+
+pub exp-two-never-below-zero : (x low : Float) → lt (expTwo x low) zeroF ≡ false
+unfolding expTwo
+exp-two-never-below-zero x low = guard-plus _

@@ -93,16 +93,27 @@ edge ki sb t = cond (eqb (ki / 0x8000_0000 % 2) 0) (large sb t) (small sb t)
 unfoldable pub ended : Float → ℕ → ℕ → Float → Float
 ended x ki sb t = cond (lt (absF x) (bits 0x4080_0000_0000_0000)) (scaled (bits sb) t) (edge ki sb t)
 
+-- the result from the pattern of the shifted k and the reduced argument
+abbrev pub fromRow : Float → ℕ → Float → Float
+fromRow x ki r = ended x ki (scaleBits ki) (excess (rowTail ki) r)
+
 -- exp x for |x| from 2^-54 to 1024; k is the whole number nearest to x N / ln 2
 unfoldable pub expMain : Float → Float
 expMain x =
     let shifted = invLn2N ⊗ x ⊕ shift in
     let ki = toBits binary64 shifted in
-    ended x ki (scaleBits ki) (excess (rowTail ki) (reduced x (shifted ⊖ shift)))
+    fromRow x ki (reduced x (shifted ⊖ shift))
 
 -- z where it is above zero, and +0 elsewhere
 unfoldable pub aboveZero : Float → Float
 aboveZero z = cond (lt zeroF z) z zeroF
+
+-- exp (x + low) for |x| from 2^-54 to 1024 and a low far below it: low is added to the reduced argument
+unfoldable pub expTwo : Float → Float → Float
+expTwo x low =
+    let shifted = invLn2N ⊗ x ⊕ shift in
+    let ki = toBits binary64 shifted in
+    aboveZero (fromRow x ki (reduced x (shifted ⊖ shift) ⊕ low))
 
 -- exp x for |x| of 1024 and more, and NaN of NaN
 unfoldable pub expFar : Float → Float

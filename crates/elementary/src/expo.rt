@@ -1,7 +1,7 @@
 // exp by the table-driven algorithm of ARM's optimized routines: exp x = 2^(k/128) exp r.
 use tabulated::exp_row;
 ghost use mathlib.Core.Path.{_≡_};
-ghost use Rattle.elementary.specs.Exp.{reduced, excess, scaled, large, fitted, small, edge, expMain, aboveZero, expFar, expOf};
+ghost use Rattle.elementary.specs.Exp.{reduced, excess, scaled, large, fitted, small, edge, fromRow, expMain, aboveZero, expTwo, expFar, expOf};
 
 // 128 / ln 2.
 const INV_LN2_N: f64 = 184.6649652337873;
@@ -83,20 +83,26 @@ fn edge(ki: u64, sbits: u64, t: f64) -> f64
     small(sbits, t)
 }
 
-// exp x for |x| from 2^-54 to 1024: the last digits of shifted are the whole number k nearest to 128 x / ln 2. The scale's
-// pattern is taken modulo 2^64: for a large |k| its exponent runs over into the sign, and `edge` puts it right.
-fn exp_main(x: f64) -> f64
-    ensures { λ r. ⌜ r ≡ expMain x ⌝ }
+// The result from the shifted k's pattern and the reduced argument. The scale's pattern is taken modulo 2^64: for a large |k| its exponent runs
+// over into the sign, and `edge` puts it right.
+fn from_row(x: f64, ki: u64, r: f64) -> f64
+    ensures { λ z. ⌜ z ≡ fromRow x ki r ⌝ }
 {
-    let shifted = INV_LN2_N * x + SHIFT;
-    let ki = base::pattern(shifted);
     let row = exp_row(ki % 128);
     let sbits = std::num::wrapping_add_u64(row.scale, ki % 0x8_0000 * 0x2000_0000_0000);
-    let t = excess(base::double(row.tail), reduced(x, shifted - SHIFT));
+    let t = excess(base::double(row.tail), r);
     if base::abs(x) < 512.0 {
         return scaled(base::double(sbits), t);
     }
     edge(ki, sbits, t)
+}
+
+// exp x for |x| from 2^-54 to 1024: the last digits of shifted are the whole number k nearest to 128 x / ln 2.
+fn exp_main(x: f64) -> f64
+    ensures { λ r. ⌜ r ≡ expMain x ⌝ }
+{
+    let shifted = INV_LN2_N * x + SHIFT;
+    from_row(x, base::pattern(shifted), reduced(x, shifted - SHIFT))
 }
 
 // z, which is never below zero: the test changes no result, and with it the contract shows that none is.
@@ -104,6 +110,14 @@ fn above_zero(z: f64) -> f64
     ensures { λ r. ⌜ r ≡ aboveZero z ⌝ }
 {
     if 0.0 < z { z } else { 0.0 }
+}
+
+// exp(x + low) for |x| from 2^-54 to 1024 and a low far below it, which the rounded sum x + low would lose.
+pub fn exp_two(x: f64, low: f64) -> f64
+    ensures { λ r. ⌜ r ≡ expTwo x low ⌝ }
+{
+    let shifted = INV_LN2_N * x + SHIFT;
+    above_zero(from_row(x, base::pattern(shifted), reduced(x, shifted - SHIFT) + low))
 }
 
 // Overflow, underflow, the infinities and NaN.

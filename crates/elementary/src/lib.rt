@@ -7,5 +7,6 @@ mod parts;
 
 pub use expm1::exp_m1;
 pub use expo::exp;
+pub use expo::exp_two;
 pub use log::ln;
 pub use log1p::ln_1p;
