@@ -82,7 +82,7 @@ size_t glmm_results_length(size_t n, size_t p, size_t q);
  *            returned before the job is looked at
  *
  * Returned: 0 where the call was accepted (counts[GLMM_NUMBER] is then 0, 10, 11, 12 or 13: ask GLMM_FITTED), else the refusal's number: of a job that
- * cannot be read (20 to 25, or 1; counts[GLMM_BYTE] says where), else of the table (1, 2, 7, 6, 3, 4, 5, tested in this order). After a refusal
+ * cannot be read (20 to 25, or 1; counts[GLMM_BYTE] says where), else of the table (1, 2, 7, 6, 3, 4, 5, 9, tested in this order). After a refusal
  * everything but counts is as lent. */
 uint64_t glmm_fit_job(const uint8_t *job, size_t job_length,
                       double *rows, size_t rows_length,
@@ -126,7 +126,7 @@ struct glmm_settings {
 
 /* What is returned. But for number 0 it is all 0, save the work of a call that was accepted (10 to 13). */
 struct glmm_answer {
-    uint64_t number;      /* 0 fitted; 10, 11, 12, 13 as in counts[GLMM_NUMBER]; else the refusal's number: 1, 2, 7, 6, 3, 4, 5, tested in this order */
+    uint64_t number;      /* 0 fitted; 10, 11, 12, 13 as in counts[GLMM_NUMBER]; else the refusal's number: 1, 2, 7, 6, 3, 4, 5, 9, tested in this order */
     double deviance, phi;
     uint64_t order, flag, iterations, fits, solves, tries, points, why, eta, mean, pwrss, ok; /* as the counts of these names */
 };
@@ -149,7 +149,8 @@ struct glmm_answer {
  * rows, matrices, terms
  *            work buffers of at least the lengths above (else 7), left as glmm_fit_job leaves them
  *
- * A length that is not as told here is refused with 2, a number that is not finite with 3. The results are written where the answer's number is 0
+ * A length that is not as told here is refused with 2, a number that is not finite with 3, a response outside its family's range (binomial 0 to 1,
+ * Poisson from 0 on, Gamma above 0) with 9. The results are written where the answer's number is 0
  * (GLMM_ANSWER_FITTED), and are else as lent; after a refusal everything is. */
 struct glmm_answer glmm_fit_blocks(struct glmm_settings settings,
                                    const struct glmm_block *blocks, size_t blocks_length,

@@ -176,7 +176,20 @@ fn table(job: &Job) -> usize {
     if job.link == Link::Probit {
         return 5;
     }
+    if !job.y.iter().all(|&y| in_range(job.family, y)) {
+        return 9;
+    }
     0
+}
+
+/// Whether a family is for such a response (document 02, P6).
+pub fn in_range(family: Family, y: f64) -> bool {
+    match family {
+        Family::Binomial => 0.0 <= y && y <= 1.0,
+        Family::Poisson => 0.0 <= y,
+        Family::Gaussian => true,
+        Family::Gamma => 0.0 < y,
+    }
 }
 
 fn rising_columns(job: &Job) -> bool {

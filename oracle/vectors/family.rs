@@ -2,6 +2,7 @@
 use super::{line, one, SPECIAL};
 use crate::answer::hex;
 use crate::family::{ln_dgamma, Family, GlmLink, Link};
+use crate::job::in_range;
 
 /// What the port carries; of the families all.
 pub const CARRIED_LINKS: [Link; 6] = [Link::Logit, Link::Cloglog, Link::Log, Link::Identity, Link::Inverse, Link::Sqrt];
@@ -21,8 +22,8 @@ const ORDINARY: [f64; 50] = [
     709.75, 710.0, 1e10, 1e100, 1e155, 1e200, -0.5, -0.1, -1e-10, -1.5, -2.5, -5.0, -10.0, -36.0, -36.5, -37.0, -100.0, -700.0, -745.0,
     -746.0, -1e10, -1e200, 3.6, 3.7, -1e-16, 6.7e7, 6.8e7, 1.5e-8,
 ];
-const RESPONSES: [f64; 18] =
-    [NAN, INF, -INF, -0.0, 0.0, 5e-324, E, 0.25, 0.5, 1.0 - E, 1.0, 1.0 + E, 1.5, 2.0, 7.0, -1.0, -5e-324, 1e-300];
+const RESPONSES: [f64; 19] =
+    [NAN, INF, -INF, -0.0, 0.0, 5e-324, E, 0.25, 0.5, 1.0 - E, 1.0 - E / 2.0, 1.0, 1.0 + E, 1.5, 2.0, 7.0, -1.0, -5e-324, 1e-300];
 const MEANS: [f64; 10] = [NAN, INF, 0.0, E, 0.3, 1.0 - E, 1.0, 2.5, -3.0, 1e300];
 const WEIGHTS: [f64; 5] = [1.0, 2.5, 0.0, -1.0, NAN];
 /// Responses, shapes and scales of a Gamma density, at the ends of what the fit can ask and outside.
@@ -57,6 +58,15 @@ fn deviances(y: f64, mu: f64) {
     println!();
 }
 
+/// Whether each family is for such a response: document 02, P6, as the oracle's table has it.
+fn ranges(y: f64) {
+    print!("range {}", hex(y));
+    for family in FAMILIES {
+        print!(" {}", in_range(family, y) as usize);
+    }
+    println!();
+}
+
 fn densities(y: f64) {
     for shape in SHAPES {
         let values = SCALES.iter().map(|&scale| ln_dgamma(y, shape, scale));
@@ -72,6 +82,7 @@ pub fn put() {
         elements(x);
     }
     for y in RESPONSES {
+        ranges(y);
         for mu in MEANS {
             deviances(y, mu);
         }

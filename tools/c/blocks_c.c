@@ -154,6 +154,7 @@ static void edges(void)
     changed("many observations", &settings.n, 513), changed("many columns", &settings.p, 17), changed("many entries", &settings.entries, 8193);
     changed("a late start", &starts[0], 1), changed("a start past the end", &starts[1], SIZE_MAX), changed("no such observation", &columns[0], settings.n);
     was = numbers[Y][0], numbers[Y][0] = -1.0 / 0.0, edge("an infinite response"), changed("no link, an infinite response", &settings.link, 7);
+    numbers[Y][0] = 1.5, edge("a response above 1"), changed("no link, a response above 1", &settings.link, 7);
     numbers[Y][0] = was, link = settings.link, settings.link = 7, changed("no link, no block", &blocks_length, 0), settings.link = link;
     settings.family = GLMM_BINOMIAL, settings.link = GLMM_SQRT, edge("another family's link");
     settings.link = GLMM_PROBIT, edge("a link not carried");

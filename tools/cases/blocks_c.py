@@ -152,8 +152,11 @@ def refusals():
     run("link 7, k 9", job(), link=7, blocks=[(2, 9)])
     run("probit", job(), family=0, link=1)
     run("Gamma sqrt", job(), family=3, link=6)
+    run("Gamma of 0", job(), family=3, link=5)
+    run("above 1", job(), family=0, link=0)
+    run("probit, above 1", job(), family=0, link=1)
 
 
 fits()
 refusals()
-assert "--stdin" in sys.argv or given == {*range(8), *range(10, 14)}
+assert "--stdin" in sys.argv or given == {*range(8), 9, *range(10, 14)}

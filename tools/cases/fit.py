@@ -17,8 +17,9 @@ NAN, INF = float("nan"), float("inf")
 ONES, SLOPES = [1.0] * 4, [0.3, -0.7, 1.1, 0.2]
 X = [1.0, 0.3, 1.0, -0.7, 1.0, 1.1, 1.0, 0.2]
 NUMBERS = [*ONES, *SLOPES, *ONES, *ONES, *X, 1.0, 3.0, 0.0, 5.0, 0.25, 0.5, 0.0, 1.0, 4.0, 2.0, 3.0, 1.0, 0.1, 0.2, -0.3, 0.0, 1.5, -0.25, 3.0, 0.75, 0.5, 0.75, 0.4, 1.25,
-           0.7, 0.8, 0.3, 0.6, 1e9, 1e9, 3e8, 1e9, 7e8, 3e8, 1e200, NAN, INF, 9.0, 0.1, 0.5, 3.0, 1.0, 1.0, 1.0, 1e-12, 0.0, 3.0, 1.0, 1e164, *X[:6], 1.0, 1e4, *X[:6], 1e10, 0.0]
-NONE = len(NUMBERS)
+           0.7, 0.8, 0.3, 0.6, 1e9, 1e9, 3e8, 1e9, 7e8, 3e8, 1e200, NAN, INF, 9.0, 0.1, 0.5, 3.0, 1.0, 1.0, 1.0, 1e-12, 0.0, 3.0, 1.0, 1e164, *X[:6], 1.0, 1e4, *X[:6], 1e10, 0.0,
+           *[0.5] * 4, -1e308, 1.0, 1.0, 1.0]
+HALVES, HUGE, NONE = len(NUMBERS) - 8, len(NUMBERS) - 4, len(NUMBERS)
 ROWS = [[0, 2, 4], [0, 4, 8, 10, 12], [0, 4, 8, 8, 8, 8, 8], [0, 4, 4, 4, 4, 4, 4, 4, 4, 8], [0, 2, 1, 3], [0, 1, 2, 3, 0, 1, 2, 3, 0, 2, 0, 2],
         [0, 1, 2, 3, 0, 1, 2, 3, 0, 2, 1, 3], [0, 2, 1, 4], [2, 0, 1, 3]]
 INPUTS = ["theta", "y", "weights", "offset", "x", "starts", "columns", "values"]
@@ -27,7 +28,8 @@ given, declines = set(), []
 
 
 def hexes(values):
-    return [struct.pack(">d", v).hex().upper() for v in values]
+    """Every NaN is told by one pattern."""
+    return [struct.pack(">d", v if v == v else NAN).hex().upper() for v in values]
 
 
 def padded(row):
@@ -124,7 +126,8 @@ def good(word, places={}, lengths={}, **sizes):
 
 
 def laplace():
-    """Number 0: every family with every link that is carried; of the three that are called so the dispersion doesn't settle. A Gamma response of 0 gives an infinite deviance."""
+    """Number 0: every family with every link that is carried; of the three that are called so the dispersion doesn't settle. Twice a huge weight is infinite: a negative one
+    makes the deviance NaN."""
     groups("log", "poisson", "log", 1, 24)
     groups("identity", "poisson", "identity", 0, 32, offset=36)
     groups("sqrt", "poisson", "sqrt", 1, 24, offset=36)
@@ -139,7 +142,7 @@ def laplace():
     groups("Gamma identity", "gamma", "identity", 1, 44)
     groups("Gamma log", "gamma", "log", 1, 44, 32, 36)
     groups("unsettled Gamma", "gamma", "identity", 1, 32)
-    groups("Gamma of 0", "gamma", "inverse", 1, 24)
+    groups("NaN", "binomial", "logit", 1, HALVES, HUGE)
 
 
 def quadrature():
@@ -156,7 +159,7 @@ def quadrature():
     effects("joint 9", "sqrt", 11, [(1, 2), (2, 1)], 48, 1, 6)
     effects("nine", "log", 3, [(8, 1), (1, 1)], 48, 3, 5, "effects")
     effects("six", "log", 3, [(1, 6)], 0, 2, 5, "cap")
-    groups("sum", "binomial", "logit", 3, 24, cause="log sum")
+    groups("sum", "poisson", "log", 3, 24, HUGE, cause="log sum")
     effects("Inverse", "sqrt", 3, [(2, 2)], 52, 1, 5, "inverse")
     effects("Factor", "sqrt", 3, [(2, 2)], 55, 1, 5, "factor")
 
@@ -180,7 +183,7 @@ def refused_tries():
 
 def refusals():
     """Number 1, of each size and of the limit; each slice one short and one longer: number 2, of the last three 7 where they are short and 0 where they are longer; number 6, of the
-    row starts and the columns; number 3, of each list of numbers; numbers 4 and 5."""
+    row starts and the columns; number 3, of each list of numbers; numbers 4 and 5; number 9 of each family that has a range, of Gamma for 0."""
     for n, p, q, entries in [(0, 2, 2, 4), (513, 2, 2, 4), (4, 0, 2, 4), (4, 17, 2, 4), (4, 2, 3, 4), (4, 2, 2, 8193)]:
         good("sizes", n=n, p=p, q=q, entries=entries)
     groups("limit 1001", "poisson", "log", 3, 24, limit=1001)
@@ -193,6 +196,9 @@ def refusals():
     groups("sqrt", "gaussian", "sqrt", 3, 40)
     groups("probit", "binomial", "probit", 3, 28)
     groups("Gamma sqrt", "gamma", "sqrt", 3, 44)
+    good("list 1 at 24", {1: 24})
+    groups("below 0", "poisson", "log", 3, 4)
+    groups("Gamma of 0", "gamma", "inverse", 1, 24)
 
 
 def noted(declined, number, cause):
@@ -206,4 +212,4 @@ quadrature()
 ends()
 refused_tries()
 refusals()
-assert "--stdin" in sys.argv or given == {*range(8), *range(10, 14)}
+assert "--stdin" in sys.argv or given == {*range(8), 9, *range(10, 14)}

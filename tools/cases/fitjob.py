@@ -33,7 +33,7 @@ def job_refusals():
 
 
 def table_refusals():
-    """6, 3, 4 and 5 at byte 0, and which comes first where there are two."""
+    """6, 3, 4, 5 and 9 at byte 0, and which comes first where there are two."""
     fair = {**CASE_J, **PLAIN}
     inf = float("inf")
     yield {**fair, "zt": [[[1, 1]]]}  # 6: a column that is not below n
@@ -51,6 +51,11 @@ def table_refusals():
     yield {**fair, "family": "binomial", "link": "probit", "theta": [inf]}  # 3 before 5
     yield {**fair, "family": "gamma", "link": "probit"}  # 4 before 5
     yield {**fair, "family": "binomial", "link": "probit", "y": [1]}  # 5
+    yield {**fair, "family": "binomial", "link": "probit"}  # 5 before 9
+    yield {**fair, "link": "logit", "y": [-1]}  # 4 before 9
+    for family, link, y in (("binomial", "logit", 1.0000000000000002), ("binomial", "cloglog", -5e-324), ("poisson", "log", -5e-324), ("gamma", "inverse", 0.0), ("gamma", "log", -0.0)):
+        yield {**fair, "family": family, "link": link, "y": [y]}  # 9
+    yield {**TWO_BLOCKS, "y": [0.0, 1.0, 1.5], "weights": [1.0, 2.0, 0.0]}  # 9: a response of weight 0
 
 
 def pairs():

@@ -135,6 +135,8 @@ def refusals():
     run("sqrt", job(family="binomial", link="sqrt"))
     run("probit", job(family="binomial", link="probit"))
     run("Gamma sqrt", job(family="gamma", link="sqrt"))
+    run("Gamma of 0", job(family="gamma", link="inverse"))
+    run("above 1", job(family="binomial", link="logit"))
 
 
 def lengths():
@@ -175,4 +177,4 @@ fits()
 refusals()
 lengths()
 beside()
-assert "--stdin" in sys.argv or given == {*range(8), *range(10, 14), *range(20, 25)}
+assert "--stdin" in sys.argv or given == {*range(8), 9, *range(10, 14), *range(20, 25)}

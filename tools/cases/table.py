@@ -1,11 +1,13 @@
 #!/usr/bin/env python3
 """usage: table.py > crates/cases_table/stdout
        table.py --stdin > crates/cases_table/stdin
-What `cases_table` must print, and the calls that it is fed: document 01's table of refusals in Python, asked the same calls. Stops unless every number of the table is given."""
+What `cases_table` must print, and the calls that it is fed: document 01's table of refusals in Python with document 02's P6, asked the same calls. Stops unless every number of
+the table is given."""
 import math, struct, sys
 
 NAN, INF = math.nan, math.inf
 BIG = 1 << 63
+LEAST, MOST, BELOW_ONE, ABOVE_ONE = 5e-324, 1.7976931348623157e308, 1.0 - 2.0**-53, 1.0 + 2.0**-52
 LINKS = ["logit", "probit", "cloglog", "log", "identity", "inverse", "sqrt"]
 FAMILIES = ["binomial", "poisson", "gaussian", "gamma"]
 VALID = {"binomial": {"logit", "probit", "cloglog"}, "poisson": {"log", "identity", "sqrt"}, "gaussian": {"identity", "log", "inverse"}, "gamma": {"inverse", "identity", "log"}}
@@ -51,7 +53,12 @@ def numbers(c):
     return all(math.isfinite(x) for k in ["theta", "y", "weights", "offset", "x", "values"] for x in c[k])
 
 
-TABLE = [(1, sizes), (2, lengths), (7, work), (6, sparse), (3, numbers), (4, lambda c: c["link"] in VALID[c["family"]]), (5, lambda c: c["link"] != "probit")]
+def ranges(c):
+    test = {"binomial": lambda y: 0.0 <= y <= 1.0, "poisson": lambda y: 0.0 <= y, "gaussian": lambda y: True, "gamma": lambda y: 0.0 < y}[c["family"]]
+    return all(map(test, c["y"]))
+
+
+TABLE = [(1, sizes), (2, lengths), (7, work), (6, sparse), (3, numbers), (4, lambda c: c["link"] in VALID[c["family"]]), (5, lambda c: c["link"] != "probit"), (9, ranges)]
 
 
 def laid(size, lists):
@@ -113,10 +120,18 @@ def main():
         ask("numbers", theta=[theta], y=[1.0, 2.0, y], weights=[1.0, weight, 1.0], offset=[offset, 0.0, 0.0], x=[1.0] * 5 + [x], values=[1.0, value, 1.0])
     for family in FAMILIES:
         for link in LINKS:
-            ask("pair", family=family, link=link)
+            ask("pair", family=family, link=link, y=[0.25, 0.5, 1.0])
+    for family, link in [("binomial", "cloglog"), ("poisson", "sqrt"), ("gaussian", "identity"), ("gamma", "inverse")]:
+        for y in [-1.0, -LEAST, -0.0, 0.0, LEAST, 0.5, BELOW_ONE, 1.0, ABOVE_ONE, 2.0, MOST, -MOST]:
+            ask("range", family=family, link=link, y=[0.25, 0.5, y])
+    for at in range(3):
+        for weights in [], [float(i != at) for i in range(3)]:
+            ask("range", family="binomial", link="logit", y=[1.5 if i == at else 0.5 for i in range(3)], weights=weights)
     for n, beta, terms, column, y in [(513, 1, 6999, 3, NAN), (3, 1, 6999, 3, NAN), (3, 2, 6999, 3, NAN), (3, 2, 7000, 3, NAN), (3, 2, 7000, 2, NAN), (3, 2, 7000, 2, 2.0)]:
         ask("faults", family="gamma", link="probit", n=n, beta=beta, work_terms=terms, columns=[0, column, 1], y=[1.0, y, 3.0])
-    assert "--stdin" in sys.argv or seen == {1, 2, 3, 4, 5, 6, 7}
+    for fault in [dict(n=513), dict(beta=1), dict(work_terms=6999), dict(columns=[0, 3, 1]), dict(x=[NAN] * 6), dict(link="sqrt"), dict(link="probit"), dict(link="logit")]:
+        ask("faults", **{"family": "binomial", "link": "logit", "y": [0.5, 1.5, -1.0]} | fault)
+    assert "--stdin" in sys.argv or seen == {1, 2, 3, 4, 5, 6, 7, 9}
 
 
 if __name__ == "__main__":

@@ -3,7 +3,7 @@ class that a comparison must have met, IMPOSSIBLE those that no job can be in, w
 import math, struct
 from form import FAMILIES, LINKS
 from kinds import PAIRS
-from reader import CARRIED, VALID, parse
+from reader import CARRIED, VALID, in_range, parse
 
 ENDS = [f"end {number}" for number in (0, 10, 11, 12, 13)]
 RULES = ["one effect", "product", "joint"]
@@ -23,6 +23,7 @@ PLACES = ["header", "block", *LISTS, "count of a row", "column", "value"]
 CAUSES = [*(("1", size) for size in SIZES), ("6", "a column not below n"), ("6", "a column not above the one before"),
           *(("3", f"{kind} in {place}") for place in [*LISTS, "Z'"] for kind in ("NaN", "infinity")),
           *(("4", name_of((f, l))) for f in range(4) for l in range(7) if (f, l) not in VALID), *(("5", name_of(pair)) for pair in sorted(VALID - CARRIED)),
+          ("9", "binomial below 0"), ("9", "binomial above 1"), ("9", "poisson below 0"), ("9", "gamma below 0"), ("9", "gamma at 0"),
           *(("20", place) for place in PLACES), ("21", "version 0"), ("21", "version 2 to 15"), *(("22", place) for place in ("block", "count of a row", "column")),
           ("23", "one byte"), ("23", "more bytes"), ("24", "link 7"), ("24", "limit 1001 to 1022"), ("25", "65,537 bytes"), ("25", "more bytes")]
 
@@ -87,11 +88,16 @@ def wrong_numbers(job):
     return [f"{'NaN' if math.isnan(v) else 'infinity'} in {place}" for place, values in zip([*LISTS, "Z'"], lists) for v in values if not math.isfinite(v)]
 
 
+def wrong_responses(job):
+    names = {0: lambda y: "below 0" if y < 0.0 else "above 1", 1: lambda y: "below 0", 3: lambda y: "below 0" if y < 0.0 else "at 0"}
+    return [f"{FAMILIES[job.family]} {names[job.family](y)}" for y in job.y if not in_range(job.family, y)]
+
+
 def causes(number, byte, data):
     """What is wrong in a job that was refused with a number at a byte."""
-    if number in (3, 4, 5, 6):
+    if number in (3, 4, 5, 6, 9):
         job = parse(data)
-        return {6: wrong_columns, 3: wrong_numbers}.get(number, lambda job: [name_of((job.family, job.link))])(job)
+        return {6: wrong_columns, 3: wrong_numbers, 9: wrong_responses}.get(number, lambda job: [name_of((job.family, job.link))])(job)
     if number == 1:
         return wrong_sizes(data)
     if number in (20, 22):
@@ -112,8 +118,8 @@ WHYS = [f"why {why}" for why in range(7)]
 PARTS = {"eta": "refused for eta", "mean": "refused for a mean", "pwrss": "refused for PWRSS", "ok": "accepted"}
 FLAGS = ["flag 0, Laplace", "flag 0, quadrature", "flag 1, Laplace", "flag 1, quadrature"]
 DRESSES = ["no weights, no offset", "weights, no offset", "no weights, offset", "weights, offset"]
-GAMMA = ["a Gamma response not above 0", "a Gamma response above 0 and below E", "a Gamma mean not above 0", "Gamma weights that sum to less than 1", "a Gamma phi near E"]
-WAYS = ["steps halved", "a weight not above 0", "deviance NaN", "deviance infinite", *GAMMA]
+GAMMA = ["a Gamma response above 0 and below E", "a Gamma mean not above 0", "Gamma weights that sum to less than 1", "a Gamma phi near E"]
+WAYS = ["steps halved", "a weight not above 0", "a response at an end of its range", "deviance NaN", "deviance infinite", *GAMMA]
 
 
 def rule_of(job):
@@ -154,6 +160,7 @@ def on_the_way(job, said, deviance):
     """What else can happen in a fit that ends with 0."""
     yield from ["steps halved"] * (said["tries"] > said["solves"])
     yield from ["a weight not above 0"] * (min(job.weights or [1.0]) <= 0)
+    yield from ["a response at an end of its range"] * (job.family < 2 and (0.0 in job.y or job.family == 0 and 1.0 in job.y))
     if deviance[:3] in ("7FF", "FFF"):
         yield "deviance NaN" if deviance[3:].strip("0") else "deviance infinite"
 
@@ -161,7 +168,7 @@ def on_the_way(job, said, deviance):
 def gamma_ways(job, lines):
     """Of a fitted Gamma job what its floors change: those at E of responses, of means and of the dispersion, by the lines that were printed, and that of the weights' sum at 1."""
     (phi,), means = ([struct.unpack(">d", bytes.fromhex(line.split()[2]))[0] for line in lines if line.startswith(name)] for name in ("phi ", "mu "))
-    tests = [min(job.y) <= 0.0, any(0.0 < y < 2.0**-52 for y in job.y), min(means) <= 0.0, job.weights and 0.0 < sum(job.weights) < 1.0, phi < 2.0**-51]
+    tests = [any(0.0 < y < 2.0**-52 for y in job.y), min(means) <= 0.0, job.weights and 0.0 < sum(job.weights) < 1.0, phi < 2.0**-51]
     return [name for name, test in zip(GAMMA, tests) if test]
 
 
@@ -208,7 +215,7 @@ def classes_of(data, text):
 ROWS_AND_COLUMNS = {
     "family and link": (NAMES, ENDS), "quadrature": (NAMES, ASKED), "why": (RULES, WHYS), "dispersion": (NAMES, FLAGS), "lists": (NAMES, DRESSES),
     "largest": (NAMES, LARGEST), "limit": (LIMITS, ENDS), "tries": ([*PARTS.values()], ENDS), "inner fits": (ENDS[1:], ["in the first", "in a later one"])}
-NAMED = {"ending": [*ENDS, *(f"refused {number}" for number in [*range(1, 8), *range(20, 26)])], "refused": CAUSES,
+NAMED = {"ending": [*ENDS, *(f"refused {number}" for number in [*range(1, 8), 9, *range(20, 26)])], "refused": CAUSES,
          "order": [("Laplace", "not asked for"), *((rule, f"order {order}") for rule in RULES for order in (3, 5, 7, 9, 11)),
                    *(("declined", cause) for cause in DECLINES)],
          "on the way": WAYS}

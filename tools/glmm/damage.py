@@ -128,7 +128,7 @@ def faulty_lists(about):
 
 
 def two_of_the_table(name, about):
-    """Two faults of the table at once, of 6, 3, 4 and 5: which is first?"""
+    """Two faults of the table at once, of 6, 3, 4, 5 and 9: which is first?"""
     pairs = {"4": ("binomial", "sqrt"), "5": ("binomial", "probit"), "gamma": ("gamma", "log"), "4-5": ("poisson", "probit"), "4-5-gamma": ("gamma", "probit")}
     column = {**about, "zt": [[[len(about["y"]), about["zt"][0][0][1]], *about["zt"][0][1:]], *about["zt"][1:]]}
     for pair, (family, link) in pairs.items():
@@ -139,6 +139,24 @@ def two_of_the_table(name, about):
             yield f"{name}-table-3-{pair}-{place}", job_bytes({**faulty, **named})
     for place, faulty in faulty_lists(column):
         yield f"{name}-table-6-3-{place}", job_bytes(faulty)
+
+
+def responses(name, about):
+    """Each response in turn at the ends of the ranges, next to them, and below and above; with each family, and with a fault that comes first."""
+    column = {"zt": [[[len(about["y"]), about["zt"][0][0][1]], *about["zt"][0][1:]], *about["zt"][1:]]}
+    pairs = {"binomial": "logit", "poisson": "log", "gaussian": "identity", "gamma": "log"}
+    for at in range(len(about["y"])):
+        for value in (0.0, -0.0, 5e-324, -5e-324, 1.0, 0.9999999999999999, 1.0000000000000002, 1.02, -1.0):
+            other = {**about, "y": [value if i == at else 0.5 for i in range(len(about["y"]))]}
+            for family, link in pairs.items():
+                yield f"{name}-response-{at}-{value}-{family}", job_bytes({**other, "family": family, "link": link})
+    for family in ("binomial", "poisson", "gamma"):
+        low = {**about, "family": family, "link": pairs[family], "y": [-1.0, *about["y"][1:]]}
+        yield f"{name}-table-6-9-{family}", job_bytes({**low, **column})
+        yield f"{name}-table-4-9-{family}", job_bytes({**low, "link": "inverse" if family != "gamma" else "sqrt"})
+        for place, faulty in faulty_lists(low):
+            yield f"{name}-table-3-9-{family}-{place}", job_bytes(faulty)
+    yield f"{name}-table-5-9", job_bytes({**about, "family": "binomial", "link": "probit", "y": [2.0, *about["y"][1:]]})
 
 
 def all_blocks():
@@ -176,7 +194,7 @@ def damaged_jobs():
         data = job_bytes(about)
         for family in (cuts, surplus, fields, pairs):
             yield from family(name, data)
-        for family in (spare_bits, counts_and_columns, block_sizes, not_finite, two_faults, two_of_the_table):
+        for family in (spare_bits, counts_and_columns, block_sizes, not_finite, two_faults, two_of_the_table, responses):
             yield from family(name, about)
     yield from all_blocks()
     yield from observations()

@@ -384,10 +384,11 @@ def reaching(r):
 
 
 def out_of_range(r):
-    """Responses outside the family's range: NaN deviances, logarithms of nothing."""
+    """Responses outside the family's range, at its ends, or so near to nothing that their logarithm is."""
     about = r.choice([plain, scalar, product, joint])(r)
+    values = r.choice([[-1.0, -0.25, -1e-3, -5e-324], [1.5, 2.0, 1.02, 1.0000000000000002], [-0.0, 0.0, 1.0], [1e-320, 5e-324]])
     for _ in range(r.randint(1, 2)):
-        about["y"][r.randrange(len(about["y"]))] = r.choice([-1.0, -0.25, 1.5, 2.0, -0.0, 1e-320, 5e-324, -1e-3])
+        about["y"][r.randrange(len(about["y"]))] = r.choice(values)
     return about
 
 
@@ -421,9 +422,9 @@ def gamma(r):
 
 
 def refused(r):
-    """One fault of the table: 1, 6, 3, 4 or 5; or two of them."""
+    """One fault of the table: 1, 6, 3, 4, 5 or 9; or two of them."""
     about = plain(r)
-    for fault in r.sample([bad_size, bad_columns, bad_number, bad_pair, not_carried], r.choice([1, 1, 1, 2])):
+    for fault in r.sample([bad_size, bad_columns, bad_number, bad_pair, not_carried, bad_response], r.choice([1, 1, 1, 2])):
         fault(r, about)
     return about
 
@@ -453,6 +454,11 @@ def bad_number(r, about):
 def bad_pair(r, about):
     about["family"], about["link"] = r.choice([("binomial", "log"), ("binomial", "sqrt"), ("poisson", "logit"), ("poisson", "inverse"), ("gaussian", "sqrt"),
                                                ("gaussian", "probit"), ("gamma", "logit"), ("gamma", "sqrt")])
+
+
+def bad_response(r, about):
+    """A number that binomial, Poisson and Gamma responses cannot be."""
+    about["y"][r.randrange(len(about["y"]))] = r.choice([-1.0, -1e-3, -5e-324])
 
 
 def not_carried(r, about):

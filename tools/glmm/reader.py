@@ -86,8 +86,13 @@ def read_rows(bits, job):
         job.zt.append(row)
 
 
+def in_range(family, y):
+    """Whether a family is for such a response (document 02, P6): binomial from 0 to 1, Poisson from 0 on, Gaussian any, Gamma above 0."""
+    return [0.0 <= y <= 1.0, 0.0 <= y, True, 0.0 < y][family]
+
+
 def check_table(job):
-    """Refusals 6, 3, 4 and 5; 1 was tested before, and 2 and 7 cannot come from a job."""
+    """Refusals 6, 3, 4, 5 and 9; 1 was tested before, and 2 and 7 cannot come from a job."""
     for row in job.zt:
         columns = [column for column, _ in row]
         if any(c >= job.n for c in columns) or any(c >= d for c, d in zip(columns, columns[1:])):
@@ -99,6 +104,8 @@ def check_table(job):
         raise Refused(4, 0)
     if (job.family, job.link) not in CARRIED:
         raise Refused(5, 0)
+    if not all(in_range(job.family, y) for y in job.y):
+        raise Refused(9, 0)
 
 
 def parse(data):

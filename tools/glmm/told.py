@@ -212,7 +212,7 @@ def warnings(job, counts, lists, names):
     if 1 < order != job.n_agq:
         yield f"n_agq {job.n_agq} was wished, order {order} was used."
     if not math.isfinite(deviance):
-        yield "the deviance is not finite: a response is outside the family's range, or a Gaussian or Gamma fit has no residual left."
+        yield "the deviance is not finite: a Gaussian or Gamma fit has no residual left, a weight is enormous, or a Poisson response is next to 0."
     if FAMILIES[job.family] == "gamma" and not min(lists["mu"]) > 0:
         yield "a mean is not above 0, which no Gamma response can have: in variance, deviance and AIC it counts as 2^-52. Take the log link."
     step = next_step(job, lists)

@@ -9,3 +9,4 @@ pub mod Unique
 pub mod Stopped
 pub mod Whys
 pub mod When
+pub mod Ranged

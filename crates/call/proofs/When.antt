@@ -8,7 +8,7 @@ use Rattle.model.specs.Inputs.{Inputs}
 use Rattle.model.specs.Items.{tally}
 use Rattle.model.specs.declared.counts.Account.{Account}
 use Rattle.model.specs.declared.ends.Refusal.{Refusal}
-use Rattle.model.specs.declared.ends.Refusal.the-variants.{OutOfRange, Lengths, Work, SparseRows, NotFinite, LinkForFamily, NotCarried}
+use Rattle.model.specs.declared.ends.Refusal.the-variants.{OutOfRange, Lengths, Work, SparseRows, NotFinite, LinkForFamily, NotCarried, ResponseRange}
 use Rattle.model.specs.declared.sizes.Shape.{Shape}
 use Rattle.model.specs.declared.sizes.Settings.{Settings}
 use Rattle.model.proofs.Answers.{refusal-range, end-range}
@@ -27,7 +27,8 @@ refusalOf (suc (suc (suc zero))) = NotFinite
 refusalOf (suc (suc (suc (suc zero)))) = LinkForFamily
 refusalOf (suc (suc (suc (suc (suc zero))))) = NotCarried
 refusalOf (suc (suc (suc (suc (suc (suc zero)))))) = SparseRows
-refusalOf (suc (suc (suc (suc (suc (suc (suc n))))))) = Work
+refusalOf (suc (suc (suc (suc (suc (suc (suc zero))))))) = Work
+refusalOf (suc (suc (suc (suc (suc (suc (suc (suc n)))))))) = ResponseRange
 refusalOf zero = OutOfRange
 refusalOf (suc zero) = OutOfRange
 
@@ -39,6 +40,7 @@ refusal-back SparseRows = refl
 refusal-back NotFinite = refl
 refusal-back LinkForFamily = refl
 refusal-back NotCarried = refl
+refusal-back ResponseRange = refl
 
 pub same-refusal : (x y : Refusal) → refusalNumber x ≡ refusalNumber y → x ≡ y
 same-refusal x y e = sym (refusal-back x) ∙ (ap refusalOf e ∙ refusal-back y)

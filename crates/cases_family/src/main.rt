@@ -63,7 +63,7 @@ const VALUES: [u64; 54] = [
 ];
 
 // Responses within the families' ranges, at their ends and outside.
-const RESPONSES: [u64; 18] = [
+const RESPONSES: [u64; 19] = [
     0x7ff8_0000_0000_0000,
     0x7ff0_0000_0000_0000,
     0xfff0_0000_0000_0000,
@@ -74,6 +74,7 @@ const RESPONSES: [u64; 18] = [
     0x3fd0_0000_0000_0000,
     0x3fe0_0000_0000_0000,
     0x3fef_ffff_ffff_fffe,
+    0x3fef_ffff_ffff_ffff,
     0x3ff0_0000_0000_0000,
     0x3ff0_0000_0000_0001,
     0x3ff8_0000_0000_0000,
@@ -231,10 +232,26 @@ fn with_each_mean(y: f64) {
     }
 }
 
+// Whether each family is for such a response.
+fn range_line(y: f64) {
+    text::put_word(b"range");
+    text::put_double(y);
+    text::put_test(family::in_range(CarriedFamily::Binomial, y));
+    text::put_test(family::in_range(CarriedFamily::Poisson, y));
+    text::put_test(family::in_range(CarriedFamily::Gaussian, y));
+    text::put_test(family::in_range(CarriedFamily::Gamma, y));
+    text::end_line();
+}
+
+fn response_lines(y: f64) {
+    range_line(y);
+    with_each_mean(y);
+}
+
 fn responses() {
     let mut i = 0;
-    while i < 18 {
-        with_each_mean(base::double(RESPONSES[i]));
+    while i < 19 {
+        response_lines(base::double(RESPONSES[i]));
         i += 1;
     }
 }

@@ -159,7 +159,8 @@ fn next_refusal() -> Refusal {
         3 => Refusal::SparseRows,
         4 => Refusal::NotFinite,
         5 => Refusal::LinkForFamily,
-        _ => Refusal::NotCarried,
+        6 => Refusal::NotCarried,
+        _ => Refusal::ResponseRange,
     }
 }
 

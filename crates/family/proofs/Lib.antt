@@ -3,5 +3,6 @@ pub mod Cases
 pub mod MeanRange
 pub mod Floors
 pub mod OutOfRange
+pub mod InRange
 pub mod ValidPairs
 pub mod Values

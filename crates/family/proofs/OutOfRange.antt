@@ -9,7 +9,7 @@ use Rattle.family.specs.declared.carried.CarriedFamily.the-variants.{Bin
 use Rattle.base.proofs.Doubles.{times-nan}
 use Rattle.base.proofs.Order.{below-not-from}
 
-not-a-proportion : (y mu w : Float) → proportion y ≡ false → devResid Binomial y mu w ≡ nan
+pub not-a-proportion : (y mu w : Float) → proportion y ≡ false → devResid Binomial y mu w ≡ nan
 unfolding devResid
 not-a-proportion y mu w h = rw h
 

@@ -36,6 +36,13 @@ gammaTerm y m = neg (lnOf (y ⊘ m)) ⊕ (y ⊖ m) ⊘ m
 unfoldable pub proportion : Float → Bool
 proportion y = le zeroF y && le y oneF
 
+-- the responses that a family is for: proportions, counts from 0 on, every number, what is above 0. Document 02, P6; the comparisons are the doubles', so -0.0 counts as 0
+unfoldable pub inRange : CarriedFamily → Float → Bool
+inRange Binomial y = proportion y
+inRange Poisson y = le zeroF y
+inRange Gaussian y = true
+inRange Gamma y = lt zeroF y
+
 -- `dev_resid`: what a response y with mean mu and weight w adds to the deviance; NaN outside the family's range, but of a NaN response Gamma makes a number, as `max` drops it
 unfoldable pub devResid : CarriedFamily → Float → Float → Float → Float
 devResid Binomial y mu w = cond (proportion y) (twoF ⊗ w ⊗ binomialTerm y (clampE mu)) nan

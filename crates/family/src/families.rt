@@ -7,7 +7,7 @@ use base::max;
 use elementary::ln;
 use log_gamma::ln_gamma;
 ghost use mathlib.Core.Path.{_≡_};
-ghost use Rattle.family.specs.Family.{varianceOf, successTerm, binomialTerm, poissonTerm, gammaTerm, proportion, devResid, initializeMu, usesDispersion, hasDensity, lnDgamma};
+ghost use Rattle.family.specs.Family.{varianceOf, successTerm, binomialTerm, poissonTerm, gammaTerm, proportion, inRange, devResid, initializeMu, usesDispersion, hasDensity, lnDgamma};
 
 // The variance of a response with mean mu, up to the dispersion.
 pub fn variance(family: CarriedFamily, mu: f64) -> f64
@@ -74,6 +74,18 @@ fn is_proportion(y: f64) -> bool
         return y <= 1.0;
     }
     false
+}
+
+// Whether the family is for such a response.
+pub fn in_range(family: CarriedFamily, y: f64) -> bool
+    ensures { λ r. ⌜ r ≡ inRange family y ⌝ }
+{
+    match family {
+        CarriedFamily::Binomial => is_proportion(y),
+        CarriedFamily::Poisson => 0.0 <= y,
+        CarriedFamily::Gaussian => true,
+        CarriedFamily::Gamma => 0.0 < y,
+    }
 }
 
 // The deviance of a binomial response; NaN of one that is not from 0 to 1.

@@ -12,6 +12,7 @@ pub use carried::default_for;
 pub use carried::link_of;
 pub use carried::valid_for;
 pub use families::dev_resid;
+pub use families::in_range;
 pub use families::initialize_mu;
 pub use families::ln_dgamma;
 pub use families::uses_dispersion;

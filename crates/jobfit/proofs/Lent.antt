@@ -13,7 +13,7 @@ use Rattle.base.specs.Number.{zeroF}
 use Rattle.model.specs.Answer.{refusalNumber}
 use Rattle.model.specs.declared.ends.Answer.{Answer}
 use Rattle.model.specs.declared.ends.Refusal.{Refusal}
-use Rattle.model.specs.declared.ends.Refusal.the-variants.{OutOfRange, Lengths, Work, SparseRows, NotFinite, LinkForFamily, NotCarried}
+use Rattle.model.proofs.Answers.{refusal-range}
 use Rattle.model.specs.declared.sizes.Shape.{Shape}
 use Rattle.model.specs.declared.sizes.Settings.{Settings}
 use Rattle.job.specs.Lists.{laid}
@@ -116,13 +116,7 @@ module _ (t : Settings) (rows matrices terms results : List Float) (w : ℕ) (fe
 
 -- ---- a call without beta is refused
 pub refusal-some : (r : Refusal) → refusalNumber r ≡ 0 → ⊥
-refusal-some OutOfRange e = absurd (omega arith)
-refusal-some Lengths e = absurd (omega arith)
-refusal-some Work e = absurd (omega arith)
-refusal-some SparseRows e = absurd (omega arith)
-refusal-some NotFinite e = absurd (omega arith)
-refusal-some LinkForFamily e = absurd (omega arith)
-refusal-some NotCarried e = absurd (omega arith)
+refusal-some r e = omega (arith, refusal-range r .0, e)
 
 pub fitted-beta : (t : Settings) (s : Shape) (I : Inputs) (L : Lent) → callOf t s I L .answer .number ≡ 0 → 1 ≤ length (L .results .beta)
 unfolding lengthsOf

@@ -9,10 +9,10 @@ use Rattle.model.specs.declared.ends.Answer.{Answer}
 use Rattle.model.specs.declared.ends.End.{End}
 use Rattle.model.specs.declared.ends.End.the-variants.{SystemPivot, NormalPivot, NoStep, NoStop}
 use Rattle.model.specs.declared.ends.Refusal.{Refusal}
-use Rattle.model.specs.declared.ends.Refusal.the-variants.{OutOfRange, Lengths, Work, SparseRows, NotFinite, LinkForFamily, NotCarried}
+use Rattle.model.specs.declared.ends.Refusal.the-variants.{OutOfRange, Lengths, Work, SparseRows, NotFinite, LinkForFamily, NotCarried, ResponseRange}
 
--- refusals are 1 to 7
-pub refusal-range : (r : Refusal) → (1 ≤ refusalNumber r) × (refusalNumber r ≤ 7)
+-- refusals are 1 to 9
+pub refusal-range : (r : Refusal) → (1 ≤ refusalNumber r) × (refusalNumber r ≤ 9)
 refusal-range OutOfRange = (omega arith, omega arith)
 refusal-range Lengths = (omega arith, omega arith)
 refusal-range Work = (omega arith, omega arith)
@@ -20,6 +20,7 @@ refusal-range SparseRows = (omega arith, omega arith)
 refusal-range NotFinite = (omega arith, omega arith)
 refusal-range LinkForFamily = (omega arith, omega arith)
 refusal-range NotCarried = (omega arith, omega arith)
+refusal-range ResponseRange = (omega arith, omega arith)
 
 -- ends without a result are 10 to 13
 pub end-range : (e : End) → (10 ≤ endNumber e) × (endNumber e ≤ 13)

@@ -1,4 +1,4 @@
--- How a call can end, and the record that it answers. Document 01, "Numbers of an answer"; document 02, P5. Assumes nothing.
+-- How a call can end, and the record that it answers. Document 01, "Numbers of an answer"; document 02, P5 and P6. Assumes nothing.
 use mathlib.Core.Path.{_≡_}
 use mathlib.Core.Bool.{Bool, true, false}
 use Prim.Native.Nat.{ℕ}
@@ -10,7 +10,7 @@ use Rattle.model.specs.declared.ends.Answer.{Answer}
 use Rattle.model.specs.declared.ends.End.{End}
 use Rattle.model.specs.declared.ends.End.the-variants.{SystemPivot, NormalPivot, NoStep, NoStop}
 use Rattle.model.specs.declared.ends.Refusal.{Refusal}
-use Rattle.model.specs.declared.ends.Refusal.the-variants.{OutOfRange, Lengths, Work, SparseRows, NotFinite, LinkForFamily, NotCarried}
+use Rattle.model.specs.declared.ends.Refusal.the-variants.{OutOfRange, Lengths, Work, SparseRows, NotFinite, LinkForFamily, NotCarried, ResponseRange}
 
 -- the number under which each end without a result is told
 abbrev pub endNumber : End → ℕ
@@ -28,6 +28,7 @@ refusalNumber SparseRows = 6
 refusalNumber NotFinite = 3
 refusalNumber LinkForFamily = 4
 refusalNumber NotCarried = 5
+refusalNumber ResponseRange = 9
 
 -- an answer without a result tells its number and its account, and is zero everywhere else
 abbrev pub blankAnswer : ℕ → Account → Answer

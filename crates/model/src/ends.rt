@@ -31,6 +31,8 @@ pub enum Refusal {
     LinkForFamily,
     // They go together, but the port does not carry one of them.
     NotCarried,
+    // Some response lies outside its family's range.
+    ResponseRange,
 }
 
 // What a call answers beside the lent results. `why` is 0 where a rule of that order was used, else the
@@ -70,6 +72,7 @@ pub fn refusal_number(refusal: Refusal) -> usize
         Refusal::NotFinite => 3,
         Refusal::LinkForFamily => 4,
         Refusal::NotCarried => 5,
+        Refusal::ResponseRange => 9,
     }
 }
 

@@ -1,7 +1,9 @@
 -- Each line of the table: which refusal is given exactly when, and what an accepted call has. Assumes nothing.
 use mathlib.Core.Path.{_≡_, refl, sym, ap, _∙_}
 use mathlib.Core.Bool.{Bool, true, false, _&&_}
+use mathlib.Core.List.{List}
 use Prim.Native.Nat.{ℕ}
+use lib.Ieee.{Float}
 use Rattle.base.specs.Sparse.{goodRows}
 use Rattle.base.proofs.Doubles.{ff}
 use Rattle.base.proofs.SparseRows.{good-rows}
@@ -11,7 +13,7 @@ use Rattle.model.specs.declared.names.Link.{Link}
 use Rattle.model.specs.declared.sizes.Shape.{Shape}
 use Rattle.model.specs.declared.sizes.Settings.{Settings}
 use Rattle.model.specs.declared.ends.Refusal.{Refusal}
-use Rattle.model.specs.declared.ends.Refusal.the-variants.{OutOfRange, Lengths, Work, SparseRows, NotFinite, LinkForFamily, NotCarried}
+use Rattle.model.specs.declared.ends.Refusal.the-variants.{OutOfRange, Lengths, Work, SparseRows, NotFinite, LinkForFamily, NotCarried, ResponseRange}
 use Rattle.model.proofs.Sized.{sized}
 use Rattle.model.proofs.Tests.{both}
 use Rattle.family.specs.Carried.{carriedFamily, carriedLink, validFor}
@@ -19,14 +21,14 @@ use Rattle.family.specs.declared.carried.CarriedFamily.{CarriedFamily}
 use Rattle.family.specs.declared.carried.CarriedLink.{CarriedLink}
 use Rattle.family.specs.declared.carried.LinkCarried.{LinkCarried}
 use Rattle.family.specs.declared.carried.LinkCarried.the-variants as linkCarried
-use Rattle.table.specs.Tests.{goodInputs, goodResults, goodWork, goodNumbers}
+use Rattle.table.specs.Tests.{goodInputs, goodResults, goodWork, goodNumbers, allInRange}
 use Rattle.model.specs.Inputs.{Inputs}
-use Rattle.table.specs.Table.{refuseUnless, withLink, carriedPair, tableOf}
+use Rattle.table.specs.Table.{refuseUnless, withLink, carriedPair, rangeTested, tableOf}
 use Rattle.table.specs.Facts.{Sound}
 use Rattle.table.specs.declared.verdicts.LentLengths.{LentLengths}
 use Rattle.table.specs.declared.verdicts.Verdict.{Verdict}
 use Rattle.table.specs.declared.verdicts.Verdict.the-variants.{Accepted, Refused}
-use Rattle.table.proofs.Meant.{inputs-fit, results-fit, work-fits, numbers-finite}
+use Rattle.table.proofs.Meant.{inputs-fit, results-fit, work-fits, numbers-finite, list-in-range}
 
 -- ---- the lines, from the first to the last
 module _ (r : ℕ) (t : Settings) (s : Shape) (I : Inputs) (L : LentLengths) where
@@ -64,11 +66,11 @@ module _ (r : ℕ) (t : Settings) (s : Shape) (I : Inputs) (L : LentLengths) whe
               unfolding tableOf refuseUnless
               line-4 a = rw (sizes, lent, results, work, rows, numbers, a) refl
 
-              pub line-5 : validFor (t .link) (t .family) ≡ true → tableOf r t s I L ≡ carriedPair (t .family) (t .link)
+              pub last-lines : validFor (t .link) (t .family) ≡ true → tableOf r t s I L ≡ rangeTested (I .y) (carriedPair (t .family) (t .link))
               unfolding tableOf refuseUnless
-              line-5 a = rw (sizes, lent, results, work, rows, numbers, a) refl
+              last-lines a = rw (sizes, lent, results, work, rows, numbers, a) refl
 
--- ---- the last line
+-- ---- number 5
 module _ (family : Family) (link : Link) where
   pub no-link : carriedLink link ≡ linkCarried.NotYet → carriedPair family link ≡ Refused NotCarried
   unfolding carriedPair withLink
@@ -77,6 +79,21 @@ module _ (family : Family) (link : Link) where
   pub both-carried : (f : CarriedFamily) (l : CarriedLink) → carriedFamily family ≡ f → carriedLink link ≡ linkCarried.Carried l → carriedPair family link ≡ Accepted f l
   unfolding carriedPair withLink
   both-carried f l a b = rw (b, a) refl
+
+-- ---- number 9
+module _ (y : List Float) (f : CarriedFamily) (l : CarriedLink) where
+  pub out-of-range : allInRange y f ≡ false → rangeTested y (Accepted f l) ≡ Refused ResponseRange
+  unfolding rangeTested refuseUnless
+  out-of-range a = rw a refl
+
+  pub in-range : allInRange y f ≡ true → rangeTested y (Accepted f l) ≡ Accepted f l
+  unfolding rangeTested refuseUnless
+  in-range a = rw a refl
+
+-- a refusal of an earlier line stays
+pub range-after : (y : List Float) (refusal : Refusal) → rangeTested y (Refused refusal) ≡ Refused refusal
+unfolding rangeTested
+range-after y refusal = refl
 
 -- ---- an accepted call passed every test
 -- a verdict accepts
@@ -105,6 +122,14 @@ unfolding withLink
 last-line g (linkCarried.Carried k) f l e = (ap (familyIn f) e, ap (λ (x : Verdict). linkCarried.Carried (linkIn l x)) e)
 last-line g linkCarried.NotYet f l e = absurd (ff (ap isAccepted e))
 
+pub range-passed : (y : List Float) (v : Verdict) (f : CarriedFamily) (l : CarriedLink) → rangeTested y v ≡ Accepted f l → (v ≡ Accepted f l) × (allInRange y f ≡ true)
+unfolding rangeTested
+range-passed y (Accepted g k) f l e =
+    let p = passed (allInRange y g) ResponseRange (Accepted g k) f l e in
+    let same : g ≡ f = ap (familyIn f) (p .1) in
+    (p .1, rw same at (p .0))
+range-passed y (Refused refusal) f l e = absurd (ff (ap isAccepted e))
+
 pub accepted-sound : (r : ℕ) (t : Settings) (s : Shape) (I : Inputs) (L : LentLengths) (f : CarriedFamily) (l : CarriedLink) → tableOf r t s I L ≡ Accepted f l → Sound r t s I L f l
 unfolding tableOf carriedPair
 accepted-sound r t s I L f l e =
@@ -114,7 +139,8 @@ accepted-sound r t s I L f l e =
     let d = passed (goodRows (I .starts) (I .columns) (t .rows) (t .n)) SparseRows _ f l (c .1) in
     let g = passed (goodNumbers I) NotFinite _ f l (d .1) in
     let h = passed (validFor (t .link) (t .family)) LinkForFamily _ f l (g .1) in
-    let k = last-line (carriedFamily (t .family)) (carriedLink (t .link)) f l (h .1) in
+    let o = range-passed (I .y) (carriedPair (t .family) (t .link)) f l (h .1) in
+    let k = last-line (carriedFamily (t .family)) (carriedLink (t .link)) f l (o .0) in
     let m : (goodInputs r t s I ≡ true) × (goodResults r t L ≡ true) = both (b .0) in
     let n = inputs-fit r t s I (m .0) in
     record {
@@ -127,4 +153,5 @@ accepted-sound r t s I L f l e =
       valid = h .0;
       family = k .0;
       link = k .1;
+      ranged = list-in-range f (I .y) (o .1);
     }

@@ -2,16 +2,17 @@
 use mathlib.Core.Path.{_≡_, refl, sym, _∙_}
 use mathlib.Core.List.{List}
 use mathlib.Core.Logic.{_↔_}
-use mathlib.Core.Bool.{true, false}
+use mathlib.Core.Bool.{Bool, true, false}
 use Prim.Native.Nat.{ℕ, zero, suc, _+_, _-_, _*_, _<_}
 use native.Mathlib.Omega.{arith}
 use borrow.Author.Tests.{le-leb, lt-ltb, eq-eqb, ne-eqb, eqb-true}
 use lib.Dec.{eqb}
 use lib.ListN.{length}
 use lib.Ieee.{Float}
-use Rattle.base.specs.Sum.{_!!_, allTo, finiteAt}
+use Rattle.base.specs.Sum.{_!_, _!!_, allTo, finiteAt}
 use Rattle.base.specs.Sparse.{notFalling, goodStarts, columnFits, goodColumns, goodRow, goodRows, Rising}
-use Rattle.base.proofs.Sums.{all-at, all-of}
+use Rattle.base.proofs.Doubles.{ff}
+use Rattle.base.proofs.Sums.{all-at, all-of, all-fails}
 use Rattle.base.proofs.SparseRows.{starts-step, starts-within, columns-rising}
 use Rattle.model.specs.Inputs.{Inputs}
 use Rattle.model.specs.Settings.{goodSizes, Sized}
@@ -20,10 +21,12 @@ use Rattle.model.specs.declared.sizes.Settings.{Settings}
 use Rattle.model.proofs.Sized.{sized, sized-when}
 use Rattle.model.proofs.Tests.{both, joined}
 use Rattle.layout.specs.WorkTerms.{termsLength}
-use Rattle.table.specs.Tests.{goodInputs, goodResults, goodWork, allFinite, finiteNumbers, goodNumbers}
-use Rattle.table.specs.Facts.{InputsFit, ResultsFit, WorkFits, RowsFit, AllFinite, NumbersFinite}
+use Rattle.family.specs.Family.{inRange}
+use Rattle.family.specs.declared.carried.CarriedFamily.{CarriedFamily}
+use Rattle.table.specs.Tests.{goodInputs, goodResults, goodWork, allFinite, finiteNumbers, goodNumbers, inRangeAt, allInRange}
+use Rattle.table.specs.Facts.{InputsFit, ResultsFit, WorkFits, RowsFit, AllFinite, AllInRange, NumbersFinite}
 use Rattle.table.specs.declared.verdicts.LentLengths.{LentLengths}
-use Rattle.table.proofs.Meant.{or-absent, inputs-fit, inputs-when, results-fit, results-when, work-fits, work-when, numbers-finite}
+use Rattle.table.proofs.Meant.{or-absent, inputs-fit, inputs-when, results-fit, results-when, work-fits, work-when, numbers-finite, list-in-range}
 
 -- ---- number 1
 pub sizes-exactly : (t : Settings) (s : Shape) → (goodSizes t s ≡ true) ↔ Sized t s
@@ -93,3 +96,23 @@ numbers-exactly I = (
   numbers-finite I,
   λ z. rw (list-told (I .theta) (z .theta), list-told (I .y) (z .y), list-told (I .weights) (z .weights), list-told (I .offset) (z .offset), list-told (I .x) (z .x), list-told (I .values) (z .values)) refl,
 )
+
+-- ---- number 9
+pub range-exactly : (f : CarriedFamily) (y : List Float) → (allInRange y f ≡ true) ↔ AllInRange f y
+unfolding allInRange
+range-exactly f y = (list-in-range f y, λ h. sym (all-of (inRangeAt f y) (length y) h))
+
+-- a test of all that fails, fails of one
+one-fails : (t : ℕ → Bool) (n : ℕ) → allTo n t ≡ false → (k : ℕ) × ((k < n) × (t k ≡ false))
+unfolding allTo
+one-fails t zero e = absurd (ff (sym e))
+one-fails t (suc n) e = by (allTo n t) refl (one-fails t n)
+  where
+    by : (b : Bool) → allTo n t ≡ b → (allTo n t ≡ false → (k : ℕ) × ((k < n) × (t k ≡ false))) → (k : ℕ) × ((k < suc n) × (t k ≡ false))
+    by true h before = (n, (omega arith, rw h at e))
+    by false h before = let k = before h in (k .0, (omega (arith, k .1 .0), k .1 .1))
+
+-- some response is outside
+pub outside-exactly : (f : CarriedFamily) (y : List Float) → (allInRange y f ≡ false) ↔ ((i : ℕ) × ((i < length y) × (inRange f (y ! i) ≡ false)))
+unfolding allInRange
+outside-exactly f y = (one-fails (inRangeAt f y) (length y), λ h. sym (all-fails (inRangeAt f y) (length y) (h .0) (h .1 .0) (h .1 .1)))

@@ -15,12 +15,13 @@ use Rattle.model.specs.Shape.{thetaLength}
 use Rattle.model.specs.declared.sizes.Shape.{Shape}
 use Rattle.model.specs.declared.sizes.Settings.{Settings}
 use Rattle.model.proofs.Tests.{both, false-unless}
+use Rattle.family.specs.declared.carried.CarriedFamily.{CarriedFamily}
 use Rattle.layout.specs.WorkRows.{rowsLength}
 use Rattle.layout.specs.WorkMatrices.{matricesLength}
 use Rattle.layout.specs.WorkTerms.{termsLength}
-use Rattle.table.specs.Tests.{absentOr, goodInputs, goodResults, goodWork, allFinite, finiteNumbers, goodNumbers}
+use Rattle.table.specs.Tests.{absentOr, goodInputs, goodResults, goodWork, allFinite, finiteNumbers, goodNumbers, inRangeAt, allInRange}
 use Rattle.model.specs.Inputs.{Inputs}
-use Rattle.table.specs.Facts.{AbsentOr, InputsFit, ResultsFit, WorkFits, AllFinite, NumbersFinite}
+use Rattle.table.specs.Facts.{AbsentOr, InputsFit, ResultsFit, WorkFits, AllFinite, AllInRange, NumbersFinite}
 use Rattle.table.specs.declared.verdicts.LentLengths.{LentLengths}
 
 -- ---- lists that may be absent
@@ -127,6 +128,11 @@ not-work t L h = false-unless (λ e. h (work-fits t L e))
 pub work-when : (t : Settings) (L : LentLengths) → rowsLength (t .n) ≤ L .rows → matricesLength (t .p) (t .rows) ≤ L .matrices → leb termsLength (L .terms) ≡ goodWork t L
 unfolding goodWork
 work-when t L a b = rw (le-leb (rowsLength (t .n)) (L .rows) a, le-leb (matricesLength (t .p) (t .rows)) (L .matrices) b) refl
+
+-- ---- number 9
+pub list-in-range : (f : CarriedFamily) (y : List Float) → allInRange y f ≡ true → AllInRange f y
+unfolding allInRange
+list-in-range f y e = all-at (inRangeAt f y) (length y) (sym e)
 
 -- ---- number 3
 finite-list : (xs : List Float) → allFinite xs ≡ true → AllFinite xs

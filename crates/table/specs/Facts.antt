@@ -16,6 +16,7 @@ use Rattle.model.specs.declared.sizes.Settings.{Settings}
 use Rattle.layout.specs.WorkRows.{rowsLength}
 use Rattle.layout.specs.WorkMatrices.{matricesLength}
 use Rattle.layout.specs.WorkTerms.{termsLength}
+use Rattle.family.specs.Family.{inRange}
 use Rattle.family.specs.Carried.{carriedFamily, carriedLink, validFor}
 use Rattle.family.specs.declared.carried.CarriedFamily.{CarriedFamily}
 use Rattle.family.specs.declared.carried.CarriedLink.{CarriedLink}
@@ -66,7 +67,11 @@ pub record RowsFit (t : Settings) (I : Inputs) : Type 0 where
 abbrev pub AllFinite : List Float → Type 0
 AllFinite xs = (i : ℕ) → i < length xs → finite (xs ! i) ≡ true
 
--- every input number is
+-- every response lies in the family's range
+abbrev pub AllInRange : CarriedFamily → List Float → Type 0
+AllInRange f y = (i : ℕ) → i < length y → inRange f (y ! i) ≡ true
+
+-- every input number is finite
 pub record NumbersFinite (I : Inputs) : Type 0 where
   pub theta : AllFinite (I .theta)
   pub y : AllFinite (I .y)
@@ -86,3 +91,4 @@ pub record Sound (r : ℕ) (t : Settings) (s : Shape) (I : Inputs) (L : LentLeng
   pub valid : validFor (t .link) (t .family) ≡ true
   pub family : carriedFamily (t .family) ≡ f
   pub link : carriedLink (t .link) ≡ linkCarried.Carried l
+  pub ranged : AllInRange f (I .y)

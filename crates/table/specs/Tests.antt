@@ -1,11 +1,11 @@
--- The tests of the table, but that of the sizes (number 1, `goodSizes` of model) and that of Z' (number 6, `goodRows` of base). Document 01, "Numbers of an answer" and "What the port carries". Assumes nothing.
+-- The tests of the table, but that of the sizes (number 1, `goodSizes` of model) and that of Z' (number 6, `goodRows` of base). Document 01, "Numbers of an answer" and "What the port carries"; document 02, P6. Assumes nothing.
 use mathlib.Core.List.{List}
 use mathlib.Core.Bool.{Bool, _&&_, _||_}
 use Prim.Native.Nat.{ℕ, _+_, _*_}
 use lib.Dec.{leb, eqb}
 use lib.ListN.{length}
 use lib.Ieee.{Float}
-use Rattle.base.specs.Sum.{allTo, finiteAt}
+use Rattle.base.specs.Sum.{_!_, allTo, finiteAt}
 use Rattle.model.specs.Inputs.{Inputs}
 use Rattle.model.specs.Shape.{thetaLength}
 use Rattle.model.specs.declared.sizes.Shape.{Shape}
@@ -13,6 +13,8 @@ use Rattle.model.specs.declared.sizes.Settings.{Settings}
 use Rattle.layout.specs.WorkRows.{rowsLength}
 use Rattle.layout.specs.WorkMatrices.{matricesLength}
 use Rattle.layout.specs.WorkTerms.{termsLength}
+use Rattle.family.specs.Family.{inRange}
+use Rattle.family.specs.declared.carried.CarriedFamily.{CarriedFamily}
 use Rattle.table.specs.declared.verdicts.LentLengths.{LentLengths}
 
 -- ---- number 2, with r responses on one design
@@ -52,3 +54,13 @@ finiteNumbers theta y weights offset x values = allFinite theta && allFinite y &
 -- no input number is NaN or infinite
 abbrev pub goodNumbers : Inputs → Bool
 goodNumbers I = finiteNumbers (I .theta) (I .y) (I .weights) (I .offset) (I .x) (I .values)
+
+-- ---- number 9
+
+-- response i lies in the family's range
+abbrev pub inRangeAt : CarriedFamily → List Float → ℕ → Bool
+inRangeAt f y i = inRange f (y ! i)
+
+-- every response does
+unfoldable pub allInRange : List Float → CarriedFamily → Bool
+allInRange y f = allTo (length y) (inRangeAt f y)

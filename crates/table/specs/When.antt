@@ -1,4 +1,4 @@
--- When each number of the table is given: its own test fails and every test before it is passed. Document 01, "Numbers of an answer". Assumes nothing.
+-- When each number of the table is given: its own test fails and every test before it is passed. Document 01, "Numbers of an answer"; document 02, P6. Assumes nothing.
 use mathlib.Core.Path.{_≡_}
 use mathlib.Core.Bool.{true, false, _&&_}
 use Prim.Native.Nat.{ℕ}
@@ -8,12 +8,12 @@ use Rattle.model.specs.Settings.{goodSizes}
 use Rattle.model.specs.declared.sizes.Shape.{Shape}
 use Rattle.model.specs.declared.sizes.Settings.{Settings}
 use Rattle.model.specs.declared.ends.Refusal.{Refusal}
-use Rattle.model.specs.declared.ends.Refusal.the-variants.{OutOfRange, Lengths, Work, SparseRows, NotFinite, LinkForFamily, NotCarried}
+use Rattle.model.specs.declared.ends.Refusal.the-variants.{OutOfRange, Lengths, Work, SparseRows, NotFinite, LinkForFamily, NotCarried, ResponseRange}
 use Rattle.family.specs.Carried.{carriedFamily, carriedLink, validFor}
 use Rattle.family.specs.declared.carried.CarriedFamily.{CarriedFamily}
 use Rattle.family.specs.declared.carried.CarriedLink.{CarriedLink}
 use Rattle.family.specs.declared.carried.LinkCarried.the-variants as linkCarried
-use Rattle.table.specs.Tests.{goodInputs, goodResults, goodWork, goodNumbers}
+use Rattle.table.specs.Tests.{goodInputs, goodResults, goodWork, goodNumbers, allInRange}
 use Rattle.table.specs.declared.verdicts.LentLengths.{LentLengths}
 
 module _ (r : ℕ) (t : Settings) (s : Shape) (I : Inputs) (L : LentLengths) where
@@ -37,6 +37,10 @@ module _ (r : ℕ) (t : Settings) (s : Shape) (I : Inputs) (L : LentLengths) whe
   abbrev pub PastLink : Type 0
   PastLink = PastNumbers × (validFor (t .link) (t .family) ≡ true)
 
+  -- and that of 5, with the formulas of f and l
+  abbrev pub PastCarried : CarriedFamily → CarriedLink → Type 0
+  PastCarried f l = PastLink × ((carriedFamily (t .family) ≡ f) × (carriedLink (t .link) ≡ linkCarried.Carried l))
+
   -- when a refusal is given
   unfoldable pub GivenWhen : Refusal → Type 0
   GivenWhen OutOfRange = goodSizes t s ≡ false
@@ -46,10 +50,11 @@ module _ (r : ℕ) (t : Settings) (s : Shape) (I : Inputs) (L : LentLengths) whe
   GivenWhen NotFinite = PastRows × (goodNumbers I ≡ false)
   GivenWhen LinkForFamily = PastNumbers × (validFor (t .link) (t .family) ≡ false)
   GivenWhen NotCarried = PastLink × (carriedLink (t .link) ≡ linkCarried.NotYet)
+  GivenWhen ResponseRange = (f : CarriedFamily) × (l : CarriedLink) × (PastCarried f l × (allInRange (I .y) f ≡ false))
 
   -- when a call is accepted with the formulas of f and l: every test is passed
   abbrev pub AcceptedWhen : CarriedFamily → CarriedLink → Type 0
-  AcceptedWhen f l = PastLink × ((carriedFamily (t .family) ≡ f) × (carriedLink (t .link) ≡ linkCarried.Carried l))
+  AcceptedWhen f l = PastCarried f l × (allInRange (I .y) f ≡ true)
 
   -- when it is accepted
   abbrev pub SomeAccepted : Type 0

@@ -1,7 +1,8 @@
-// The test of the numbers.
+// The tests of the numbers.
 use base::all_finite;
+use family::CarriedFamily;
 ghost use mathlib.Core.Path.{_≡_};
-ghost use Rattle.table.specs.Tests.{allFinite, finiteNumbers};
+ghost use Rattle.table.specs.Tests.{allFinite, finiteNumbers, allInRange};
 
 // Whether every number of a list is finite.
 fn list_ok(xs: &[f64]) -> bool
@@ -38,4 +39,18 @@ pub fn numbers_ok(
         return false;
     }
     list_ok(values)
+}
+
+// Whether every response lies in the family's range.
+pub fn responses_ok(family: CarriedFamily, y: &[f64]) -> bool
+    ensures { λ r. ⌜ r ≡ allInRange (now (y .entry)) family ⌝ }
+{
+    let mut i = 0;
+    while i < y.len() {
+        if !family::in_range(family, y[i]) {
+            return false;
+        }
+        i += 1;
+    }
+    true
 }

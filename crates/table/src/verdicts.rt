@@ -3,6 +3,7 @@ use crate::lengths::inputs_ok;
 use crate::lengths::results_ok;
 use crate::lengths::work_ok;
 use crate::numbers::numbers_ok;
+use crate::numbers::responses_ok;
 use family::CarriedFamily;
 use family::CarriedLink;
 use family::LinkCarried;
@@ -13,7 +14,7 @@ use model::Settings;
 use model::Shape;
 ghost use mathlib.Core.Path.{_≡_};
 ghost use Rattle.model.specs.Inputs.{inputs};
-ghost use Rattle.table.specs.Table.{carriedPair, tableOf};
+ghost use Rattle.table.specs.Table.{carriedPair, rangeTested, tableOf};
 
 // How long the lent results and the lent work slices are.
 pub struct LentLengths {
@@ -37,7 +38,7 @@ pub enum Verdict {
     Refused(Refusal),
 }
 
-// The last line of the table.
+// Whether there are formulas for the family and for the link.
 fn carried_pair(family: Family, link: Link) -> Verdict
     ensures { λ r. ⌜ r ≡ carriedPair family link ⌝ }
 {
@@ -45,6 +46,21 @@ fn carried_pair(family: Family, link: Link) -> Verdict
         return Verdict::Refused(Refusal::NotCarried);
     };
     Verdict::Accepted(family::carried_family(family), l)
+}
+
+// The last line of the table: the range is that of a family whose formulas are carried.
+fn range_tested(verdict: Verdict, y: &[f64]) -> Verdict
+    ensures { λ r. ⌜ r ≡ rangeTested (now (y .entry)) verdict ⌝ }
+{
+    match verdict {
+        Verdict::Refused(refusal) => Verdict::Refused(refusal),
+        Verdict::Accepted(f, l) => {
+            if !responses_ok(f, y) {
+                return Verdict::Refused(Refusal::ResponseRange);
+            }
+            Verdict::Accepted(f, l)
+        }
+    }
 }
 
 // The first test that fails gives the refusal. Each test may rely on those before it: no product is formed of sizes that are out of range, and no entry is read past a length.
@@ -102,5 +118,5 @@ pub fn verdict_of(
     if !family::valid_for(link, family) {
         return Verdict::Refused(Refusal::LinkForFamily);
     }
-    carried_pair(family, link)
+    range_tested(carried_pair(family, link), y)
 }

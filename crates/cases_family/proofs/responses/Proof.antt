@@ -5,10 +5,10 @@ use Rattle.cases_family.proofs.responses.Statement.{statement}
 use Rattle.cases_family.proofs.responses.Tie as tie
 
 abbrev Inv-loop : tie.InvT-loop
-Inv-loop i₀ i = i ≤ 18
+Inv-loop i₀ i = i ≤ 19
 
 abbrev μ-loop : tie.MeasureT-loop
-μ-loop i₀ i = 18 - i
+μ-loop i₀ i = 19 - i
 
 loop-holds : tie.Need-loop-holds Inv-loop μ-loop
 loop-holds c = search needs
@@ -22,8 +22,8 @@ array-read-double c = search needs
 double-requires : tie.Need-double-requires Inv-loop μ-loop
 double-requires c κs = search needs
 
-with-each-mean-requires : tie.Need-with-each-mean-requires Inv-loop μ-loop
-with-each-mean-requires c κs = search needs
+response-lines-requires : tie.Need-response-lines-requires Inv-loop μ-loop
+response-lines-requires c κs = search needs
 
 add-i : tie.Need-add-i Inv-loop μ-loop
 add-i c = search needs
@@ -47,7 +47,7 @@ responses-spec =
     mul-double
     array-read-double
     double-requires
-    with-each-mean-requires
+    response-lines-requires
     add-i
     loop-less
     loop-again

@@ -1,10 +1,11 @@
 -- `table::verdict_of` meets its contract: its tests are the table's lines, in their order.
-use mathlib.Core.Path.{sym, _∙_}
+use mathlib.Core.Path.{sym, ap, _∙_}
 use native.Mathlib.Omega.{arith}
 use borrow.Author.Tests.{not-true, not-false}
 use Rattle.model.proofs.Sized.{sized}
+use Rattle.table.specs.Table.{rangeTested}
 use Rattle.table.proofs.Meant.{inputs-fit}
-use Rattle.table.proofs.Accepting.{line-1, line-2-inputs, line-2-results, line-7, line-6, line-3, line-4, line-5}
+use Rattle.table.proofs.Accepting.{line-1, line-2-inputs, line-2-results, line-7, line-6, line-3, line-4, last-lines}
 use Rattle.table.proofs.verdicts.verdict_of.Statement.{statement}
 use Rattle.table.proofs.verdicts.verdict_of.Tie as tie
 
@@ -117,9 +118,12 @@ returns-7 c =
 carried-pair-requires : tie.Need-carried-pair-requires
 carried-pair-requires c κs = omega arith
 
+range-tested-requires : tie.Need-range-tested-requires
+range-tested-requires c κs = omega arith
+
 returns-8 : tie.Need-returns-8
 returns-8 c =
-    let if6 = c .before .before .before in
+    let if6 = c .before .before .before .before in
     let numbers-ok = if6 .before in
     let if5 = numbers-ok .before in
     let rows-ok = if5 .before in
@@ -131,12 +135,13 @@ returns-8 c =
     let inputs-ok = if2 .before in
     let if1 = inputs-ok .before in
     let sizes-ok = if1 .before in
-    c .carried-pair .ensures
+    let range-tested = c .range-tested .ensures ∙ ap (rangeTested _) (c .before .carried-pair .ensures) in
+    range-tested
     ∙ sym
-    (line-5 _ _ _ _ _ (sym (sizes-ok .sizes-ok .ensures) ∙ not-false _ (if1 .if1 .left)) (sym (inputs-ok .inputs-ok .ensures) ∙ not-false _ (if2 .if2 .left))
+    (last-lines _ _ _ _ _ (sym (sizes-ok .sizes-ok .ensures) ∙ not-false _ (if1 .if1 .left)) (sym (inputs-ok .inputs-ok .ensures) ∙ not-false _ (if2 .if2 .left))
     (sym (results-ok .results-ok .ensures) ∙ not-false _ (if3 .if3 .left)) (sym (work-ok .work-ok .ensures) ∙ not-false _ (if4 .if4 .left))
     (sym (rows-ok .rows-ok .ensures) ∙ not-false _ (if5 .if5 .left)) (sym (numbers-ok .numbers-ok .ensures) ∙ not-false _ (if6 .if6 .left))
-    (sym (c .before .before .valid-for .ensures) ∙ not-false _ (c .before .if7 .left)))
+    (sym (c .before .before .before .valid-for .ensures) ∙ not-false _ (c .before .before .if7 .left)))
 
 pub verdict-of-spec : {M : Type 1} → statement M
 verdict-of-spec =
@@ -157,4 +162,5 @@ verdict-of-spec =
     valid-for-requires
     returns-7
     carried-pair-requires
+    range-tested-requires
     returns-8)

@@ -1,0 +1,40 @@
+-- `table::range_tested` meets its contract: a refusal is handed on, and the responses are asked where a family is found.
+use mathlib.Core.Path.{sym, _∙_}
+use borrow.Author.Needs.{needs}
+use borrow.Author.Tests.{not-true, not-false}
+use Rattle.table.proofs.Accepting.{out-of-range, in-range, range-after}
+use Rattle.table.proofs.verdicts.range_tested.Statement.{statement}
+use Rattle.table.proofs.verdicts.range_tested.Tie as tie
+
+enum-known-verdict : tie.Need-enum-known-verdict
+enum-known-verdict c = search needs
+
+enum-known-verdict-2 : tie.Need-enum-known-verdict-2
+enum-known-verdict-2 c = search needs
+
+responses-ok-requires : tie.Need-responses-ok-requires
+responses-ok-requires c κs = search needs
+
+returns : tie.Need-returns
+returns c =
+    let asked = c .before in
+    rw (asked .before .before .verdict2 .given .1) (sym (out-of-range _ _ _ (sym (asked .responses-ok .ensures) ∙ not-true _ (c .if1 .taken))))
+
+returns-2 : tie.Need-returns-2
+returns-2 c = rw (c .before .verdict .given .1) (sym (range-after _ _))
+
+returns-3 : tie.Need-returns-3
+returns-3 c =
+    let asked = c .before in
+    rw (asked .before .before .verdict2 .given .1) (sym (in-range _ _ _ (sym (asked .responses-ok .ensures) ∙ not-false _ (c .if1 .left))))
+
+pub range-tested-spec : {M : Type 1} → statement M
+range-tested-spec =
+    tie.close
+    (tie.spec
+    enum-known-verdict
+    enum-known-verdict-2
+    responses-ok-requires
+    returns
+    returns-2
+    returns-3)
