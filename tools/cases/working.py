@@ -102,5 +102,7 @@ show("means", *[start_mean(GAMMA, y) for y in [0.0, 1.0, 0.3, -0.0, 1e16]], 9.0)
 deviances(GAMMA, [0.0, 1.0, 0.3, 0.9], [])
 deviances(GAMMA, [0.7, 1.0, 0.3, 0.9], [])
 deviances(GAMMA, [0.7, 1.0, 0.3, 0.9], [1.0, 0.3, 0.0, 2.0])
+for weights in ([1.0] * 5, [3.0, 7.0, 0.1, 0.0, 1e16]):
+    show("means", *map(trials_mean, weights, [0.0, 1.0, 0.3, -0.0, 1e16]), 9.0)
 
 show("pivots", *[total(ln(abs(d)) for d in ds) for ds in ([0.3, -7.1, 1e-300], [2.0, -0.0, 3.0], [])])

@@ -2,6 +2,7 @@
 // Each buffer is longer than what is written and holds 9 before: the rest stays.
 use family::CarriedFamily;
 use family::CarriedLink;
+use model::Start;
 ghost use Rattle.working.specs.Optional.{Optional};
 
 // w from 1 on and z from 14 on. Predictors and means do not belong together, so that each is seen where it stands.
@@ -153,9 +154,10 @@ fn with_offset(offset: &[f64])
     start_back(offset);
 }
 
-fn start_means(family: CarriedFamily) {
+fn start_means(start: Start, family: CarriedFamily, weights: &[f64]) {
     let mut out = [9.0; 6];
-    working::start_means(family, &[0.0, 1.0, 0.3, -0.0, 1e16], 5, &mut out);
+    let y = [0.0, 1.0, 0.3, -0.0, 1e16];
+    working::start_means(start, family, &y, weights, 5, &mut out);
     text::put_list(b"means", &out, 6);
 }
 
@@ -173,17 +175,27 @@ fn deviances(family: CarriedFamily, first: f64, weights: &[f64]) {
 }
 
 fn by_family(family: CarriedFamily) {
-    start_means(family);
+    start_means(Start::Usual, family, &[3.0]);
     deviances(family, 0.0, &[]);
     deviances(family, 0.0, &[1.0, 0.3, 0.0, -2.0]);
 }
 
 // A response of 0, for which the fit term is infinite; then responses that have a density.
 fn gamma() {
-    start_means(CarriedFamily::Gamma);
+    start_means(Start::Usual, CarriedFamily::Gamma, &[3.0]);
     deviances(CarriedFamily::Gamma, 0.0, &[]);
     deviances(CarriedFamily::Gamma, 0.7, &[]);
     deviances(CarriedFamily::Gamma, 0.7, &[1.0, 0.3, 0.0, 2.0]);
+}
+
+// Trial counts: without weights the usual means; with 3 and 7 trials, a part of one, none, and very many.
+fn trials() {
+    start_means(Start::Trials, CarriedFamily::Binomial, &[]);
+    start_means(
+        Start::Trials,
+        CarriedFamily::Binomial,
+        &[3.0, 7.0, 0.1, 0.0, 1e16],
+    );
 }
 
 // Factors of three rows: pivots of both signs, and one that is zero.
@@ -206,5 +218,6 @@ fn main() {
     by_family(CarriedFamily::Poisson);
     by_family(CarriedFamily::Gaussian);
     gamma();
+    trials();
     log_pivots();
 }
