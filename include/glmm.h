@@ -72,7 +72,7 @@ size_t glmm_results_length(size_t n, size_t p, size_t q);
 
 /* ---- the fit
  *
- * job        the bytes of a job, at most 65,536 (tools/job makes one of a text)
+ * job        the bytes of a job, at most 65,536, of version 1 or 2 (tools/job makes one of a text); version 2 says how the starting means are made
  * rows, matrices, terms
  *            work buffers of at least the lengths above (else 7); after an accepted call the named lengths are +0.0, and what is behind them is as lent
  * results    at least glmm_results_length(n, p, q) numbers (else 2): deviance, phi, beta (p), se (p), z (p), u (q), b (q), mu (n), eta (n),
