@@ -33,9 +33,6 @@ by-family-requires-3 c κs = search needs
 gamma-requires : tie.Need-gamma-requires
 gamma-requires c κs = search needs
 
-trials-requires : tie.Need-trials-requires
-trials-requires c κs = search needs
-
 log-pivots-requires : tie.Need-log-pivots-requires
 log-pivots-requires c κs = search needs
 
@@ -55,6 +52,5 @@ main-spec =
     by-family-requires-2
     by-family-requires-3
     gamma-requires
-    trials-requires
     log-pivots-requires
     returns)
