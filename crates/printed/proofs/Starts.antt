@@ -36,7 +36,6 @@ six version2 = omega arith
 
 -- with the usual start every job can be said in version 1
 pub usual-sayable : (v : Version) (j : Job) → Sayable v j → Sayable version1 (startedJob Usual j)
-unfolding bodyBytes
 usual-sayable v j q =
     let t = q .settings in
     record {
