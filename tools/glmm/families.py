@@ -80,7 +80,7 @@ def start_mean(family, y):
 
 def trials_mean(w, y):
     """R's start of a binomial response, the weight being its number of trials (document 02, P10)."""
-    return (w * y + 0.5) / (w + 1.0)
+    return over(w * y + 0.5, w + 1.0)
 
 
 def variance(family, m):
