@@ -72,7 +72,7 @@ size_t glmm_results_length(size_t n, size_t p, size_t q);
 
 /* ---- the fit
  *
- * job        the bytes of a job, at most 65,536 (tools/job makes one of a text)
+ * job        the bytes of a job, at most 65,536, of version 1 or 2 (tools/job makes one of a text); version 2 says how the starting means are made
  * rows, matrices, terms
  *            work buffers of at least the lengths above (else 7); after an accepted call the named lengths are +0.0, and what is behind them is as lent
  * results    at least glmm_results_length(n, p, q) numbers (else 2): deviance, phi, beta (p), se (p), z (p), u (q), b (q), mu (n), eta (n),
@@ -82,7 +82,7 @@ size_t glmm_results_length(size_t n, size_t p, size_t q);
  *            returned before the job is looked at
  *
  * Returned: 0 where the call was accepted (counts[GLMM_NUMBER] is then 0, 10, 11, 12 or 13: ask GLMM_FITTED), else the refusal's number: of a job that
- * cannot be read (20 to 25, or 1; counts[GLMM_BYTE] says where), else of the table (1, 2, 7, 6, 3, 4, 5, 9, tested in this order). After a refusal
+ * cannot be read (20 to 25, or 1; counts[GLMM_BYTE] says where), else of the table (1, 2, 7, 6, 3, 4, 5, 9, 27, tested in this order). After a refusal
  * everything but counts is as lent. */
 uint64_t glmm_fit_job(const uint8_t *job, size_t job_length,
                       double *rows, size_t rows_length,
@@ -112,6 +112,10 @@ struct glmm_block {
 enum { GLMM_BINOMIAL = 0, GLMM_POISSON = 1, GLMM_GAUSSIAN = 2, GLMM_GAMMA = 3 };
 enum { GLMM_LOGIT = 0, GLMM_PROBIT = 1, GLMM_CLOGLOG = 2, GLMM_LOG = 3, GLMM_IDENTITY = 4, GLMM_INVERSE = 5, GLMM_SQRT = 6 };
 
+/* How the starting means are made. With GLMM_TRIALS a binomial response y with weight w begins at (w y + 0.5) / (w + 1), as in R: the weight is the number
+ * of trials, and y the share of successes. It is refused with 27 where the family is another, or a weight is below 0; a number that names no start with 4. */
+enum { GLMM_USUAL = 0, GLMM_TRIALS = 1 };
+
 /* In place of a limit: 100 iterations, 1000 for the inverse link. */
 #define GLMM_NO_LIMIT 1023
 
@@ -122,11 +126,12 @@ struct glmm_settings {
     size_t n, p;         /* observations, 1 to 512, and columns of X, 1 to 16 */
     size_t q;            /* random effects, 1 to 32: the sum of m times k over all blocks */
     size_t entries;      /* of Z', at most 8,192 */
+    size_t start;        /* GLMM_USUAL or GLMM_TRIALS */
 };
 
 /* What is returned. But for number 0 it is all 0, save the work of a call that was accepted (10 to 13). */
 struct glmm_answer {
-    uint64_t number;      /* 0 fitted; 10, 11, 12, 13 as in counts[GLMM_NUMBER]; else the refusal's number: 1, 2, 7, 6, 3, 4, 5, 9, tested in this order */
+    uint64_t number;      /* 0 fitted; 10, 11, 12, 13 as in counts[GLMM_NUMBER]; else the refusal's number: 1, 2, 7, 6, 3, 4, 5, 9, 27, tested in this order */
     double deviance, phi;
     uint64_t order, flag, iterations, fits, solves, tries, points, why, eta, mean, pwrss, ok; /* as the counts of these names */
 };

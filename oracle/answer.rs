@@ -35,7 +35,7 @@ pub fn fit(job: Job) -> (Option<GlmmCoefficients>, Account) {
         job.n_agq,
         job.weights.map(Array1::from_vec),
     );
-    data.set_control(FitControl { max_inner_iterations: job.limit });
+    data.set_control(FitControl { max_inner_iterations: job.limit, trials: job.trials });
     let offset = job.offset.map(Array1::from_vec);
     account::clear();
     let fitted = data.evaluate(&job.theta, offset.as_ref(), job.n_agq);

@@ -386,7 +386,7 @@ impl GlmmData {
         let lambda = self.build_lambda(theta, q);
 
         // Initialize: mu from family, eta from link
-        let mut mu = self.family.initialize_mu(&self.y);
+        let mut mu = if self.control.trials { crate::start::trials_means(&self.y, &self.observation_weights()) } else { self.family.initialize_mu(&self.y) }; // ALTERED: R's start where a job asks for it
         let mut eta = link.link_fun(&mu);
         if let Some(off) = offset {
             eta += off;

@@ -1,4 +1,4 @@
-//! The reader of a job, written from document 01, 'The job and the program', and the table of refusals as far as a job reaches it.
+//! The reader of a job, written from document 01, 'The job and the program', and document 02 (P10: version 2), and the table of refusals as far as a job reaches it.
 use crate::family::{Family, Link};
 
 /// What a job holds once it is accepted.
@@ -10,6 +10,8 @@ pub struct Job {
     pub n: usize,
     pub p: usize,
     pub limit: Option<usize>,
+    /// Whether R's start is asked for, which version 2 can.
+    pub trials: bool,
     /// m and k of each block.
     pub blocks: Vec<(usize, usize)>,
     pub theta: Vec<f64>,
@@ -98,7 +100,8 @@ pub fn read(bytes: &[u8]) -> Result<Job, Refusal> {
         return refuse(25, 65536);
     }
     let mut bits = Bits { bytes, at: 0 };
-    if bits.number(4)? != 1 {
+    let version = bits.number(4)?;
+    if version != 1 && version != 2 {
         return refuse(21, 0);
     }
     let family = FAMILIES[bits.number(2)?];
@@ -117,6 +120,10 @@ pub fn read(bytes: &[u8]) -> Result<Job, Refusal> {
         limit if limit <= 1000 => Some(limit),
         _ => return refuse(24, 4),
     };
+    let trials = version == 2 && bits.field(1)? == 1;
+    if version == 2 {
+        bits.zeros(7)?;
+    }
     let mut blocks = Vec::new();
     for _ in 0..block_count {
         let m = bits.number(7)?;
@@ -146,7 +153,7 @@ pub fn read(bytes: &[u8]) -> Result<Job, Refusal> {
     if bits.at < 8 * bytes.len() {
         return refuse(23, bits.at / 8);
     }
-    let job = Job { family, link, n_agq, n, p, limit, blocks, theta, y, weights, offset, x, z_starts, z_columns, z_values };
+    let job = Job { family, link, n_agq, n, p, limit, trials, blocks, theta, y, weights, offset, x, z_starts, z_columns, z_values };
     match table(&job) {
         0 => Ok(job),
         number => refuse(number, 0),
@@ -178,6 +185,9 @@ fn table(job: &Job) -> usize {
     }
     if !job.y.iter().all(|&y| in_range(job.family, y)) {
         return 9;
+    }
+    if job.trials && !(job.family == Family::Binomial && job.weights.iter().flatten().all(|&weight| !(weight < 0.0))) {
+        return 27;
     }
     0
 }

@@ -24,6 +24,7 @@ mod ndarray_linalg;
 mod quadrature;
 mod sprs;
 mod sprs_ldl;
+mod start;
 mod statrs;
 mod vectors;
 
@@ -33,6 +34,8 @@ use std::io::{self, BufRead, Read, Write};
 #[derive(Debug, Clone, Default)]
 pub struct FitControl {
     pub max_inner_iterations: Option<usize>,
+    /// Not the Rust's: R's start of the means in place of its own.
+    pub trials: bool,
 }
 
 /// The Rust's error, as far as family.rs makes it.

@@ -7,7 +7,7 @@
 #                       the constant of the weights; beside it are lmer's own sigma^2 and -2 log L
 #   Gamma               phi is the deviance over W, by lme4's means at its theta; theta here is lme4's times sqrt(phi), se is by phi, beta and b are lme4's; the
 #                       deviance is R's AIC at this phi, less 2, with lme4's log determinant and its u'u over phi; beside it is lme4's own Laplace deviance
-# Then what R's Gamma() and dgamma say of single responses.
+# Then what R's Gamma() and dgamma say of single responses, and where binomial() starts: every number of these by its 16 hexadecimal digits.
 suppressPackageStartupMessages(library(lme4))
 
 number <- function(x) sprintf("%.17g", x)
@@ -152,6 +152,15 @@ elements <- function(y, mu, weights, shape, allowed = 1e-13) {
            aic = number(Gamma()$aic(y, rep(1, length(y)), mu, weights, sum(deviances))), density = numbers(dgamma(y, shape, scale = mu / shape, log = TRUE)))
 }
 
+# The starting means of binomial(), by its own expression; the patterns of weights, responses and means.
+patterns <- function(x) listed(sapply(x, function(one) text(toupper(paste(writeBin(one, raw(), endian = "big"), collapse = "")))))
+starting <- function(name, y, weights) {
+    responses <- y
+    nobs <- length(y)
+    suppressWarnings(eval(binomial()$initialize))
+    object(name = text(name), weights = patterns(weights), y = patterns(responses), means = patterns(mustart))
+}
+
 folder <- commandArgs(TRUE)
 sets <- c(
     counted("cbpp", cbind(incidence, size - incidence) ~ period + (1 | herd), cbpp, binomial(), c(0, 0.5, 0.64, 1, 5, 30)),
@@ -180,4 +189,9 @@ sets <- c(
     skewed("examples/cells, warm from 0, identity", current ~ warm + (1 | wafer), subset(example("cells"), warm >= 0), Gamma("identity"), c(0.5, 2)))
 of_gamma <- c(elements(c(0.68, 1.57, 9.84, 2.53, 0.01), c(0.9, 1.4, 4.5, 3, 0.5), rep(1, 5), 4), elements(c(0.2, 30, 1, 7), c(0.3, 8, 1.25, 70), c(0.5, 2, 1, 0.25), 0.375),
               elements(c(1, 1.001, 0.998), c(1.0005, 1, 0.999), c(1, 3, 2), 1e4, 1e-9))
-cat(object(lme4 = text(packageVersion("lme4")), R = text(getRversion()), sets = listed(sets), gamma = listed(of_gamma)), "\n")
+shares <- c(0, 1, 0.3, 0.7, 0.1)
+trials <- rep(1:16, 2:17)
+wafers <- example("wafers")
+starts <- c(starting("weights 1", shares, rep(1, 5)), starting("numbers of trials", shares, c(3, 80, 10, 1e16, 0.1)), starting("the least and the most", shares, c(0, -0.0, 1e-300, 1.5e308, 7)),
+            starting("every count of 1 to 16 trials", sequence(2:17, 0) / trials, as.numeric(trials)), starting("examples/wafers", wafers$weak / wafers$cells, as.numeric(wafers$cells)))
+cat(object(lme4 = text(packageVersion("lme4")), R = text(getRversion()), sets = listed(sets), gamma = listed(of_gamma), starts = listed(starts)), "\n")

@@ -53,11 +53,13 @@ static void read_rows(void)
 /* The numbers of a job, and the lengths of what is lent. Of a job whose sizes are not carried only the settings and the blocks are read. */
 static void read_job(void)
 {
-    size_t i, thetas = 0, n, p, q, weighted, shifted;
+    size_t i, thetas = 0, n, p, q, weighted, shifted, version;
     memset(lengths, 0, sizeof lengths), memset(&settings, 0, sizeof settings);
-    starts_length = columns_length = starts[0] = 0, at = 4;
+    starts_length = columns_length = starts[0] = 0, at = 0, version = take(4);
     settings.family = take(2), settings.link = take(3), weighted = take(1), shifted = take(1), settings.n_agq = take(5);
     n = settings.n = take(13), p = settings.p = take(5), blocks_length = take(4), settings.limit = take(10);
+    if (version == 2)
+        settings.start = take(1), at += 7;
     for (i = 0; i < blocks_length; i++) {
         blocks[i].m = take(7), blocks[i].k = take(4), at += 5;
         settings.q += blocks[i].m * blocks[i].k, thetas += blocks[i].k * (blocks[i].k + 1) / 2;
@@ -84,6 +86,12 @@ static struct glmm_answer call(void)
     return found;
 }
 
+/* Whether the call was accepted: it is fitted, or ended without a result. */
+static int accepted(uint64_t number)
+{
+    return number == 0 || (number >= 10 && number <= 13);
+}
+
 /* Whether every buffer was left as the header says. */
 static int as_told(uint64_t number)
 {
@@ -91,7 +99,7 @@ static int as_told(uint64_t number)
     for (i = BETA; i < ROWS; i++)
         whole &= number == 0 ? kept(names[i], numbers[i] + lengths[i], 0, 0) : kept(names[i], numbers[i], lengths[i], 0);
     for (; i < SLICES; i++)
-        whole &= kept(names[i], numbers[i], lengths[i], number == 0 || number >= 10);
+        whole &= kept(names[i], numbers[i], lengths[i], accepted(number));
     return whole;
 }
 
@@ -104,7 +112,7 @@ static void run(void)
     found = call();
     if (!as_told(found.number))
         return;
-    if (found.number > 0 && found.number < 10) {
+    if (!accepted(found.number)) {
         printf("refused %u at 0\n", (unsigned)found.number);
         return;
     }
@@ -150,6 +158,7 @@ static void edges(void)
     changed("no group", &blocks[0].m, 0), changed("a group more", &blocks[0].m, blocks[0].m + 1), changed("countless groups", &blocks[0].m, SIZE_MAX);
     changed("no effect", &blocks[0].k, 0), changed("nine effects", &blocks[0].k, 9), changed("countless effects", &blocks[0].k, SIZE_MAX);
     changed("no family", &settings.family, 4), changed("no link", &settings.link, 7), changed("countless links", &settings.link, SIZE_MAX);
+    changed("no start", &settings.start, 2), changed("countless starts", &settings.start, SIZE_MAX);
     changed("limit", &settings.limit, 1001), changed("limit of a job", &settings.limit, 1022);
     changed("many observations", &settings.n, 513), changed("many columns", &settings.p, 17), changed("many entries", &settings.entries, 8193);
     changed("a late start", &starts[0], 1), changed("a start past the end", &starts[1], SIZE_MAX), changed("no such observation", &columns[0], settings.n);
@@ -158,6 +167,7 @@ static void edges(void)
     numbers[Y][0] = was, link = settings.link, settings.link = 7, changed("no link, no block", &blocks_length, 0), settings.link = link;
     settings.family = GLMM_BINOMIAL, settings.link = GLMM_SQRT, edge("another family's link");
     settings.link = GLMM_PROBIT, edge("a link not carried");
+    settings.family = GLMM_POISSON, settings.link = GLMM_LOG, changed("trials of another family", &settings.start, GLMM_TRIALS);
 }
 
 int main(int count, char **words)

@@ -8,7 +8,7 @@ import struct, sys
 
 sys.dont_write_bytecode = True
 from rule import answer
-from table import FAMILIES, LINKS, RESULTS, TABLE, laid
+from table import FAMILIES, LINKS, RESULTS, STARTS, TABLE, laid
 import fit
 from form import job_bytes
 from reader import parse
@@ -38,7 +38,7 @@ def call_of(about):
     n, p, q = len(about["y"]), len(about["x"][0]), len(about["zt"])
     entries = [entry for row in about["zt"] for entry in row]
     c = dict(family=FAMILIES.index(about["family"]), link=LINKS.index(about["link"]), n_agq=about["n_agq"], limit=NOT_GIVEN if about["limit"] is None else about["limit"], n=n, p=p, rows=q,
-             entries=len(entries), blocks=[(block["m"], block["k"]) for block in about["blocks"]], theta=about["theta"], y=about["y"], weights=about["weights"] or [],
+             entries=len(entries), start=STARTS.index(about.get("start", "usual")), blocks=[(block["m"], block["k"]) for block in about["blocks"]], theta=about["theta"], y=about["y"], weights=about["weights"] or [],
              offset=about["offset"] or [], x=[value for row in about["x"] for value in row], starts=[sum(map(len, about["zt"][:i])) for i in range(q + 1)],
              columns=[column for column, _ in entries], values=[value for _, value in entries])
     return c | dict(zip(RESULTS, [p, p, p, q, q, n, n, n, p * p])) | {"work_rows": 16 * n, "work_matrices": 3 * q * q + 4 * p * p + 2 * q * p + 12 * (q + p), "work_terms": 7000}
@@ -46,8 +46,8 @@ def call_of(about):
 
 def refusal(c):
     """The first number of the table that the call meets."""
-    known = c["family"] < len(FAMILIES) and c["link"] < len(LINKS)
-    names = {"family": FAMILIES[c["family"]], "link": LINKS[c["link"]]} if known else {"family": "poisson", "link": "logit"}
+    known = c["family"] < len(FAMILIES) and c["link"] < len(LINKS) and c["start"] < len(STARTS)
+    names = {"family": FAMILIES[c["family"]], "link": LINKS[c["link"]], "start": STARTS[c["start"]]} if known else {"family": "poisson", "link": "logit", "start": "usual"}
     asked = c | names | {"limit": None if c["limit"] == NOT_GIVEN else c["limit"]}
     return next((number for number, good in TABLE if not good(asked)), None)
 
@@ -81,10 +81,10 @@ def fed(word, c):
     lists = [c[name] for name in INPUTS]
     data = struct.pack(f">Q{len(word)}s", len(word), word.encode())
     data += struct.pack(">19Q", *laid(19, dict(zip([0, 6], lists[5:7])))) + struct.pack(">41d", *laid(41, dict(zip([0, 4, 9, 14, 19, 28], [*lists[:5], lists[7]]))))
-    settings = [c[name] for name in ("family", "link", "n_agq", "limit", "n", "p", "rows", "entries")]
+    settings = [c[name] for name in ("family", "link", "n_agq", "limit", "n", "p", "rows", "entries", "start")]
     blocks = [number for block in [*c["blocks"], (2, 1), (2, 1)][:2] for number in block]
     lent = [c[name] for name in [*RESULTS, *("work_" + name for name in WORK)]]
-    return data + struct.pack(">33Q", *settings, len(c["blocks"]), *blocks, *map(len, lists), *lent)
+    return data + struct.pack(">34Q", *settings, len(c["blocks"]), *blocks, *map(len, lists), *lent)
 
 
 def run(word, about, **changes):
@@ -108,6 +108,8 @@ def fits():
     run("one", job())
     run("two", two())
     run("one, order 3", job(family="binomial", link="logit", n_agq=3, y=[0.25, 0.5, 0.0, 1.0], weights=[4.0, 2.0, 3.0, 1.0], offset=[0.1, 0.2, -0.3, 0.0]))
+    run("trials", job(version=2, start="trials", family="binomial", link="logit", y=[0.25, 0.5, 0.0, 1.0], weights=[4.0, 2.0, 3.0, 1.0]))
+    run("trials, no weights", job(version=2, start="trials", family="binomial", link="cloglog", y=[0.25, 0.5, 0.0, 1.0]))
     run("two, order 3", two(n_agq=3))
     run("pair and groups", job(n_agq=3, blocks=[{"m": 1, "k": 2}, {"m": 2, "k": 1}], theta=[0.5, 0.25, 0.4, 0.75], x=[[1.0]] * 4,
                                zt=[[[i, 1.0] for i in range(4)], [[0, 0.3], [1, -0.7], [2, 1.1], [3, 0.2]], *job()["zt"]]))
@@ -127,7 +129,7 @@ def fits():
 
 
 def refusals():
-    """Each number of the table; a list that is too short; the limit's codes; a code of no family or link, which is refused in its place of the table."""
+    """Each number of the table; a list that is too short; the limit's codes; a code of no family, link or start, which is refused in its place of the table."""
     run("none", job(), blocks=[])
     run("one for two", two(), blocks=[(2, 1)])
     run("k 9", job(), blocks=[(2, 9)])
@@ -155,8 +157,13 @@ def refusals():
     run("Gamma of 0", job(), family=3, link=5)
     run("above 1", job(), family=0, link=0)
     run("probit, above 1", job(), family=0, link=1)
+    run("start 2", job(), start=2)
+    run("largest start, NaN", job(), start=2**64 - 1, y=[1.0, NAN, 0.0, 5.0])
+    run("Poisson trials", job(), start=1)
+    run("trials below 0", job(family="binomial", link="logit", y=[0.25, 0.5, 0.0, 1.0], weights=[4.0, 2.0, -3.0, 1.0]), start=1)
+    run("Poisson trials, below 0", job(), start=1, y=[1.0, -0.5, 0.0, 5.0])
 
 
 fits()
 refusals()
-assert "--stdin" in sys.argv or given == {*range(8), 9, *range(10, 14)}
+assert "--stdin" in sys.argv or given == {*range(8), 9, *range(10, 14), 27}

@@ -21,7 +21,7 @@ def settings(job):
     limit = job.get("limit")
     return record(family="family." + job["family"].capitalize(), link="link." + job["link"].capitalize(), **{"«n_agq»": job.get("n_agq", 1)},
                   limit="limit.NotGiven" if limit is None else f"limit.Given {limit}", n=len(job["y"]), p=len(job["x"][0]), rows=len(job["zt"]),
-                  entries=len(entries(job)))
+                  entries=len(entries(job)), start="start." + job.get("start", "usual").capitalize())
 
 
 def shape(job):
@@ -70,6 +70,7 @@ use Rattle.model.specs.declared.sizes.Settings.{{Settings}}
 use Rattle.model.specs.declared.names.Family.the-variants as family
 use Rattle.model.specs.declared.names.Link.the-variants as link
 use Rattle.model.specs.declared.names.Limit.the-variants as limit
+use Rattle.model.specs.declared.names.Start.the-variants as start
 use Rattle.table.specs.declared.verdicts.LentLengths.{{LentLengths}}
 use Rattle.call.specs.Call.{{Lent}}
 use Rattle.call_cases.specs.Told.{{Told, toldOf}}

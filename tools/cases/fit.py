@@ -8,7 +8,7 @@ import struct, sys
 
 sys.dont_write_bytecode = True
 from rule import answer
-from table import FAMILIES, LINKS, RESULTS, TABLE, laid
+from table import FAMILIES, LINKS, RESULTS, STARTS, TABLE, laid
 import fit
 from form import job_bytes
 from reader import read
@@ -55,17 +55,17 @@ def fed(word, c):
     lists = [c[name] for name in INPUTS]
     data = struct.pack(f">Q{len(word)}s", len(word), word.encode())
     data += struct.pack(">22Q", *laid(22, dict(zip([0, 10], lists[5:7])))) + struct.pack(">57d", *laid(57, dict(zip([0, 21, 26, 31, 36, 45], [*lists[:5], lists[7]]))))
-    settings = [FAMILIES.index(c["family"]), LINKS.index(c["link"]), c["n_agq"], 2**64 - 1 if c["limit"] is None else c["limit"], c["n"], c["p"], c["rows"], c["entries"]]
+    settings = [FAMILIES.index(c["family"]), LINKS.index(c["link"]), c["n_agq"], 2**64 - 1 if c["limit"] is None else c["limit"], c["n"], c["p"], c["rows"], c["entries"], STARTS.index(c["start"])]
     blocks = [*c["blocks"], (0, 0)][:2]
     lent = [c[name] for name in [*RESULTS, *("work_" + name for name in WORK)]]
-    return data + struct.pack(">33Q", *settings, len(c["blocks"]), *(m for m, _ in blocks), *(k for _, k in blocks), *map(len, lists), *lent)
+    return data + struct.pack(">34Q", *settings, len(c["blocks"]), *(m for m, _ in blocks), *(k for _, k in blocks), *map(len, lists), *lent)
 
 
 def job_of(c):
     rows = [[[column, value] for column, value in zip(c["columns"][a:b], c["values"][a:b])] for a, b in zip(c["starts"], c["starts"][1:])]
     x = [c["x"][i * c["p"]:(i + 1) * c["p"]] for i in range(c["n"])]
     return {"family": c["family"], "link": c["link"], "n_agq": c["n_agq"], "limit": c["limit"], "blocks": [{"m": m, "k": k} for m, k in c["blocks"]], "theta": c["theta"], "y": c["y"],
-            "weights": c["weights"] or None, "offset": c["offset"] or None, "x": x, "zt": rows}
+            "weights": c["weights"] or None, "offset": c["offset"] or None, "x": x, "zt": rows, "version": 2, "start": c["start"]}
 
 
 def fitted(c):
@@ -86,8 +86,8 @@ def told(word, number, counts, results, wiped):
     print("; ".join(f"{name} wiped {n}" if wiped else f"{name} as lent" for name, n in zip(WORK, wiped or [0] * 3)))
 
 
-def run(word, family, link, n_agq, blocks, places, lengths, p=2, q=2, entries=4, n=4, limit=None, cause=None):
-    settings = dict(family=family, link=link, n_agq=n_agq, limit=limit, n=n, p=p, rows=q, entries=entries, blocks=blocks)
+def run(word, family, link, n_agq, blocks, places, lengths, p=2, q=2, entries=4, n=4, limit=None, cause=None, start="usual"):
+    settings = dict(family=family, link=link, n_agq=n_agq, limit=limit, n=n, p=p, rows=q, entries=entries, start=start, blocks=blocks)
     c = asked(settings, places, lengths)
     if "--stdin" in sys.argv:
         return sys.stdout.buffer.write(fed(word, c))
@@ -143,6 +143,10 @@ def laplace():
     groups("Gamma log", "gamma", "log", 1, 44, 32, 36)
     groups("unsettled Gamma", "gamma", "identity", 1, 32)
     groups("NaN", "binomial", "logit", 1, HALVES, HUGE)
+    for link in ("logit", "cloglog"):
+        groups(f"trials, {link}", "binomial", link, 1, 28, 32, 36, start="trials")
+    groups("trials, weights absent", "binomial", "logit", 1, 28, start="trials")
+    groups("weights absent", "binomial", "logit", 1, 28)
 
 
 def quadrature():
@@ -150,6 +154,7 @@ def quadrature():
     a log sum, the block's inverse, its factor."""
     groups("order 3", "poisson", "log", 2, 24)
     groups("order 11", "binomial", "logit", 31, 28, 32, 36)
+    groups("trials, order 5", "binomial", "logit", 5, 28, 32, start="trials")
     groups("order 5", "gaussian", "identity", 4, 40, 32, 36)
     groups("Gamma order 3", "gamma", "log", 2, 44)
     effects("effects 7", "log", 7, [(1, 2)], 48, 1, 5)
@@ -183,7 +188,8 @@ def refused_tries():
 
 def refusals():
     """Number 1, of each size and of the limit; each slice one short and one longer: number 2, of the last three 7 where they are short and 0 where they are longer; number 6, of the
-    row starts and the columns; number 3, of each list of numbers; numbers 4 and 5; number 9 of each family that has a range, of Gamma for 0."""
+    row starts and the columns; number 3, of each list of numbers; numbers 4 and 5; number 9 of each family that has a range, of Gamma for 0; number 27 of each other family, of a
+    weight below 0, and behind 9."""
     for n, p, q, entries in [(0, 2, 2, 4), (513, 2, 2, 4), (4, 0, 2, 4), (4, 17, 2, 4), (4, 2, 3, 4), (4, 2, 2, 8193)]:
         good("sizes", n=n, p=p, q=q, entries=entries)
     groups("limit 1001", "poisson", "log", 3, 24, limit=1001)
@@ -199,6 +205,11 @@ def refusals():
     good("list 1 at 24", {1: 24})
     groups("below 0", "poisson", "log", 3, 4)
     groups("Gamma of 0", "gamma", "inverse", 1, 24)
+    groups("Poisson trials", "poisson", "log", 3, 24, start="trials")
+    groups("Gaussian trials", "gaussian", "identity", 3, 40, start="trials")
+    groups("Gamma trials", "gamma", "log", 3, 44, start="trials")
+    groups("trials below 0", "binomial", "logit", 1, HALVES, HUGE, start="trials")
+    groups("trials, range", "binomial", "logit", 3, 24, HUGE, start="trials")
 
 
 def noted(declined, number, cause):
@@ -212,4 +223,4 @@ quadrature()
 ends()
 refused_tries()
 refusals()
-assert "--stdin" in sys.argv or given == {*range(8), 9, *range(10, 14)}
+assert "--stdin" in sys.argv or given == {*range(8), 9, *range(10, 14), 27}

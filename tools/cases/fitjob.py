@@ -3,7 +3,7 @@
        fitjob.py --stdin > crates/cases_fitjob/stdin
        fitjob.py --into FOLDER
 What `cases_fitjob` must print, by the oracle, and the jobs that it is given, each behind its length in three bytes; or the jobs as files, named by their numbers.
-Job 0 is one byte too long and stands in the program. Then: case J, L 1000 and 1001, every refusal that a job can meet with its byte, the closed fits of
+Job 0 is one byte too long and stands in the program. Then: case J, L 1000 and 1001, every refusal that a job can meet with its byte, both starts of version 2, the closed fits of
 rule_cases, agq_cases and call_cases (every end), the fits of crates/cases_fitjob/jobs.json, and random jobs of every kind (tools/glmm/kinds.py), the largest of them of 65,536 bytes."""
 import json, random, subprocess, sys, tempfile
 from pathlib import Path
@@ -12,28 +12,29 @@ sys.dont_write_bytecode = True
 ROOT = Path(__file__).resolve().parent.parent.parent
 sys.path.insert(0, str(ROOT / "tools" / "glmm"))
 import kinds
-from damage import CASE_J, TWO_BLOCKS, with_field
+from damage import CASE_J, CASE_J_SECOND, TWO_BLOCKS, TWO_BLOCKS_SECOND, with_field
 from form import job_bytes
 
 PLAIN = {"limit": 5}  # of a small job that would be fitted
 SHARES = {"scalar": 4, "product": 4, "joint": 4, "strong": 2, "weights": 3, "thetas": 3, "stored_zeros": 2, "dispersion": 4, "halved": 2, "far": 2, "least": 2, "singular": 1,
           "in_vain": 2, "pivots": 2, "coupled": 2, "later_group": 1, "second_block": 1, "out_of_range": 2, "extremes": 2, "no_residual": 2, "refused": 4, "middle": 1, "wide": 1,
-          "full_joint": 1, "gamma": 16}
+          "full_joint": 1, "trials": 6, "gamma": 16}
 
 
 def job_refusals():
-    """20, 21, 24, 22, 23 and 1, each at its byte."""
-    one, two = job_bytes(CASE_J), job_bytes(TWO_BLOCKS)
-    yield from (b"", one[:1], one[:5], one[:7], one[:20], one[:33], one[:43], two[:-1])  # 20
-    yield from (with_field(one, 0, 4, version) for version in (0, 2, 15))  # 21
+    """20, 21, 24, 22, 23 and 1, each at its byte, in both versions where the place is another."""
+    one, two, second = job_bytes(CASE_J), job_bytes(TWO_BLOCKS), job_bytes(CASE_J_SECOND)
+    yield from (b"", one[:1], one[:5], one[:7], one[:20], one[:33], one[:43], two[:-1], second[:6], second[:7], second[:44])  # 20
+    yield from (with_field(one, 0, 4, version) for version in (0, 3, 15))  # 21
     yield from (with_field(one, 6, 3, 7), with_field(one, 38, 10, 1022))  # 24
     yield from (with_field(one, 59, 5, 1), with_field(one, 8 * 33 + 5, 3, 4), with_field(one, 8 * 35 + 5, 3, 1))  # 22: block, row, entry
-    yield from (one + b"\0", two + one)  # 23
+    yield from (with_field(second, 49, 1, 1), with_field(second, 55, 1, 1), with_field(with_field(second, 55, 1, 1), 38, 10, 1001))  # 22 behind the start; 24 before it
+    yield from (one + b"\0", two + one, second + b"\0")  # 23
     yield from (with_field(one, 16, 13, 0), with_field(one, 16, 13, 513), with_field(one, 29, 5, 17), with_field(one, 34, 4, 0), with_field(one, 48, 7, 33))  # 1
 
 
 def table_refusals():
-    """6, 3, 4, 5 and 9 at byte 0, and which comes first where there are two."""
+    """6, 3, 4, 5, 9 and 27 at byte 0, and which comes first where there are two."""
     fair = {**CASE_J, **PLAIN}
     inf = float("inf")
     yield {**fair, "zt": [[[1, 1]]]}  # 6: a column that is not below n
@@ -56,6 +57,20 @@ def table_refusals():
     for family, link, y in (("binomial", "logit", 1.0000000000000002), ("binomial", "cloglog", -5e-324), ("poisson", "log", -5e-324), ("gamma", "inverse", 0.0), ("gamma", "log", -0.0)):
         yield {**fair, "family": family, "link": link, "y": [y]}  # 9
     yield {**TWO_BLOCKS, "y": [0.0, 1.0, 1.5], "weights": [1.0, 2.0, 0.0]}  # 9: a response of weight 0
+    for family, link in (("poisson", "log"), ("gaussian", "identity"), ("gamma", "log")):
+        yield {**CASE_J_SECOND, **PLAIN, "start": "trials", "family": family, "link": link}  # 27: another family
+    for weight in (-1.0, -5e-324):
+        yield {**TWO_BLOCKS_SECOND, "weights": [1.0, 2.0, weight]}  # 27: a weight below 0
+    yield {**TWO_BLOCKS_SECOND, "weights": [-1.0, 2.0, 3.0], "y": [0.0, 1.0, 1.5]}  # 9 before 27
+    yield {**CASE_J_SECOND, "start": "trials", "link": "logit"}  # 4 before 27
+
+
+def starts():
+    """Small jobs of version 2, the start that they ask for told apart by what is printed: weights that are numbers of trials, none of them or some; weights that are absent or all 1."""
+    for weights in ([1.0, 2.0, 3.0], [0.0, -0.0, 3.0], [40.0, 7.0, 12.0], [1.0, 1.0, 1.0], None):
+        for start in ("usual", "trials"):
+            yield {**TWO_BLOCKS_SECOND, "weights": weights, "start": start}
+    yield CASE_J_SECOND
 
 
 def pairs():
@@ -73,7 +88,7 @@ def pairs():
 def jobs():
     """The jobs of standard input, in this order."""
     one = job_bytes(CASE_J)
-    found = [one, with_field(one, 38, 10, 1000), with_field(one, 38, 10, 1001), *job_refusals(), *map(job_bytes, table_refusals())]
+    found = [one, with_field(one, 38, 10, 1000), with_field(one, 38, 10, 1001), *job_refusals(), *map(job_bytes, table_refusals()), *map(job_bytes, starts())]
     for crate in ("rule_cases", "agq_cases", "call_cases", "cases_fitjob"):
         found += [job_bytes(about) for about in json.loads((ROOT / "crates" / crate / "jobs.json").read_text()).values()]
     found += map(job_bytes, pairs())

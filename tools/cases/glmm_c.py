@@ -104,6 +104,8 @@ def fits():
     tries that are refused for each of the three tests, which are counted at places of their own."""
     run("log", job())
     run("logit", job(family="binomial", link="logit", n_agq=3, y=[0.25, 0.5, 0.0, 1.0], weights=[4.0, 2.0, 3.0, 1.0], offset=[0.1, 0.2, -0.3, 0.0]))
+    run("trials", job(version=2, start="trials", family="binomial", link="logit", n_agq=3, y=[0.25, 0.5, 0.0, 1.0], weights=[4.0, 2.0, 3.0, 1.0]))
+    run("version 2", job(version=2))
     run("Gaussian", job(family="gaussian", link="identity", n_agq=5, y=[1.5, -0.25, 3.0, 0.75], weights=[4.0, 2.0, 3.0, 1.0]))
     run("Gamma", job(family="gamma", link="log", n_agq=3, y=[1.5, 0.25, 3.0, 0.75], weights=[4.0, 2.0, 3.0, 1.0]))
     run("unsettled", job(family="gaussian", link="identity", y=[3.0, 0.0, 5.0, 0.25]))
@@ -124,8 +126,11 @@ def refusals():
     whole = job_bytes(job())
     run("no byte", job(), data=b"")
     run("cut", job(), data=whole[:-1])
-    run("version", job(), data=b"\x25" + whole[1:])
+    run("version", job(), data=b"\x35" + whole[1:])
     run("spare bit", job(), data=whole[:7] + b"\xff" + whole[8:])
+    second = job_bytes(job(version=2))
+    run("no start", job(version=2), data=second[:6])
+    run("zero bit", job(version=2), data=second[:6] + b"\x81" + second[7:])
     run("more", job(), data=whole + b"\0")
     run("limit 1022", job(), data=whole[:4] + bytes([whole[4] | 3, 0xFE]) + whole[6:])
     run("link 7", job(link=7))
@@ -137,6 +142,9 @@ def refusals():
     run("Gamma sqrt", job(family="gamma", link="sqrt"))
     run("Gamma of 0", job(family="gamma", link="inverse"))
     run("above 1", job(family="binomial", link="logit"))
+    run("Poisson trials", job(version=2, start="trials"))
+    run("trials below 0", job(version=2, start="trials", family="binomial", link="logit", y=[0.25, 0.5, 0.0, 1.0], weights=[4.0, 2.0, -3.0, 1.0]))
+    run("trials above 1", job(version=2, start="trials", family="binomial", link="logit", weights=[4.0, 2.0, -3.0, 1.0]))
 
 
 def lengths():
@@ -177,4 +185,4 @@ fits()
 refusals()
 lengths()
 beside()
-assert "--stdin" in sys.argv or given == {*range(8), 9, *range(10, 14), *range(20, 25)}
+assert "--stdin" in sys.argv or given == {*range(8), 9, *range(10, 14), *range(20, 25), 27}

@@ -2,13 +2,13 @@
 """usage: job.py > crates/cases_job/stdout
        job.py --stdin > crates/cases_job/stdin
 What `cases_job` must print, by the Python reader of jobs (tools/glmm/reader.py) and document 01's lines, and the jobs that it is given:
-case J, L 1000 and 1001, and every kind of damage to two small jobs, each behind one more than its length in eight bytes."""
+case J, L 1000 and 1001, and every kind of damage to two small jobs in both versions, each behind one more than its length in eight bytes."""
 import struct, sys
 from pathlib import Path
 
 sys.dont_write_bytecode = True
 sys.path.insert(0, str(Path(__file__).parent.parent / "glmm"))
-from damage import CASE_J, TWO_BLOCKS, all_blocks, block_sizes, counts_and_columns, cuts, fields, not_finite, pairs, spare_bits, surplus, two_faults, with_field
+from damage import CASE_J, CASE_J_SECOND, TWO_BLOCKS, TWO_BLOCKS_SECOND, all_blocks, block_sizes, counts_and_columns, cuts, fields, not_finite, pairs, spare_bits, surplus, two_faults, with_field
 from form import job_bytes
 from reader import Refused, parse
 
@@ -17,8 +17,9 @@ def jobs():
     """Small jobs, each once, in this order."""
     one, two = job_bytes(CASE_J), job_bytes(TWO_BLOCKS)
     found = [one, with_field(one, 38, 10, 1000), with_field(one, 38, 10, 1001), two]
-    for name, about in (("J", CASE_J), ("two", TWO_BLOCKS)):
+    for name, about in (("J", CASE_J), ("two", TWO_BLOCKS), ("J-second", CASE_J_SECOND), ("two-second", TWO_BLOCKS_SECOND)):
         data = job_bytes(about)
+        found.append(data)
         for kind in (cuts, surplus):
             found += [damaged for _, damaged in kind(name, data)]
         for kind in (spare_bits, counts_and_columns, two_faults):
@@ -52,7 +53,7 @@ def told(data):
         starts.append(starts[-1] + len(r))
     weights, offset = job.weights or [], job.offset or []
     limit = "none" if job.limit is None else job.limit
-    print("accepted", job.family, job.link, job.n_agq, limit, job.n, job.p, job.q, len(entries), len(job.theta), len(weights), len(offset))
+    print("accepted", job.family, job.link, job.n_agq, limit, job.n, job.p, job.q, len(entries), job.start, len(job.theta), len(weights), len(offset))
     blocks = job.blocks + [(0, 0)] * (8 - job.count)
     print("blocks", job.count, *[number for block in blocks for number in block])
     row("theta", job.theta, hexed(9.0))

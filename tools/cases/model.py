@@ -8,7 +8,7 @@ from itertools import accumulate
 
 MOST = 2 ** 64 - 1
 # the calls by their codes
-CALLS = ["family", "link", "limit", "shape", "sizes", "refused", "unfitted", "fitted", "items"]
+CALLS = ["family", "link", "limit", "shape", "sizes", "refused", "unfitted", "fitted", "items", "start", "end"]
 calls, said = [], []  # the calls as they are fed, and behind them the words of the lines whose calls stand in the program
 FAMILIES = ["binomial", "Poisson", "Gaussian", "Gamma"]
 LINKS = ["logit", "probit", "cloglog", "log", "identity", "inverse", "sqrt"]
@@ -142,7 +142,7 @@ sizes(512, 16, 32, 8193, 1000, LARGE)
 sizes(512, 16, 32, 8192, 1001, LARGE)
 
 # the refusals in the order of the table, then the ends
-for code, number in enumerate([1, 2, 7, 6, 3, 4, 5, 9]):
+for code, number in enumerate([1, 2, 7, 6, 3, 4, 5, 9, 27]):
     call("refused", ["refused"], code)
     line("refused", number, *answer(number))
 WORK = (241, 1205, 4820, 14461, 2400, 1000, 220, 1200)
@@ -152,6 +152,11 @@ for code, number in enumerate([10, 11, 12, 13]):
 fitted(97.5, 1.0, 1, 6, True, 5)
 fitted(float("inf"), 0.1, 11, 0, False, 1000)
 fitted(-0.0, float("nan"), 3, 0, True, 0)
+
+coded("start", ["usual", "trials"], [0, 1, 2, MOST])
+for number in [0, 1, 9, 10, 11, 12, 13, 14, 27, MOST]:
+    call("end", ["end", number], number)
+    line("end", number, 10 <= number <= 13)
 
 call("items", ["items"], 6561)
 line("items", *[0] * 8, *[0, 0, 0, 6561, 0, 0, 0, 0], *[1, 0, 0, 0, 0, 0, 0, 0], *[0, 1, 0, 0, 0, 0, 0, 0])

@@ -9,6 +9,7 @@ NAN, INF = math.nan, math.inf
 BIG = 1 << 63
 LEAST, MOST, BELOW_ONE, ABOVE_ONE = 5e-324, 1.7976931348623157e308, 1.0 - 2.0**-53, 1.0 + 2.0**-52
 LINKS = ["logit", "probit", "cloglog", "log", "identity", "inverse", "sqrt"]
+STARTS = ["usual", "trials"]
 FAMILIES = ["binomial", "poisson", "gaussian", "gamma"]
 VALID = {"binomial": {"logit", "probit", "cloglog"}, "poisson": {"log", "identity", "sqrt"}, "gaussian": {"identity", "log", "inverse"}, "gamma": {"inverse", "identity", "log"}}
 RESULTS = ["beta", "se", "z", "u", "b", "mu", "eta", "residual", "v"]
@@ -16,7 +17,7 @@ seen = set()
 
 
 def call(**changes):
-    c = dict(family="poisson", link="log", limit=None, n=3, p=2, rows=2, entries=3, blocks=[(2, 1)], theta=[1.0], y=[1.0, 2.0, 3.0], weights=[], offset=[],
+    c = dict(family="poisson", link="log", limit=None, n=3, p=2, rows=2, entries=3, blocks=[(2, 1)], theta=[1.0], y=[1.0, 2.0, 3.0], weights=[], offset=[], start="usual",
              x=[1.0, 0.5, 1.0, 0.25, 1.0, 0.125], starts=[0, 2, 3], columns=[0, 2, 1], values=[1.0] * 3, beta=2, se=2, z=2, u=2, b=2, mu=3, eta=3, residual=3, v=4,
              work_rows=48, work_matrices=84, work_terms=7000)
     assert set(changes) <= set(c)
@@ -58,7 +59,12 @@ def ranges(c):
     return all(map(test, c["y"]))
 
 
-TABLE = [(1, sizes), (2, lengths), (7, work), (6, sparse), (3, numbers), (4, lambda c: c["link"] in VALID[c["family"]]), (5, lambda c: c["link"] != "probit"), (9, ranges)]
+def started(c):
+    return c["start"] == "usual" or c["family"] == "binomial" and not any(w < 0 for w in c["weights"])
+
+
+TABLE = [(1, sizes), (2, lengths), (7, work), (6, sparse), (3, numbers), (4, lambda c: c["link"] in VALID[c["family"]]), (5, lambda c: c["link"] != "probit"), (9, ranges),
+         (27, started)]
 
 
 def laid(size, lists):
@@ -76,9 +82,9 @@ def fed(word, c):
     lists = [c[k] for k in ["theta", "y", "weights", "offset", "x", "starts", "columns", "values"]]
     data = struct.pack(f">Q{len(word)}s", len(word), word.encode())
     data += struct.pack(">8Q", *laid(8, dict(zip([0, 4], lists[5:7])))) + struct.pack(">25d", *laid(25, dict(zip([0, 2, 6, 10, 14, 21], [*lists[:5], lists[7]]))))
-    settings = [FAMILIES.index(c["family"]), LINKS.index(c["link"]), 2 * BIG - 1 if c["limit"] is None else c["limit"], c["n"], c["p"], c["rows"], c["entries"]]
+    settings = [FAMILIES.index(c["family"]), LINKS.index(c["link"]), 2 * BIG - 1 if c["limit"] is None else c["limit"], c["n"], c["p"], c["rows"], c["entries"], STARTS.index(c["start"])]
     lent = [c[k] for k in [*RESULTS, "work_rows", "work_matrices", "work_terms"]]
-    return data + struct.pack(">29Q", *settings, *c["blocks"][0], *map(len, lists), *lent)
+    return data + struct.pack(">30Q", *settings, *c["blocks"][0], *map(len, lists), *lent)
 
 
 def ask(word, **changes):
@@ -127,11 +133,16 @@ def main():
     for at in range(3):
         for weights in [], [float(i != at) for i in range(3)]:
             ask("range", family="binomial", link="logit", y=[1.5 if i == at else 0.5 for i in range(3)], weights=weights)
+    for family, link, ys, weights in [("binomial", "logit", 0.5, []), ("binomial", "logit", 0.5, [2.0, 3.0, 4.0]), ("binomial", "cloglog", 0.5, [0.0, -0.0, 1.0]), ("binomial", "logit", 0.5, [1.0, 1.0, -0.125]),
+                                      ("binomial", "logit", 1.5, [1.0, 1.0, -0.125]), ("binomial", "probit", 0.5, [-1.0, 1.0, 1.0]), ("poisson", "log", 1.0, []), ("gaussian", "identity", 1.0, [1.0] * 3),
+                                      ("gamma", "log", 1.0, []), ("gamma", "log", 0.0, []), ("poisson", "logit", 1.0, [])]:
+        ask("start", family=family, link=link, y=[ys] * 3, weights=weights, start="trials")
+        ask("usual start", family=family, link=link, y=[ys] * 3, weights=weights)
     for n, beta, terms, column, y in [(513, 1, 6999, 3, NAN), (3, 1, 6999, 3, NAN), (3, 2, 6999, 3, NAN), (3, 2, 7000, 3, NAN), (3, 2, 7000, 2, NAN), (3, 2, 7000, 2, 2.0)]:
         ask("faults", family="gamma", link="probit", n=n, beta=beta, work_terms=terms, columns=[0, column, 1], y=[1.0, y, 3.0])
     for fault in [dict(n=513), dict(beta=1), dict(work_terms=6999), dict(columns=[0, 3, 1]), dict(x=[NAN] * 6), dict(link="sqrt"), dict(link="probit"), dict(link="logit")]:
         ask("faults", **{"family": "binomial", "link": "logit", "y": [0.5, 1.5, -1.0]} | fault)
-    assert "--stdin" in sys.argv or seen == {1, 2, 3, 4, 5, 6, 7, 9}
+    assert "--stdin" in sys.argv or seen == {1, 2, 3, 4, 5, 6, 7, 9, 27}
 
 
 if __name__ == "__main__":

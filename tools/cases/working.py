@@ -1,8 +1,8 @@
 #!/usr/bin/env python3
 """usage: working.py > crates/cases_working/stdout
 What `cases_working` must print, by Python's own doubles and the links and families of tools/glmm: w and z as in `pirls_with_workspace`, the offset,
-the start, and what a stop is told by. Stops where a careless reading would print the same, since the case would then show nothing."""
-import sys
+both starts, and what a stop is told by. Stops where a careless reading would print the same, since the case would then show nothing."""
+import struct, sys
 from pathlib import Path
 
 sys.path.append(str(Path(__file__).resolve().parents[1] / "glmm"))
@@ -86,6 +86,13 @@ with_offset([0.1, -0.2, 1.0, 1e16, -0.7])
 with_offset([])
 
 
+def means(family):
+    y = [0.0, 1.0, 0.3, -0.0, 1e16]
+    show("means", *[start_mean(family, v) for v in y], 9.0)
+    for weights in ([4.0, 2.0, 3.0, 0.0, 0.5], [1.0] * 5):
+        show("means", *[trials_mean(w, v) for w, v in zip(weights, y)], 9.0)
+
+
 def deviances(family, y, weights):
     mu = [0.4, 0.6, 0.3, 1.5]
     devs = [deviance(family, *a) for a in zip(y, mu, weights or [1.0] * 4)]
@@ -95,12 +102,17 @@ def deviances(family, y, weights):
 
 
 for family in (BINOMIAL, POISSON, GAUSSIAN):
-    show("means", *[start_mean(family, y) for y in [0.0, 1.0, 0.3, -0.0, 1e16]], 9.0)
+    means(family)
     deviances(family, [0.0, 1.0, 0.3, 0.9], [])
     deviances(family, [0.0, 1.0, 0.3, 0.9], [1.0, 0.3, 0.0, -2.0])
-show("means", *[start_mean(GAMMA, y) for y in [0.0, 1.0, 0.3, -0.0, 1e16]], 9.0)
+means(GAMMA)
 deviances(GAMMA, [0.0, 1.0, 0.3, 0.9], [])
 deviances(GAMMA, [0.7, 1.0, 0.3, 0.9], [])
 deviances(GAMMA, [0.7, 1.0, 0.3, 0.9], [1.0, 0.3, 0.0, 2.0])
+
+for line in (Path(__file__).parent / "mustart.txt").read_text().splitlines():  # R's own start, by tools/lme4
+    if not line.startswith("#"):
+        w, y, mean = (struct.unpack(">d", bytes.fromhex(digits))[0] for digits in line.split())
+        assert text(trials_mean(w, y)) == line.split()[2], line
 
 show("pivots", *[total(ln(abs(d)) for d in ds) for ds in ([0.3, -7.1, 1e-300], [2.0, -0.0, 3.0], [])])

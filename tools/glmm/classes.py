@@ -24,18 +24,23 @@ CAUSES = [*(("1", size) for size in SIZES), ("6", "a column not below n"), ("6",
           *(("3", f"{kind} in {place}") for place in [*LISTS, "Z'"] for kind in ("NaN", "infinity")),
           *(("4", name_of((f, l))) for f in range(4) for l in range(7) if (f, l) not in VALID), *(("5", name_of(pair)) for pair in sorted(VALID - CARRIED)),
           ("9", "binomial below 0"), ("9", "binomial above 1"), ("9", "poisson below 0"), ("9", "gamma below 0"), ("9", "gamma at 0"),
-          *(("20", place) for place in PLACES), ("21", "version 0"), ("21", "version 2 to 15"), *(("22", place) for place in ("block", "count of a row", "column")),
-          ("23", "one byte"), ("23", "more bytes"), ("24", "link 7"), ("24", "limit 1001 to 1022"), ("25", "65,537 bytes"), ("25", "more bytes")]
+          *(("20", place) for place in PLACES), ("21", "version 0"), ("21", "version 3 to 15"), *(("22", place) for place in ("header", "block", "count of a row", "column")),
+          ("23", "one byte"), ("23", "more bytes"), ("24", "link 7"), ("24", "limit 1001 to 1022"), ("25", "65,537 bytes"), ("25", "more bytes"), ("27", "not binomial"), ("27", "a weight below 0")]
 
 
 def field(data, at, width):
     return int.from_bytes(data, "big") >> 8 * len(data) - at - width & (1 << width) - 1
 
 
+def head_length(data):
+    """How many bytes the header has, by the version."""
+    return 7 if data[:1] and data[0] >> 4 == 2 else 6
+
+
 def sizes(data):
     """n, p and the blocks of a job whose header and blocks are whole."""
-    head = data[:6 + 2 * field(data[:6], 34, 4)]
-    return field(head, 16, 13), field(head, 29, 5), [(field(head, at, 7), field(head, at + 7, 4)) for at in range(48, 8 * len(head), 16)]
+    head = data[:head_length(data) + 2 * field(data[:6], 34, 4)]
+    return field(head, 16, 13), field(head, 29, 5), [(field(head, at, 7), field(head, at + 7, 4)) for at in range(8 * head_length(data), 8 * len(head), 16)]
 
 
 def wrong_sizes(data):
@@ -54,8 +59,9 @@ def lengths(data):
 
 def fields(data):
     """Each field with the byte behind it, as far as a row's count can be read."""
-    yield "header", 6
-    at = 6 + 2 * field(data[:6], 34, 4) if len(data) >= 6 else 6
+    at = head_length(data)
+    yield "header", at
+    at += 2 * field(data[:6], 34, 4) if len(data) >= at else 0
     yield "block", at
     if len(data) < at:
         return
@@ -93,16 +99,20 @@ def wrong_responses(job):
     return [f"{FAMILIES[job.family]} {names[job.family](y)}" for y in job.y if not in_range(job.family, y)]
 
 
+def wrong_start(job):
+    return ["not binomial"] * (job.family != 0) + ["a weight below 0"] * any(w < 0.0 for w in job.weights or [])
+
+
 def causes(number, byte, data):
     """What is wrong in a job that was refused with a number at a byte."""
-    if number in (3, 4, 5, 6, 9):
+    if number in (3, 4, 5, 6, 9, 27):
         job = parse(data)
-        return {6: wrong_columns, 3: wrong_numbers, 9: wrong_responses}.get(number, lambda job: [name_of((job.family, job.link))])(job)
+        return {6: wrong_columns, 3: wrong_numbers, 9: wrong_responses, 27: wrong_start}.get(number, lambda job: [name_of((job.family, job.link))])(job)
     if number == 1:
         return wrong_sizes(data)
     if number in (20, 22):
         return [place_of(data, byte)]
-    return {21: lambda: ["version 0" if data[0] < 16 else "version 2 to 15"], 24: lambda: ["link 7" if byte == 0 else "limit 1001 to 1022"],
+    return {21: lambda: ["version 0" if data[0] < 16 else "version 3 to 15"], 24: lambda: ["link 7" if byte == 0 else "limit 1001 to 1022"],
             23: lambda: ["one byte" if len(data) == byte + 1 else "more bytes"], 25: lambda: ["65,537 bytes" if len(data) == 65537 else "more bytes"]}[number]()
 
 
@@ -111,6 +121,7 @@ def causes(number, byte, data):
 LARGEST = ["n 512", "p 16", "q 32", "8 blocks", "k 8", "n 512 and p 14", "n 481 and p 16", f"{MOST_ENTRIES:,} entries", "65,536 bytes", "343 points a group",
            "6,561 points"]
 LIMITS = ["0", "1 to 999", "1000", "not given"]
+STARTS = ["version 1", "version 2, usual", "version 2, trials"]
 ASKED = ["Laplace", *RULES, "declined"]
 DECLINES = ["no order: product, k above 5", "no order: joint, q above 8",
             *(f"{rule}, {when}" for rule in RULES for when in ("no points", "after points", "free dispersion"))]
@@ -119,7 +130,7 @@ PARTS = {"eta": "refused for eta", "mean": "refused for a mean", "pwrss": "refus
 FLAGS = ["flag 0, Laplace", "flag 0, quadrature", "flag 1, Laplace", "flag 1, quadrature"]
 DRESSES = ["no weights, no offset", "weights, no offset", "no weights, offset", "weights, offset"]
 GAMMA = ["a Gamma response above 0 and below E", "a Gamma mean not above 0", "Gamma weights that sum to less than 1", "a Gamma phi near E"]
-WAYS = ["steps halved", "a weight not above 0", "a response at an end of its range", "deviance NaN", "deviance infinite", *GAMMA]
+WAYS = ["steps halved", "a weight not above 0", "a response at an end of its range", "deviance NaN", "deviance infinite", "trials without weights", "no trial", *GAMMA]
 
 
 def rule_of(job):
@@ -156,11 +167,16 @@ def limit_of(job):
     return "not given" if job.limit is None else str(job.limit) if job.limit in (0, 1000) else "1 to 999"
 
 
+def start_of(job):
+    return STARTS[job.version - 1 + job.start]
+
+
 def on_the_way(job, said, deviance):
     """What else can happen in a fit that ends with 0."""
     yield from ["steps halved"] * (said["tries"] > said["solves"])
     yield from ["a weight not above 0"] * (min(job.weights or [1.0]) <= 0)
     yield from ["a response at an end of its range"] * (job.family < 2 and (0.0 in job.y or job.family == 0 and 1.0 in job.y))
+    yield from ["trials without weights"] * (job.start == 1 and not job.weights) + ["no trial"] * (job.start == 1 and 0.0 in (job.weights or []))
     if deviance[:3] in ("7FF", "FFF"):
         yield "deviance NaN" if deviance[3:].strip("0") else "deviance infinite"
 
@@ -176,6 +192,7 @@ def fitted(job, data, said, lines):
     pair = name_of((job.family, job.link))
     kind, detail = integration(job, said)
     yield "quadrature", (pair, kind)
+    yield "quadrature by start", (start_of(job), kind)
     yield "order", (kind, detail)
     yield "why", (rule_of(job), f"why {said['why']}")
     yield "dispersion", (pair, f"flag {said['disp']}, " + ("Laplace" if said["order"] == 1 else "quadrature"))
@@ -201,6 +218,7 @@ def classes_of(data, text):
     pair = name_of((job.family, job.link))
     yield "family and link", (pair, f"end {said['end']}")
     yield "limit", (limit_of(job), f"end {said['end']}")
+    yield "start", (start_of(job), f"end {said['end']}")
     for part in PARTS:
         if said[part] > 0:
             yield "tries", (PARTS[part], f"end {said['end']}")
@@ -214,8 +232,8 @@ def classes_of(data, text):
 
 ROWS_AND_COLUMNS = {
     "family and link": (NAMES, ENDS), "quadrature": (NAMES, ASKED), "why": (RULES, WHYS), "dispersion": (NAMES, FLAGS), "lists": (NAMES, DRESSES),
-    "largest": (NAMES, LARGEST), "limit": (LIMITS, ENDS), "tries": ([*PARTS.values()], ENDS), "inner fits": (ENDS[1:], ["in the first", "in a later one"])}
-NAMED = {"ending": [*ENDS, *(f"refused {number}" for number in [*range(1, 8), 9, *range(20, 26)])], "refused": CAUSES,
+    "largest": (NAMES, LARGEST), "limit": (LIMITS, ENDS), "start": (STARTS, ENDS), "quadrature by start": (STARTS, ASKED), "tries": ([*PARTS.values()], ENDS), "inner fits": (ENDS[1:], ["in the first", "in a later one"])}
+NAMED = {"ending": [*ENDS, *(f"refused {number}" for number in [*range(1, 8), 9, *range(20, 26), 27])], "refused": CAUSES,
          "order": [("Laplace", "not asked for"), *((rule, f"order {order}") for rule in RULES for order in (3, 5, 7, 9, 11)),
                    *(("declined", cause) for cause in DECLINES)],
          "on the way": WAYS}

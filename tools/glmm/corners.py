@@ -28,11 +28,11 @@ def filled(r, about, room):
         entries += [[i, between(r, -1.0, 1.0)] for i in sorted(r.sample(range(n), mine))]
 
 
-def corner(name, pair):
+def corner(name, pair, start=None):
     n, p, blocks, dressed, wish = CORNERS[name]
     n = 40 if name in ("product", "joint") and pair[0] in FREE else n  # some two hundred inner fits, each with all points
     r = random.Random(f"{name}/{'/'.join(pair)}")
-    about = description(r, pair, n, p, blocks)
+    about = description(r, pair, n, p, blocks) | ({"version": 2, "start": start} if start else {})
     about["y"], about["zt"] = [steady(r, pair) for _ in range(n)], [[] for _ in about["zt"]]
     about["theta"] = [0.05 * v for v in about["theta"]]
     about["x"] = [[1.0] + [0.1 * v for v in row[1:]] for row in about["x"]]
@@ -44,7 +44,10 @@ def corner(name, pair):
 
 
 def corner_jobs():
-    """(name, bytes) of every corner with every family and link."""
+    """(name, bytes) of every corner with every family and link, and of those with weights in version 2, binomial, with R's start."""
     for name in CORNERS:
         for pair in PAIRS:
             yield f"corner-{name}-{'-'.join(pair)}", job_bytes(corner(name, pair))
+    for name in ("effects", "all", "one"):
+        for pair in PAIRS[:2]:
+            yield f"corner-{name}-{'-'.join(pair)}-trials", job_bytes(corner(name, pair, "trials"))

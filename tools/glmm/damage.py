@@ -1,12 +1,14 @@
 """Damaged jobs: a list that depends on nothing but this file. Each has the name of what was done to it."""
 import random
-from form import job_bytes
+from form import head_length, job_bytes
 from kinds import exact
 
 CASE_J = {"family": "poisson", "link": "log", "limit": 0, "blocks": [{"m": 1, "k": 1}], "theta": [1], "y": [2], "x": [[1]], "zt": [[[0, 1]]]}
 TWO_BLOCKS = {"family": "binomial", "link": "logit", "n_agq": 3, "limit": None, "blocks": [{"m": 2, "k": 1}, {"m": 1, "k": 2}], "theta": [0.5, 1.0, 0.25, 0.75],
               "y": [0.0, 1.0, 0.5], "weights": [1.0, 2.0, 3.0], "offset": [0.0, 0.125, -0.25], "x": [[1.0, 0.5], [1.0, -0.5], [1.0, 0.25]],
               "zt": [[[0, 1.0], [2, 1.0]], [[1, 1.0]], [[0, 1.0], [1, 1.0], [2, 1.0]], [[0, 0.5], [2, -0.5]]]}
+CASE_J_SECOND = {**CASE_J, "version": 2}
+TWO_BLOCKS_SECOND = {**TWO_BLOCKS, "version": 2, "start": "trials"}
 NOT_FINITE = ["7FF0000000000000", "FFF0000000000000", "7FF8000000000000", "7FF0000000000001", "FFFFFFFFFFFFFFFF"]
 HEADER = [("version", 0, 4), ("family", 4, 2), ("link", 6, 3), ("weighted", 9, 1), ("shifted", 10, 1), ("n_agq", 11, 5), ("n", 16, 13), ("p", 29, 5), ("blocks", 34, 4),
           ("limit", 38, 10)]
@@ -60,11 +62,16 @@ def row_places(about):
 def two_byte_places(about):
     """Bytes where a field of two bytes begins, with the number of its spare bits: blocks, counts of rows, columns."""
     counts, columns = row_places(about)
-    return [(6 + 2 * i, 5) for i in range(len(about["blocks"]))] + [(at, 3) for at in sorted(counts + columns)]
+    return [(head_length(about) + 2 * i, 5) for i in range(len(about["blocks"]))] + [(at, 3) for at in sorted(counts + columns)]
 
 
 def spare_bits(name, about):
     data = job_bytes(about)
+    if head_length(about) == 7:
+        for bit in range(49, 56):
+            yield f"{name}-spare-6-{bit}", with_field(data, bit, 1, 1)
+        yield f"{name}-spare-6-cut", with_field(data, 49, 7, 1)[:7]
+        yield f"{name}-start", with_field(data, 48, 1, 1)
     for at, spare in two_byte_places(about):
         for bit in range(spare):
             yield f"{name}-spare-{at}-{bit}", with_field(data, 8 * at + 15 - bit, 1, 1)
@@ -84,14 +91,14 @@ def block_sizes(name, about):
     data = job_bytes(about)
     for i in range(len(about["blocks"])):
         for m in (0, 1, 2, 3, 31, 32, 33, 127):
-            yield f"{name}-m-{i}-{m}", with_field(data, 8 * (6 + 2 * i), 7, m)
+            yield f"{name}-m-{i}-{m}", with_field(data, 8 * (head_length(about) + 2 * i), 7, m)
         for k in (0, 1, 2, 8, 9, 15):
-            yield f"{name}-k-{i}-{k}", with_field(data, 8 * (6 + 2 * i) + 7, 4, k)
+            yield f"{name}-k-{i}-{k}", with_field(data, 8 * (head_length(about) + 2 * i) + 7, 4, k)
 
 
 def double_places(about):
     """Bytes where a double begins."""
-    start, rows = 6 + 2 * len(about["blocks"]), len(job_bytes({**about, "zt": []}))
+    start, rows = head_length(about) + 2 * len(about["blocks"]), len(job_bytes({**about, "zt": []}))
     return [*range(start, rows, 8), *(at + 2 for at in row_places(about)[1])]
 
 
@@ -106,7 +113,10 @@ def not_finite(name, about):
 def two_faults(name, about):
     """Two faults at once: which is first?"""
     data = job_bytes(about)
-    faults = {"version": (0, 4, 2), "link": (6, 3, 7), "limit": (38, 10, 1001), "n": (16, 13, 0), "k": (8 * 6 + 7, 4, 9), "spare": (8 * 6 + 11, 5, 1), "pair": (4, 2, 3)}
+    block = 8 * head_length(about)
+    faults = {"version": (0, 4, 3), "link": (6, 3, 7), "limit": (38, 10, 1001), "n": (16, 13, 0), "k": (block + 7, 4, 9), "spare": (block + 11, 5, 1), "pair": (4, 2, 3)}
+    if block == 56:
+        faults["zeros"] = (49, 7, 1)
     for one in faults:
         for two in faults:
             if one < two:
@@ -128,7 +138,7 @@ def faulty_lists(about):
 
 
 def two_of_the_table(name, about):
-    """Two faults of the table at once, of 6, 3, 4, 5 and 9: which is first?"""
+    """Two faults of the table at once, of 6, 3, 4, 5, 9 and 27: which is first?"""
     pairs = {"4": ("binomial", "sqrt"), "5": ("binomial", "probit"), "gamma": ("gamma", "log"), "4-5": ("poisson", "probit"), "4-5-gamma": ("gamma", "probit")}
     column = {**about, "zt": [[[len(about["y"]), about["zt"][0][0][1]], *about["zt"][0][1:]], *about["zt"][1:]]}
     for pair, (family, link) in pairs.items():
@@ -159,6 +169,24 @@ def responses(name, about):
     yield f"{name}-table-5-9", job_bytes({**about, "family": "binomial", "link": "probit", "y": [2.0, *about["y"][1:]]})
 
 
+def starts(name, about):
+    """R's start with each family; with a weight in each place that is or is not below 0; and with a fault that comes first."""
+    asked = {**about, "version": 2, "start": "trials", "family": "binomial", "link": "logit", "y": [0.5 for _ in about["y"]]}
+    for family, link in (("binomial", "cloglog"), ("poisson", "log"), ("gaussian", "identity"), ("gamma", "log")):
+        for weights in (None, [2.0 for _ in about["y"]], [-1.0 for _ in about["y"]]):
+            for start in ("usual", "trials"):
+                yield f"{name}-start-{start}-{family}-{weights and weights[0]}", job_bytes({**asked, "family": family, "link": link, "weights": weights, "start": start})
+    for at in range(len(about["y"])):
+        for weight in (0.0, -0.0, 5e-324, -5e-324, -1.0):
+            yield f"{name}-start-weight-{at}-{weight}", job_bytes({**asked, "weights": [weight if i == at else 1.0 for i in range(len(about["y"]))]})
+    low = {**asked, "weights": [-1.0 for _ in about["y"]]}
+    column = {"zt": [[[len(about["y"]), about["zt"][0][0][1]], *about["zt"][0][1:]], *about["zt"][1:]]}
+    for fault, other in (("6", column), ("4", {"link": "sqrt"}), ("5", {"link": "probit"}), ("9", {"y": [1.5, *asked["y"][1:]]})):
+        yield f"{name}-table-{fault}-27", job_bytes({**low, **other})
+    for place, faulty in faulty_lists(low):
+        yield f"{name}-table-3-27-{place}", job_bytes(faulty)
+
+
 def all_blocks():
     """Fifteen blocks; eight and nine of them; q of 32 and 33."""
     for count in (8, 9, 15):
@@ -187,14 +215,16 @@ def full_jobs():
 
 
 def damaged_jobs():
-    """(name, bytes) of every damaged job, the two sound ones first."""
+    """(name, bytes) of every damaged job, the four sound ones first."""
     yield "caseJ", job_bytes(CASE_J)
     yield "two", job_bytes(TWO_BLOCKS)
-    for name, about in (("caseJ", CASE_J), ("two", TWO_BLOCKS)):
+    yield "caseJ-second", job_bytes(CASE_J_SECOND)
+    yield "two-second", job_bytes(TWO_BLOCKS_SECOND)
+    for name, about in (("caseJ", CASE_J), ("two", TWO_BLOCKS), ("caseJ-second", CASE_J_SECOND), ("two-second", TWO_BLOCKS_SECOND)):
         data = job_bytes(about)
         for family in (cuts, surplus, fields, pairs):
             yield from family(name, data)
-        for family in (spare_bits, counts_and_columns, block_sizes, not_finite, two_faults, two_of_the_table, responses):
+        for family in (spare_bits, counts_and_columns, block_sizes, not_finite, two_faults, two_of_the_table, responses, starts):
             yield from family(name, about)
     yield from all_blocks()
     yield from observations()

@@ -1,10 +1,10 @@
 """Is a JSON text the description of a job (form.py)? The job may be a bad one, but everything must fit its field."""
 import json, math, re
-from form import FAMILIES, LINKS, from_groups
+from form import FAMILIES, LINKS, STARTS, from_groups
 
 FIELDS = {"version": 4, "n_agq": 5, "n": 13, "p": 5, "count": 4}  # whole numbers, each with its bits
 WANTED = ["family", "link", "blocks", "theta", "y", "x"]
-KNOWN = [*WANTED, "weights", "offset", "limit", "zt", *FIELDS]
+KNOWN = [*WANTED, "weights", "offset", "limit", "start", "zt", *FIELDS]
 SPECIAL = re.compile("[+-]?(nan|inf|infinity)|[0-9a-f]{16}", re.IGNORECASE)
 
 
@@ -92,6 +92,9 @@ def described(text):
     check_object(about, "the description", WANTED, KNOWN)
     check_named(FAMILIES, about["family"], 2, "family")
     check_named(LINKS, about["link"], 3, "link")
+    check_named(STARTS, about.get("start", "usual"), 1, "start")
+    if "start" in about and about.get("version") != 2:
+        raise Wrong("start: a job of version 2 alone says it; give version 2, too")
     for name, bits in FIELDS.items():
         check_whole(about.get(name, 0), bits, name)
     check_whole(about["limit"] if about.get("limit") is not None else 0, 10, "limit")

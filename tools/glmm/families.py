@@ -78,6 +78,11 @@ def start_mean(family, y):
     return y + 0.1 if family == POISSON else y
 
 
+def trials_mean(w, y):
+    """R's start of a binomial response, the weight being its number of trials (document 02, P10)."""
+    return over(w * y + 0.5, w + 1.0)
+
+
 def variance(family, m):
     if family == BINOMIAL:
         m = inside(m)

@@ -1,7 +1,7 @@
 """The whole call as document 01 has it: the inner fit, the Laplace deviance, quadrature, the dispersion loop, the counts. Written from document 01 and
 document 000 alone, in plain loops over lists, as a second reading beside the Rust oracle and the Rattle code."""
 import math
-from families import E, INVERSE, aic, deviance, exp, larger, link_fun, link_inv, ln, mu_eta, over, sqrt, start_mean, uses_dispersion, variance
+from families import E, INVERSE, aic, deviance, exp, larger, link_fun, link_inv, ln, mu_eta, over, sqrt, start_mean, trials_mean, uses_dispersion, variance
 from linear import Ended, cholesky, dot, forward, backward, ldl, ldl_inverse, ldl_solve, lower_inverse, total
 from rules import DIAGONAL, SPREAD, SUM, Declined, joint_order, log_sum_exp, product_order, rule
 
@@ -160,10 +160,18 @@ class Mode:
         self.order, self.why = 1, 0
 
 
+def start_means(problem):
+    """Where the means begin: the family's start, or R's where the job asks for it."""
+    job = problem.job
+    if job.start == 1:
+        return [trials_mean(w, y) for w, y in zip(problem.weights, job.y)]
+    return [start_mean(job.family, y) for y in job.y]
+
+
 def laplace_fit(problem, account, phi):
     """The inner fit without quadrature."""
     job = problem.job
-    mu = [start_mean(job.family, y) for y in job.y]
+    mu = start_means(problem)
     eta = problem.shifted([link_fun(job.link, m) for m in mu])
     limit = job.limit if job.limit is not None else 1000 if job.link == INVERSE else 100
     old = LARGEST

@@ -1,10 +1,12 @@
-"""The job format of document 01 in the writing direction, and a job as a description that can be read.
+"""The job format of documents 01 and 02 (P10: version 2) in the writing direction, and a job as a description that can be read.
 
 A description is a JSON object:
     family    "binomial", "poisson", "gaussian", "gamma" (or its number, 0 to 3)
     link      "logit", "probit", "cloglog", "log", "identity", "inverse", "sqrt" (or its number, 0 to 7)
     n_agq     a wish, 0 to 31; left out: 1
     limit     iterations of an inner fit, 0 to 1000; left out or null: not given
+    version   1 or 2; left out: 1
+    start     "usual" or "trials" (or its number, 0 or 1), in version 2 only; left out: "usual"
     blocks    a list of {"m": groups, "k": effects}
     theta     the numbers of each block's lower triangle, column by column, block after block
     y         the responses
@@ -19,6 +21,7 @@ import json, math, struct
 
 FAMILIES = ["binomial", "poisson", "gaussian", "gamma"]
 LINKS = ["logit", "probit", "cloglog", "log", "identity", "inverse", "sqrt"]
+STARTS = ["usual", "trials"]
 NOT_GIVEN = 1023
 
 
@@ -51,12 +54,18 @@ def named(names, value):
 
 
 def header(about):
-    limit = about.get("limit")
+    limit, version = about.get("limit"), about.get("version", 1)
+    behind = [(1, named(STARTS, about.get("start", "usual"))), (7, 0)] if version == 2 else []
     return packed([
-        (4, about.get("version", 1)), (2, named(FAMILIES, about["family"])), (3, named(LINKS, about["link"])),
+        (4, version), (2, named(FAMILIES, about["family"])), (3, named(LINKS, about["link"])),
         (1, about.get("weights") is not None), (1, about.get("offset") is not None), (5, about.get("n_agq", 1)),
         (13, about.get("n", len(about["y"]))), (5, about.get("p", len(about["x"][0]) if about["x"] else 0)),
-        (4, about.get("count", len(about["blocks"]))), (10, NOT_GIVEN if limit is None else limit)])
+        (4, about.get("count", len(about["blocks"]))), (10, NOT_GIVEN if limit is None else limit), *behind])
+
+
+def head_length(about):
+    """How many bytes the header has."""
+    return 7 if about.get("version", 1) == 2 else 6
 
 
 def row_bytes(row):
@@ -98,7 +107,8 @@ def numbers_text(values):
 
 def description_of(job):
     """The description of a job that was read."""
-    return {"family": FAMILIES[job.family], "link": LINKS[job.link], "n_agq": job.n_agq, "limit": job.limit,
+    later = {"version": 2, "start": STARTS[job.start]} if job.version == 2 else {}
+    return {**later, "family": FAMILIES[job.family], "link": LINKS[job.link], "n_agq": job.n_agq, "limit": job.limit,
             "blocks": [{"m": m, "k": k} for m, k in job.blocks], "theta": numbers_text(job.theta), "y": numbers_text(job.y),
             "weights": numbers_text(job.weights), "offset": numbers_text(job.offset), "x": [numbers_text(row) for row in job.x],
             "zt": [[[column, number_text(v)] for column, v in row] for row in job.zt]}

@@ -406,6 +406,16 @@ def extremes(r):
     return about
 
 
+def trials(r):
+    """Binomial counts: the weights are numbers of trials, some none, and the responses shares of them; version 2, most with R's start."""
+    about = r.choice([plain, plain, middle, scalar, product, joint, limits, thetas])(r)
+    about["family"], about["link"] = r.choice(BASE[:2])
+    most = r.choice([3, 12, 200])
+    about["weights"] = [float(r.randint(0 if r.random() < 0.2 else 1, most)) for _ in about["y"]]
+    about["y"] = [r.randint(0, int(w)) / w if w else r.choice([0.0, 0.25, 1.0]) for w in about["weights"]]
+    return {**about, "version": 2, "start": r.choice(["trials", "trials", "trials", "usual"])}
+
+
 def gamma(r):
     """Gamma in a job of another kind, with responses of its own or the kind's; some with weights that sum to less than 1, or with nearly equal responses."""
     own = r.choice([plain, plain, middle, scalar, product, joint, weights, thetas, stored_zeros, limits, dispersion, dispersion, least, singular, pivots, coupled, later_group, weightless])
@@ -422,9 +432,9 @@ def gamma(r):
 
 
 def refused(r):
-    """One fault of the table: 1, 6, 3, 4, 5 or 9; or two of them."""
+    """One fault of the table: 1, 6, 3, 4, 5, 9 or 27; or two of them."""
     about = plain(r)
-    for fault in r.sample([bad_size, bad_columns, bad_number, bad_pair, not_carried, bad_response], r.choice([1, 1, 1, 2])):
+    for fault in r.sample([bad_size, bad_columns, bad_number, bad_pair, not_carried, bad_response, bad_start], r.choice([1, 1, 1, 2])):
         fault(r, about)
     return about
 
@@ -465,8 +475,16 @@ def not_carried(r, about):
     about["family"], about["link"] = "binomial", "probit"
 
 
+def bad_start(r, about):
+    """R's start for another family, or with a weight below 0."""
+    about["version"], about["start"] = 2, "trials"
+    if about["family"] == "binomial":
+        about["weights"] = [1.0 for _ in about["y"]]
+        about["weights"][r.randrange(len(about["y"]))] = r.choice([-1.0, -1e-3, -5e-324])
+
+
 KINDS = {plain: 24, middle: 6, scalar: 8, product: 8, joint: 6, strong: 4, weights: 5, thetas: 5, stored_zeros: 5, limits: 3, dispersion: 6, halved: 4, overshot: 1, far: 3, least: 3, wide: 2,
-         singular: 2, in_vain: 1, squares: 1, pivots: 3, coupled: 4, later_group: 1, second_block: 1, weightless: 1, reaching: 1, out_of_range: 3, extremes: 3, no_residual: 1, refused: 3, large: 1, full_joint: 1, gamma: 30}
+         singular: 2, in_vain: 1, squares: 1, pivots: 3, coupled: 4, later_group: 1, second_block: 1, weightless: 1, reaching: 1, out_of_range: 3, extremes: 3, no_residual: 1, refused: 3, large: 1, full_joint: 1, trials: 6, gamma: 30}
 
 
 def points(about, wish):
@@ -485,6 +503,16 @@ def spared(about):
     return {**about, "n_agq": 3 if points(about, 3) <= 60 else 1}
 
 
+def versioned(r, about):
+    """The job, half of the binomial ones in version 2, most of these with R's start, and some of the others with the start that they have; none longer than a job can be."""
+    if "version" in about or len(job_bytes(about)) >= 65536:
+        return about
+    binomial = about["family"] == "binomial"
+    if r.random() >= (0.5 if binomial else 0.1):
+        return about
+    return {**about, "version": 2, "start": "trials" if binomial and r.random() < 0.75 else "usual"}
+
+
 def named_kinds():
     return {kind.__name__: kind for kind in [*KINDS, exact]}
 
@@ -495,4 +523,4 @@ def random_jobs(seed, count, kind=None):
     for i in range(count):
         r = random.Random(f"{seed}/{i}")
         chosen = named_kinds()[kind] if kind else r.choices(kinds, shares)[0]
-        yield f"{chosen.__name__}-{seed}-{i}", job_bytes(spared(chosen(r)))
+        yield f"{chosen.__name__}-{seed}-{i}", job_bytes(versioned(r, spared(chosen(r))))

@@ -13,13 +13,15 @@ PAGE = ROOT / "docs" / "RELEASE.md"
 LOADER = "ld-linux-x86-64.so.2"
 HOMES = [Path("/lib64"), Path("/usr/x86_64-linux-gnu/lib")]  # where a loader of x86-64 programs stands; the second is Debian's libc6-amd64-cross
 EMULATORS = ["qemu-x86_64", "qemu-x86_64-static"]
-VERSIONS = {1}  # of the jobs that `fitjob` reads
+VERSIONS = {1, 2}  # of the jobs that `fitjob` reads
 NO_TEXT = re.compile(rb"[\x00-\x08\x0e-\x1f]")
 
 
 def begins_as_job(data):
-    """Whether bytes are a job: by their first four bits, the version, and by a byte that no text has, as the first bytes of a version 2 would be signs of texts (#)."""
-    return data[:1] != b"" and data[0] >> 4 in VERSIONS and NO_TEXT.search(data) is not None
+    """Whether bytes are a job: by their first four bits, the version, and by a byte that no text has; in version 2, whose first byte is a sign of texts (#), also by
+    the seven zero bits that end its header."""
+    version = data[0] >> 4 if data else 0
+    return version in VERSIONS and NO_TEXT.search(data) is not None and (version == 1 or data[6:7] in (b"", b"\x00", b"\x80"))
 
 
 def listed():

@@ -1,4 +1,4 @@
-"""Document 01's reading of a job: every number, or the first fault with its byte."""
+"""Documents 01 and 02's reading of a job (P10: version 2): every number, or the first fault with its byte."""
 import math, struct
 
 LONGEST = 65536
@@ -37,7 +37,8 @@ class Job:
 
 
 def read_header(bits, job):
-    if bits.take(4) != 1:
+    job.version = bits.take(4)
+    if job.version not in (1, 2):
         raise Refused(21, 0)
     job.family = bits.take(2)
     job.link = bits.take(3)
@@ -48,6 +49,10 @@ def read_header(bits, job):
     if 1001 <= limit <= 1022:
         raise Refused(24, 4)
     job.limit = None if limit == 1023 else limit
+    job.start = 0
+    if job.version == 2:
+        job.start = bits.take(1)
+        bits.zeros(7)
 
 
 def read_blocks(bits, job):
@@ -91,8 +96,13 @@ def in_range(family, y):
     return [0.0 <= y <= 1.0, 0.0 <= y, True, 0.0 < y][family]
 
 
+def start_fits(job):
+    """Whether the start can be asked for (document 02, P10): R's for binomial responses alone, with no weight below 0."""
+    return job.start == 0 or job.family == 0 and not any(w < 0.0 for w in job.weights or [])
+
+
 def check_table(job):
-    """Refusals 6, 3, 4, 5 and 9; 1 was tested before, and 2 and 7 cannot come from a job."""
+    """Refusals 6, 3, 4, 5, 9 and 27; 1 was tested before, and 2 and 7 cannot come from a job."""
     for row in job.zt:
         columns = [column for column, _ in row]
         if any(c >= job.n for c in columns) or any(c >= d for c, d in zip(columns, columns[1:])):
@@ -106,6 +116,8 @@ def check_table(job):
         raise Refused(5, 0)
     if not all(in_range(job.family, y) for y in job.y):
         raise Refused(9, 0)
+    if not start_fits(job):
+        raise Refused(27, 0)
 
 
 def parse(data):

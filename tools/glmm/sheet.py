@@ -11,6 +11,7 @@
     theta: 0.6 0.1 0.3                the lower triangle of each block, column by column, block after block
     n_agq: 1                          left out: 1
     limit: 100                        iterations of an inner fit; left out: not given
+    start: trials                     binomial only: the means begin at (weight y + 0.5) / (weight + 1), as R's do; left out or usual: at (y + 0.5) / 2
 
     wafer  ring  cells  weak  radius
     W01    rim   120    4     0.9
@@ -25,10 +26,11 @@ import io, math, re
 from collections import Counter
 from decimal import Decimal, localcontext
 from pathlib import Path
-from form import FAMILIES, LINKS, block_rows, job_bytes
+from form import FAMILIES, LINKS, STARTS, block_rows, job_bytes
+from program import begins_as_job
 from reader import CARRIED, LONGEST, VALID
 
-NAMES = ["family", "link", "response", "weights", "offset", "fixed", "random", "theta", "n_agq", "limit"]
+NAMES = ["family", "link", "response", "weights", "offset", "fixed", "random", "theta", "n_agq", "limit", "start"]
 WANTED = ["family", "link", "response", "fixed", "random", "theta"]
 NUMBER = re.compile(r"[+-]?(\d+(\.\d*)?|\.\d+)([eE][+-]?\d+)?", re.ASCII)
 ENDING = re.compile(rb"\r\n|\r|\n")
@@ -55,7 +57,7 @@ def decoded(data, of=""):
     def fault(at, said):
         return Fault(f"line {len(ENDING.findall(data, 0, at)) + 1}{of}: byte {at} is 0x{data[at]:02X}, {said}")
     found = STRANGE.search(data)
-    if found and data[0] >> 4 == 1:
+    if found and begins_as_job(data):
         raise Fault(f"{file}this is no text: it begins as a job does")
     if found:
         raise fault(found.start(), "which no text has: this is a binary file, or UTF-16; a text is saved as UTF-8")
@@ -230,7 +232,7 @@ class Sheet:
         if missing:
             raise Fault(f"the head has no {' and no '.join(missing)}{then}")
         family, link = self.pair()
-        self.about = {"family": family, "link": link, "n_agq": self.count("n_agq", 31, 1), "limit": self.count("limit", 1000, None)}
+        self.about = {"family": family, "link": link, "n_agq": self.count("n_agq", 31, 1), "limit": self.count("limit", 1000, None), **self.start(family)}
         at, words = self.head["fixed"]
         self.fixed = words_of(words, at)
         check_size(len(self.fixed), "columns of X", MOST_COLUMNS, at)
@@ -257,6 +259,15 @@ class Sheet:
             return absent
         at, word = self.head[name]
         return whole(word, most, f"line {at}, {name}")
+
+    def start(self, family):
+        """What a job says of its start: R's wants version 2, and any other text makes a job of version 1."""
+        at, word = self.head.get("start", (None, "usual"))
+        if word not in STARTS:
+            raise Fault(f"line {at}: no start '{short(word)}'; it is usual or trials")
+        if word == "trials" and family != "binomial":
+            raise Fault(f"line {at}: the start with trial counts is for binomial responses, and the family is {family}")
+        return {"version": 2, "start": word} if word == "trials" else {}
 
     def block(self, at, words):
         """A block's effects, and the column that names its group."""
@@ -328,6 +339,9 @@ class Sheet:
             y, self.about["weights"] = [count / most for count, most in zip(y, weights)], weights
         elif "weights" in self.head:
             self.about["weights"] = self.numbers_of(bare(self.head["weights"][1]), self.head["weights"][0])
+        for (line, _), weight in zip(self.rows, self.about["weights"] or []):
+            if "start" in self.about and weight < 0:
+                raise Fault(f"line {line}: a weight of {weight:g} is no number of trials, which 'start: trials' (line {self.head['start'][0]}) takes it for")
         for (line, _), value in zip(self.rows, y):
             if family == "binomial" and not 0 <= value <= 1:
                 raise Fault(f"line {line}: a binomial response is 0, 1 or a proportion between, not {value:g}; a count is written 'response: count / total'")
@@ -370,7 +384,8 @@ class Sheet:
 
 
 def sheet_beside(file, job, data):
-    """The text that has a job's name but for .txt, and what is to be said of it. It is of use where it makes this job, theta, n_agq and limit aside."""
+    """The text that has a job's name but for .txt, and what is to be said of it. It is of use where it makes this job, theta, n_agq, limit, version
+    and start aside."""
     text = Path(file).with_suffix(".txt")
     if not text.is_file():
         return None, None
@@ -378,6 +393,6 @@ def sheet_beside(file, job, data):
         sheet = Sheet(decoded(text.read_bytes()))
     except (Fault, OSError) as fault:
         return None, f"{text} is no text of a job, so no names come from it: {fault}"
-    if job_bytes({**sheet.about, "theta": job.theta, "n_agq": job.n_agq, "limit": job.limit}) != data:
+    if job_bytes({**sheet.about, "theta": job.theta, "n_agq": job.n_agq, "limit": job.limit, "version": job.version, "start": job.start}) != data:
         return None, f"{text} makes another job, so no names come from it"
     return sheet, None

@@ -1,7 +1,7 @@
 """What `fitjob` printed, taken apart (Answer), and told in words and decimals (table) or as JSON. The words for each number are those of docs/NUMBERS.md.
 
 The JSON is one object:
-    settings   family, link, n, p, q, theta, n_agq, limit (null: not given), weights and offset (whether given), and blocks, each with its number
+    settings   family, link, n, p, q, theta, n_agq, limit (null: not given), start, weights and offset (whether given), and blocks, each with its number
                of groups m and of effects k, the column that names the groups, the effects and the groups (null where no text tells them); null where the
                job can't be read
     refused    null, or {number, byte, meaning, todo}
@@ -16,7 +16,7 @@ The JSON is one object:
 Numbers are decimals that read back to the same bits. JSON has no infinity and no NaN: these are the strings "Infinity", "-Infinity" and "NaN"."""
 import functools, json, math, re, struct, sys, textwrap
 from pathlib import Path
-from form import FAMILIES, LINKS
+from form import FAMILIES, LINKS, STARTS
 from reader import Refused, parse
 from sheet import short, sheet_beside
 from spread import LEAST, effect_spread, own_parts, slope, variance, wald
@@ -145,7 +145,7 @@ def model(job):
     blocks = ", ".join(f"{counted(m, 'group')} of {k}" for m, k in job.blocks)
     return [f"  {FAMILIES[job.family]}, {LINKS[job.link]} link" + "".join(f", {name}" for name in extra),
             f"  {counted(job.n, 'response')}, {counted(job.p, 'column')} of X, {counted(job.q, 'random effect')} ({blocks})",
-            f"  theta {' '.join(map(decimal, job.theta))}, n_agq {job.n_agq}, limit {'not given' if job.limit is None else job.limit}"]
+            f"  theta {' '.join(map(decimal, job.theta))}, n_agq {job.n_agq}, limit {'not given' if job.limit is None else job.limit}" + ", start with trial counts" * job.start]
 
 
 def next_step(job, lists):
@@ -311,7 +311,7 @@ def plain(value):
 def settings(job, names):
     blocks = [{"m": m, "k": k, "column": column, "effects": effects, "groups": groups} for (m, k), (column, effects, groups) in zip(job.blocks, names.blocks)]
     return {"family": FAMILIES[job.family], "link": LINKS[job.link], "n": job.n, "p": job.p, "q": job.q, "theta": job.theta, "n_agq": job.n_agq,
-            "limit": job.limit, "weights": job.weights is not None, "offset": job.offset is not None, "blocks": blocks}
+            "limit": job.limit, "start": STARTS[job.start], "weights": job.weights is not None, "offset": job.offset is not None, "blocks": blocks}
 
 
 def results(job, lists):

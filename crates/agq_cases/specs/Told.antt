@@ -5,6 +5,7 @@ use Rattle.base.specs.Number.{zeroF, oneF}
 use Rattle.model.specs.Answer.{endNumber}
 use Rattle.model.specs.Items.{tally}
 use Rattle.model.specs.declared.counts.Account.{Account}
+use Rattle.model.specs.declared.names.Start.the-variants.{Usual}
 use Rattle.quadrature.specs.declared.orders.Decline.{Decline}
 use Rattle.rule.specs.Given.{Given}
 use Rattle.rule.specs.Run.{startMeans}
@@ -42,4 +43,4 @@ toldInner i = toldEnd (tally (i .items)) (i .ending)
 
 -- of the inner fit at phi = 1 from its usual start, with the wish for an order and at most L iterations
 unfoldable pub toldWith : Given → ℕ → ℕ → Told
-toldWith G wish L = toldInner (innerOf G wish oneF L (startMeans G))
+toldWith G wish L = toldInner (innerOf G wish oneF L (startMeans Usual G))

@@ -3,7 +3,7 @@ use mathlib.Core.Path.{_≡_, refl}
 use mathlib.Core.Bool.{Bool, true, false}
 use Prim.Native.Nat.{ℕ}
 use lib.Ieee.{Float}
-use Rattle.model.specs.Names.{familyCoded, linkCoded}
+use Rattle.model.specs.Names.{familyCoded, linkCoded, startCoded}
 use Rattle.model.specs.declared.ends.Answer.{Answer}
 use Rattle.model.specs.declared.names.Family.{Family}
 use Rattle.model.specs.declared.names.Family.the-variants.{Binomial, Poisson, Gaussian, Gamma}
@@ -11,40 +11,46 @@ use Rattle.model.specs.declared.names.Limit.{Limit}
 use Rattle.model.specs.declared.names.Limit.the-variants.{Given, NotGiven}
 use Rattle.model.specs.declared.names.Link.{Link}
 use Rattle.model.specs.declared.names.Link.the-variants.{Logit, Log, Inverse, Sqrt}
+use Rattle.model.specs.declared.names.Start.{Start}
+use Rattle.model.specs.declared.names.Start.the-variants.{Usual, Trials}
 use Rattle.model.specs.declared.sizes.Settings.{Settings}
 use Rattle.job.specs.Job.{limitFrom}
-use Rattle.blocks_c.specs.Coded.{named, withLink, withFamily, settingsOf}
+use Rattle.blocks_c.specs.Coded.{named, withStart, withLink, withFamily, settingsOf}
 use Rattle.blocks_c.specs.Plain.{plainOf}
 use Rattle.blocks_c.specs.declared.CodedSettings.{CodedSettings}
 use Rattle.blocks_c.specs.declared.PlainAnswer.{PlainAnswer}
 
 -- settings by their codes, and by their names
-abbrev coded : ℕ → ℕ → ℕ → CodedSettings
-coded family link limit = record { family = family; link = link; «n_agq» = 3; limit = limit; n = 4; p = 2; rows = 5; entries = 6 }
+abbrev coded : ℕ → ℕ → ℕ → ℕ → CodedSettings
+coded family link limit start = record { family = family; link = link; «n_agq» = 3; limit = limit; n = 4; p = 2; rows = 5; entries = 6; start = start }
 
-abbrev meant : Family → Link → Limit → Settings
-meant family link limit = record { family = family; link = link; «n_agq» = 3; limit = limit; n = 4; p = 2; rows = 5; entries = 6 }
+abbrev meant : Family → Link → Limit → Start → Settings
+meant family link limit start = record { family = family; link = link; «n_agq» = 3; limit = limit; n = 4; p = 2; rows = 5; entries = 6; start = start }
 
-first-codes : settingsOf (coded 0 0 1022) ≡ meant Binomial Logit (Given 1022)
-unfolding settingsOf withFamily withLink named familyCoded linkCoded limitFrom
+first-codes : settingsOf (coded 0 0 1022 1) ≡ meant Binomial Logit (Given 1022) Trials
+unfolding settingsOf withFamily withLink withStart named familyCoded linkCoded startCoded limitFrom
 first-codes = refl
 
-last-codes : settingsOf (coded 3 6 1023) ≡ meant Gamma Sqrt NotGiven
-unfolding settingsOf withFamily withLink named familyCoded linkCoded limitFrom
+last-codes : settingsOf (coded 3 6 1023 0) ≡ meant Gamma Sqrt NotGiven Usual
+unfolding settingsOf withFamily withLink withStart named familyCoded linkCoded startCoded limitFrom
 last-codes = refl
 
-other-codes : (settingsOf (coded 1 3 0) ≡ meant Poisson Log (Given 0)) × (settingsOf (coded 2 5 1000) ≡ meant Gaussian Inverse (Given 1000))
-unfolding settingsOf withFamily withLink named familyCoded linkCoded limitFrom
+other-codes : (settingsOf (coded 1 3 0 0) ≡ meant Poisson Log (Given 0) Usual) × (settingsOf (coded 2 5 1000 1) ≡ meant Gaussian Inverse (Given 1000) Trials)
+unfolding settingsOf withFamily withLink withStart named familyCoded linkCoded startCoded limitFrom
 other-codes = (refl, refl)
 
 -- the first codes that name nothing
-no-family : settingsOf (coded 4 3 100) ≡ meant Poisson Logit (Given 100)
-unfolding settingsOf withFamily withLink named familyCoded linkCoded limitFrom
+no-family : settingsOf (coded 4 3 100 1) ≡ meant Poisson Logit (Given 100) Usual
+unfolding settingsOf withFamily withLink withStart named familyCoded linkCoded startCoded limitFrom
 no-family = refl
 
-no-link : settingsOf (coded 0 7 1023) ≡ meant Poisson Logit NotGiven
-unfolding settingsOf withFamily withLink named familyCoded linkCoded limitFrom
+no-link : settingsOf (coded 0 7 1023 1) ≡ meant Poisson Logit NotGiven Usual
+unfolding settingsOf withFamily withLink withStart named familyCoded linkCoded startCoded limitFrom
 no-link = refl
+
+no-start : settingsOf (coded 0 0 1023 2) ≡ meant Poisson Logit NotGiven Usual
+unfolding settingsOf withFamily withLink withStart named familyCoded linkCoded startCoded limitFrom
+no-start = refl
 
 -- an answer with numbers that all differ
 module _ (d p : Float) where

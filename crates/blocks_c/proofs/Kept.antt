@@ -1,11 +1,10 @@
 -- A number other than 0 leaves the results as they were lent, and a refusal's number every slice. Assumes nothing.
-use mathlib.Core.Path.{_≡_, refl}
+use mathlib.Core.Path.{_≡_, refl, sym}
+use mathlib.Core.Bool.{false}
 use mathlib.Core.List.{List}
-use Prim.Native.Nat.{_<_}
-use native.Mathlib.Omega.{arith}
-use Rattle.model.specs.Answer.{endNumber}
-use Rattle.model.specs.declared.ends.End.{End}
-use Rattle.model.specs.declared.ends.End.the-variants.{SystemPivot, NormalPivot, NoStep, NoStop}
+use Rattle.base.proofs.Doubles.{ff}
+use Rattle.model.specs.Answer.{isEnd}
+use Rattle.model.proofs.Answers.{end-is-end}
 use Rattle.model.specs.declared.sizes.Shape.{Shape}
 use Rattle.model.specs.declared.sizes.Settings.{Settings}
 use Rattle.family.specs.declared.carried.CarriedFamily.{CarriedFamily}
@@ -24,12 +23,6 @@ use Rattle.blocks_c.specs.Coded.{settingsOf}
 use Rattle.blocks_c.specs.Plain.{plainOf, shownBy, fitBlocksOf}
 use Rattle.blocks_c.specs.declared.CodedSettings.{CodedSettings}
 
-end-large : (e : End) → endNumber e < 10 → ⊥
-end-large SystemPivot l = absurd (omega (arith, l))
-end-large NormalPivot l = absurd (omega (arith, l))
-end-large NoStep l = absurd (omega (arith, l))
-end-large NoStop l = absurd (omega (arith, l))
-
 module _ (t : Settings) (s : Shape) (I : Inputs) (L : Lent) where
   module _ (h : callOf t s I L .answer .number ≡ 0 → ⊥) where
     -- ends 10 to 13
@@ -42,11 +35,11 @@ module _ (t : Settings) (s : Shape) (I : Inputs) (L : Lent) where
     by-verdict (Accepted f l) e = unfitted f l e (askedFit f l t s I .outcome) refl
 
     -- no accepted call has a refusal's number
-    not-accepted : callOf t s I L .answer .number < 10 → (f : CarriedFamily) (l : CarriedLink) → tableOf 1 t s I (lengthsOf L) ≡ Accepted f l → (x : Result (Dispersed Fitted)) → askedFit f l t s I .outcome ≡ x → ⊥
-    not-accepted z f l e (noResult end) q = end-large end (rw (unfitted-answer t s I L f l e end q) at z)
+    not-accepted : isEnd (callOf t s I L .answer .number) ≡ false → (f : CarriedFamily) (l : CarriedLink) → tableOf 1 t s I (lengthsOf L) ≡ Accepted f l → (x : Result (Dispersed Fitted)) → askedFit f l t s I .outcome ≡ x → ⊥
+    not-accepted z f l e (noResult end) q = ff (sym (rw (unfitted-answer t s I L f l e end q, end-is-end end) at z))
     not-accepted z f l e (result d) q = h (fitted-number t s I L f l e d q)
 
-    by-refusal : callOf t s I L .answer .number < 10 → (x : Verdict) → tableOf 1 t s I (lengthsOf L) ≡ x → callOf t s I L .lent ≡ L
+    by-refusal : isEnd (callOf t s I L .answer .number) ≡ false → (x : Verdict) → tableOf 1 t s I (lengthsOf L) ≡ x → callOf t s I L .lent ≡ L
     by-refusal z (Refused r) e = rw (refused-left t s I L r e) refl
     by-refusal z (Accepted f l) e = absurd (not-accepted z f l e (askedFit f l t s I .outcome) refl)
 
@@ -56,6 +49,6 @@ module _ (c : CodedSettings) (bs : List Block) (I : Inputs) (L : Lent) (h : fitB
   unfolding fitBlocksOf shownBy plainOf
   fit-blocks-results-kept = by-verdict (settingsOf c) (shapeOf bs) I L h (tableOf 1 (settingsOf c) (shapeOf bs) I (lengthsOf L)) refl
 
-  pub fit-blocks-kept : fitBlocksOf c bs I L .returned .number < 10 → fitBlocksOf c bs I L .lent ≡ L
+  pub fit-blocks-kept : isEnd (fitBlocksOf c bs I L .returned .number) ≡ false → fitBlocksOf c bs I L .lent ≡ L
   unfolding fitBlocksOf shownBy plainOf
   fit-blocks-kept z = by-refusal (settingsOf c) (shapeOf bs) I L h z (tableOf 1 (settingsOf c) (shapeOf bs) I (lengthsOf L)) refl

@@ -1,4 +1,4 @@
--- A code that names no family or no link is refused: with 4 where every test that stands before it in the table passes, and every slice stays as it was lent. Assumes nothing.
+-- A code that names no family, no link or no start is refused: with 4 where every test that stands before it in the table passes, and every slice stays as it was lent. Assumes nothing.
 use mathlib.Core.Path.{_≡_, refl, sym, _∙_}
 use mathlib.Core.Bool.{true, false}
 use mathlib.Core.List.{List}
@@ -8,13 +8,16 @@ use Rattle.base.proofs.Doubles.{ff}
 use Rattle.model.specs.Account.{noCounts}
 use Rattle.model.specs.Answer.{refusalNumber, blankAnswer}
 use Rattle.model.specs.Inputs.{Inputs}
-use Rattle.model.specs.Names.{familyCoded, linkCoded}
+use Rattle.model.specs.Names.{familyCoded, linkCoded, startCoded}
 use Rattle.model.specs.Settings.{goodSizes}
 use Rattle.model.specs.declared.ends.Refusal.{Refusal}
 use Rattle.model.specs.declared.ends.Refusal.the-variants.{LinkForFamily}
+use Rattle.model.specs.declared.names.Family.{Family}
 use Rattle.model.specs.declared.names.FamilyFound.{FamilyFound}
 use Rattle.model.specs.declared.names.FamilyFound.the-variants as familyFound
+use Rattle.model.specs.declared.names.LinkFound.{LinkFound}
 use Rattle.model.specs.declared.names.LinkFound.the-variants as linkFound
+use Rattle.model.specs.declared.names.StartFound.the-variants as startFound
 use Rattle.family.specs.Carried.{among, linksFor, validFor}
 use Rattle.table.specs.Table.{tableOf}
 use Rattle.table.specs.Tests.{goodInputs, goodResults, goodWork, goodNumbers}
@@ -25,13 +28,13 @@ use Rattle.call.specs.Call.{Lent, lengthsOf}
 use Rattle.call.proofs.Leaves.{refused-left}
 use Rattle.blocks.specs.Blocks.{shapeOf}
 use Rattle.blocks.specs.declared.Block.{Block}
-use Rattle.blocks_c.specs.Coded.{named, unnamed, withLink, withFamily, settingsOf}
+use Rattle.blocks_c.specs.Coded.{named, unnamed, withStart, withLink, withFamily, settingsOf}
 use Rattle.blocks_c.specs.Plain.{plainOf, shown, shownBy, fitBlocksOf}
 use Rattle.blocks_c.specs.declared.CodedSettings.{CodedSettings}
 
--- the code of the family or that of the link names nothing
+-- the code of the family, that of the link or that of the start names nothing
 abbrev pub NamesNothing : CodedSettings → Type 0
-NamesNothing c = (familyCoded (c .family) ≡ familyFound.NoSuch) ⊎ (linkCoded (c .link) ≡ linkFound.NoSuch)
+NamesNothing c = (familyCoded (c .family) ≡ familyFound.NoSuch) ⊎ ((linkCoded (c .link) ≡ linkFound.NoSuch) ⊎ (startCoded (c .start) ≡ startFound.NoSuch))
 
 -- a family without a link has these settings, and a link without a family
 no-link : (c : CodedSettings) (F : FamilyFound) → linkCoded (c .link) ≡ linkFound.NoSuch → withFamily c F ≡ unnamed c
@@ -39,10 +42,22 @@ unfolding withFamily withLink
 no-link c (familyFound.Found f) e = rw e refl
 no-link c familyFound.NoSuch e = refl
 
+-- and both without a start
+no-start-of : (c : CodedSettings) (f : Family) (L : LinkFound) → startCoded (c .start) ≡ startFound.NoSuch → withLink c f L ≡ unnamed c
+unfolding withLink withStart
+no-start-of c f (linkFound.Found l) e = rw e refl
+no-start-of c f linkFound.NoSuch e = refl
+
+no-start : (c : CodedSettings) (F : FamilyFound) → startCoded (c .start) ≡ startFound.NoSuch → withFamily c F ≡ unnamed c
+unfolding withFamily
+no-start c (familyFound.Found f) e = no-start-of c f (linkCoded (c .link)) e
+no-start c familyFound.NoSuch e = refl
+
 settings : (c : CodedSettings) → NamesNothing c → settingsOf c ≡ unnamed c
 unfolding settingsOf withFamily
 settings c (inl e) = rw e refl
-settings c (inr e) = no-link c (familyCoded (c .family)) e
+settings c (inr (inl e)) = no-link c (familyCoded (c .family)) e
+settings c (inr (inr e)) = no-start c (familyCoded (c .family)) e
 
 not-valid : (c : CodedSettings) → validFor (unnamed c .link) (unnamed c .family) ≡ false
 unfolding named validFor linksFor among

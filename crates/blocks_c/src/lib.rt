@@ -8,18 +8,20 @@ use model::Limit;
 use model::Link;
 use model::LinkFound;
 use model::Settings;
+use model::Start;
+use model::StartFound;
 ghost use mathlib.Core.Path.{_≡_};
 ghost use mathlib.Core.Bool.{cond};
-ghost use Rattle.model.specs.Names.{linkCoded};
+ghost use Rattle.model.specs.Names.{linkCoded, startCoded};
 ghost use Rattle.job.specs.Job.{limitFrom};
 ghost use Rattle.model.specs.Inputs.{inputs};
 ghost use Rattle.call.specs.Call.{lent};
 ghost use Rattle.layout.specs.WorkTerms.{termsLength};
 ghost use Rattle.lengths.specs.Asked.{rowsAsked, matricesAsked};
-ghost use Rattle.blocks_c.specs.Coded.{named, unnamed, withLink, settingsOf};
+ghost use Rattle.blocks_c.specs.Coded.{named, unnamed, withStart, withLink, settingsOf};
 ghost use Rattle.blocks_c.specs.Plain.{plainOf, shown, fitBlocksOf};
 
-// The settings of a call with the family, the link and the limit as a job has them: by their codes, and 1023 for a limit that is not given.
+// The settings of a call with the family, the link, the limit and the start as a job has them: by their codes, and 1023 for a limit that is not given. What requests append stands last, so that no field moves.
 #[repr(C)]
 pub struct CodedSettings {
     pub family: usize,
@@ -30,6 +32,7 @@ pub struct CodedSettings {
     pub p: usize,
     pub rows: usize,
     pub entries: usize,
+    pub start: usize,
 }
 
 // An answer as plain numbers; the flag is 0 or 1. What requests append stands last, so that no field moves.
@@ -61,8 +64,8 @@ fn limit_in(code: usize) -> Limit
     Limit::Given(code)
 }
 
-fn with_names(coded: CodedSettings, family: Family, link: Link) -> Settings
-    ensures { λ r. ⌜ r ≡ named coded family link ⌝ }
+fn with_names(coded: CodedSettings, family: Family, link: Link, start: Start) -> Settings
+    ensures { λ r. ⌜ r ≡ named coded family link start ⌝ }
 {
     let limit = limit_in(coded.limit);
     Settings {
@@ -74,6 +77,7 @@ fn with_names(coded: CodedSettings, family: Family, link: Link) -> Settings
         p: coded.p,
         rows: coded.rows,
         entries: coded.entries,
+        start,
     }
 }
 
@@ -81,14 +85,23 @@ fn with_names(coded: CodedSettings, family: Family, link: Link) -> Settings
 fn without_name(coded: CodedSettings) -> Settings
     ensures { λ r. ⌜ r ≡ unnamed coded ⌝ }
 {
-    with_names(coded, Family::Poisson, Link::Logit)
+    with_names(coded, Family::Poisson, Link::Logit, Start::Usual)
+}
+
+fn with_start(coded: CodedSettings, family: Family, link: Link) -> Settings
+    ensures { λ r. ⌜ r ≡ withStart coded family link (startCoded (coded .start)) ⌝ }
+{
+    match model::start_coded(coded.start) {
+        StartFound::Found(start) => with_names(coded, family, link, start),
+        StartFound::NoSuch => without_name(coded),
+    }
 }
 
 fn with_link(coded: CodedSettings, family: Family) -> Settings
     ensures { λ r. ⌜ r ≡ withLink coded family (linkCoded (coded .link)) ⌝ }
 {
     match model::link_coded(coded.link) {
-        LinkFound::Found(link) => with_names(coded, family, link),
+        LinkFound::Found(link) => with_start(coded, family, link),
         LinkFound::NoSuch => without_name(coded),
     }
 }

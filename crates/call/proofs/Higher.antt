@@ -1,6 +1,7 @@
 -- A higher limit changes nothing in a call that did not end with 13, and no count shrinks. Assumes nothing.
 use mathlib.Core.Path.{_≡_, refl, sym, ap, _∙_}
 use mathlib.Core.Bool.{Bool, true, false}
+use mathlib.Core.List.{List}
 use Prim.Native.Nat.{ℕ, _≤_}
 use lib.Ieee.{Float}
 use borrow.Author.Tests.{le-leb}
@@ -17,7 +18,6 @@ use Rattle.family.specs.Family.{usesDispersion}
 use Rattle.family.specs.declared.carried.CarriedFamily.{CarriedFamily}
 use Rattle.family.specs.declared.carried.CarriedLink.{CarriedLink}
 use Rattle.rule.specs.Given as given
-use Rattle.rule.specs.Run.{startMeans}
 use Rattle.agq_rule.proofs.Limits.{inner-same, inner-grows}
 use Rattle.table.specs.Tests.{goodInputs, goodResults, goodWork}
 use Rattle.model.specs.Inputs.{Inputs}
@@ -29,37 +29,37 @@ use Rattle.table.proofs.Exactly.{sizes-exactly}
 use Rattle.dispersion.specs.Phi.{effectiveN}
 use Rattle.dispersion.proofs.Higher.{Stopped, dispersion-same, dispersion-grows, fixed-same, fixed-grows}
 use Rattle.call.specs.Fit.{sumOf, resultBy, totalOf, innerAt, fitBy, fitOf, resultAnswer, answerOf}
-use Rattle.call.specs.Call.{Lent, lengthsOf, callGiven, fitLeft, callOf}
+use Rattle.call.specs.Call.{Lent, lengthsOf, callGiven, callMeans, fitLeft, callOf}
 use Rattle.call.proofs.Leaves.{askedFit, accepted-left, accepted-account}
 
 -- ---- the fit with two limits
-module _ (G : given.Given) (wish L M : ℕ) (l : L ≤ M) where
+module _ (G : given.Given) (mu : List Float) (wish L M : ℕ) (l : L ≤ M) where
   abbrev effective : Float
   effective = effectiveN (given.nOf G) (G .weights)
 
-  inner-kept : (phi : Float) → Stopped (innerAt G wish L phi) → innerAt G wish M phi ≡ innerAt G wish L phi
+  inner-kept : (phi : Float) → Stopped (innerAt G mu wish L phi) → innerAt G mu wish M phi ≡ innerAt G mu wish L phi
   unfolding innerAt totalOf resultBy
-  inner-kept phi h = ap totalOf (inner-same G wish phi (startMeans G) L M l (λ e. h (ap resultBy e)))
+  inner-kept phi h = ap totalOf (inner-same G wish phi mu L M l (λ e. h (ap resultBy e)))
 
-  inner-more : (t : Item → Bool) (phi : Float) → countOf t (innerAt G wish L phi .items) ≤ countOf t (innerAt G wish M phi .items)
+  inner-more : (t : Item → Bool) (phi : Float) → countOf t (innerAt G mu wish L phi .items) ≤ countOf t (innerAt G mu wish M phi .items)
   unfolding innerAt totalOf
-  inner-more t phi = inner-grows G wish phi (startMeans G) t L M l
+  inner-more t phi = inner-grows G wish phi mu t L M l
 
-  by-same : (b : Bool) → Stopped (fitBy b G wish L) → fitBy b G wish M ≡ fitBy b G wish L
+  by-same : (b : Bool) → Stopped (fitBy b G mu wish L) → fitBy b G mu wish M ≡ fitBy b G mu wish L
   unfolding fitBy
-  by-same true h = dispersion-same effective sumOf (innerAt G wish L) (innerAt G wish M) inner-kept h
-  by-same false h = fixed-same effective sumOf (innerAt G wish L) (innerAt G wish M) inner-kept h
+  by-same true h = dispersion-same effective sumOf (innerAt G mu wish L) (innerAt G mu wish M) inner-kept h
+  by-same false h = fixed-same effective sumOf (innerAt G mu wish L) (innerAt G mu wish M) inner-kept h
 
-  by-grows : (b : Bool) (t : Item → Bool) → countOf t (fitBy b G wish L .items) ≤ countOf t (fitBy b G wish M .items)
+  by-grows : (b : Bool) (t : Item → Bool) → countOf t (fitBy b G mu wish L .items) ≤ countOf t (fitBy b G mu wish M .items)
   unfolding fitBy
-  by-grows true t = dispersion-grows effective sumOf (innerAt G wish L) (innerAt G wish M) inner-kept t (inner-more t)
-  by-grows false t = fixed-grows effective sumOf (innerAt G wish L) (innerAt G wish M) inner-kept t (inner-more t oneF)
+  by-grows true t = dispersion-grows effective sumOf (innerAt G mu wish L) (innerAt G mu wish M) inner-kept t (inner-more t)
+  by-grows false t = fixed-grows effective sumOf (innerAt G mu wish L) (innerAt G mu wish M) inner-kept t (inner-more t oneF)
 
-  pub fit-same : Stopped (fitOf G wish L) → fitOf G wish M ≡ fitOf G wish L
+  pub fit-same : Stopped (fitOf G mu wish L) → fitOf G mu wish M ≡ fitOf G mu wish L
   unfolding fitOf
   fit-same h = by-same (usesDispersion (G .family)) h
 
-  pub fit-account-grows : AtMost (tally (fitOf G wish M .items)) (tally (fitOf G wish L .items))
+  pub fit-account-grows : AtMost (tally (fitOf G mu wish M .items)) (tally (fitOf G mu wish L .items))
   unfolding fitOf tally
   fit-account-grows =
       record {
@@ -76,7 +76,7 @@ module _ (G : given.Given) (wish L M : ℕ) (l : L ≤ M) where
 -- ---- the call with another limit
 abbrev pub limited : ℕ → Settings → Settings
 limited M t =
-    record { family = t .family; link = t .link; «n_agq» = t .«n_agq»; limit = Given M; n = t .n; p = t .p; rows = t .rows; entries = t .entries }
+    record { family = t .family; link = t .link; «n_agq» = t .«n_agq»; limit = Given M; n = t .n; p = t .p; rows = t .rows; entries = t .entries; start = t .start }
 
 limited-sized : (M : ℕ) (t : Settings) (s : Shape) → M ≤ 1000 → Sized t s → Sized (limited M t) s
 unfolding goodLimit
@@ -105,10 +105,10 @@ module _ (t : Settings) (s : Shape) (I : Inputs) (L : Lent) (f : CarriedFamily) 
   pub call-same : (callOf t s I L .answer .number ≡ 13 → ⊥) → callOf (limited M t) s I L ≡ callOf t s I L
   unfolding limitOf callGiven
   call-same h =
-      let same : fitOf (callGiven f l t s I) (t .«n_agq») M ≡ askedFit f l t s I = fit-same (callGiven f l t s I) (t .«n_agq») (limitOf (t .limit) (t .link)) M higher (stopped h) in
+      let same : fitOf (callGiven f l t s I) (callMeans f l t s I) (t .«n_agq») M ≡ askedFit f l t s I = fit-same (callGiven f l t s I) (callMeans f l t s I) (t .«n_agq») (limitOf (t .limit) (t .link)) M higher (stopped h) in
       accepted-left (limited M t) s I L f l again ∙ (rw same refl ∙ sym (accepted-left t s I L f l e))
 
   pub call-account-grows : AtMost (callOf (limited M t) s I L .answer .account) (callOf t s I L .answer .account)
   unfolding limitOf callGiven
   call-account-grows =
-      rw (accepted-account (limited M t) s I L f l again, accepted-account t s I L f l e) (fit-account-grows (callGiven f l t s I) (t .«n_agq») (limitOf (t .limit) (t .link)) M higher)
+      rw (accepted-account (limited M t) s I L f l again, accepted-account t s I L f l e) (fit-account-grows (callGiven f l t s I) (callMeans f l t s I) (t .«n_agq») (limitOf (t .limit) (t .link)) M higher)

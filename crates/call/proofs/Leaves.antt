@@ -1,5 +1,6 @@
 -- What a call leaves, by its verdict and by what its fit comes to. Assumes nothing.
 use mathlib.Core.Path.{_≡_, refl}
+use mathlib.Core.List.{List}
 use Prim.Native.Nat.{ℕ}
 use native.Mathlib.Omega.{arith}
 use Rattle.base.specs.List.{zeroAt, fillTo}
@@ -25,7 +26,7 @@ use Rattle.table.specs.Table.{tableOf}
 use Rattle.table.specs.declared.verdicts.Verdict.the-variants.{Accepted, Refused}
 use Rattle.dispersion.specs.Rounds.{Result, result, noResult, Total, Dispersed}
 use Rattle.call.specs.Fit.{Fitted, fitOf, resultAnswer, answerOf}
-use Rattle.call.specs.Call.{Lent, lengthsOf, left, callGiven, resultsAfter, fitLeft, callBy, callOf}
+use Rattle.call.specs.Call.{Lent, lengthsOf, left, callGiven, callMeans, resultsAfter, fitLeft, callBy, callOf}
 
 -- ---- a refusal: its number, nothing counted, every slice as it was lent
 pub refused-left : (t : Settings) (s : Shape) (I : Inputs) (L : Lent) (r : Refusal) → tableOf 1 t s I (lengthsOf L) ≡ Refused r → callOf t s I L ≡ left (blankAnswer (refusalNumber r) noCounts) L
@@ -35,7 +36,7 @@ refused-left t s I L r e = rw e refl
 -- ---- an accepted call
 -- the fit that it asks for
 abbrev pub askedFit : CarriedFamily → CarriedLink → Settings → Shape → Inputs → Total (Dispersed Fitted)
-askedFit f l t s I = fitOf (callGiven f l t s I) (t .«n_agq») (limitOf (t .limit) (t .link))
+askedFit f l t s I = fitOf (callGiven f l t s I) (callMeans f l t s I) (t .«n_agq») (limitOf (t .limit) (t .link))
 
 pub accepted-left : (t : Settings) (s : Shape) (I : Inputs) (L : Lent) (f : CarriedFamily) (l : CarriedLink) → tableOf 1 t s I (lengthsOf L) ≡ Accepted f l
     → callOf t s I L ≡ fitLeft (t .n) (t .p) (t .rows) (callGiven f l t s I) (askedFit f l t s I) L

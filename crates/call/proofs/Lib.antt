@@ -10,3 +10,4 @@ pub mod Stopped
 pub mod Whys
 pub mod When
 pub mod Ranged
+pub mod Starts

@@ -2,6 +2,7 @@
 use mathlib.Core.Path.{_≡_, refl, sym, _∙_}
 use mathlib.Core.Bool.{Bool, true, false}
 use mathlib.Core.List.{List}
+use mathlib.Core.Logic.{inr}
 use Prim.Native.Nat.{ℕ, _+_, _≤_}
 use native.Mathlib.Omega.{arith}
 use lib.Ieee.{Float}
@@ -15,11 +16,10 @@ use Rattle.model.specs.declared.ends.Answer.{Answer}
 use Rattle.model.specs.declared.ends.End.the-variants.{SystemPivot, NormalPivot, NoStep, NoStop}
 use Rattle.model.specs.declared.sizes.Shape.{Shape}
 use Rattle.model.specs.declared.sizes.Settings.{Settings}
-use Rattle.model.proofs.Answers.{refusal-range}
 use Rattle.model.proofs.Parts.{tally-parts}
 use Rattle.family.specs.Family.{usesDispersion}
 use Rattle.rule.specs.Given.{Given, nOf}
-use Rattle.rule.specs.Run.{Ending, stopped, failed, startMeans, runOf}
+use Rattle.rule.specs.Run.{Ending, stopped, failed, runOf}
 use Rattle.rule.proofs.Accepted.{stuckIn}
 use Rattle.agq_rule.specs.Inner.{withPoints, afterRun, innerWith, innerOf}
 use Rattle.agq_rule.proofs.Caps.{inner-paid}
@@ -30,28 +30,29 @@ use Rattle.dispersion.specs.Phi.{effectiveN}
 use Rattle.dispersion.specs.Rounds.{Result, result, noResult, Dispersed}
 use Rattle.dispersion.proofs.Accepted.{stuckBy, TotalPaid, loop-paid, fixed-paid}
 use Rattle.call.specs.Fit.{Fitted, sumOf, resultBy, totalOf, innerAt, fitBy, fitOf, resultAnswer, answerOf}
-use Rattle.call.specs.Call.{Lent, lengthsOf, callGiven, fitLeft, callBy, callOf}
+use Rattle.call.specs.Call.{Lent, lengthsOf, callGiven, callMeans, fitLeft, callBy, callOf}
 use Rattle.call.proofs.Leaves.{askedFit}
+use Rattle.call.proofs.When.{not-both}
 
 -- ---- the fit
-module _ (G : Given) (wish L : ℕ) where
+module _ (G : Given) (mu : List Float) (wish L : ℕ) where
   ending-stuck : (phi : Float) (is : List Item) (x : Ending) → stuckBy (resultBy (afterRun x G wish phi is .ending)) ≡ stuckIn x
   unfolding afterRun withPoints resultBy
   ending-stuck phi is (failed e) = refl
   ending-stuck phi is (stopped M) = refl
 
-  inner-at-paid : (phi : Float) → TotalPaid (innerAt G wish L phi)
+  inner-at-paid : (phi : Float) → TotalPaid (innerAt G mu wish L phi)
   unfolding innerAt totalOf innerOf innerWith
   inner-at-paid phi =
-      let o = runOf G phi L (startMeans G) in
-      rw (ending-stuck phi (o .items) (o .ending)) (inner-paid G wish phi L (startMeans G))
+      let o = runOf G phi L mu in
+      rw (ending-stuck phi (o .items) (o .ending)) (inner-paid G wish phi L mu)
 
-  by-paid : (b : Bool) → TotalPaid (fitBy b G wish L)
+  by-paid : (b : Bool) → TotalPaid (fitBy b G mu wish L)
   unfolding fitBy
-  by-paid true = loop-paid (effectiveN (nOf G) (G .weights)) sumOf (innerAt G wish L) inner-at-paid
-  by-paid false = fixed-paid (effectiveN (nOf G) (G .weights)) sumOf (innerAt G wish L) inner-at-paid
+  by-paid true = loop-paid (effectiveN (nOf G) (G .weights)) sumOf (innerAt G mu wish L) inner-at-paid
+  by-paid false = fixed-paid (effectiveN (nOf G) (G .weights)) sumOf (innerAt G mu wish L) inner-at-paid
 
-  pub fit-paid : TotalPaid (fitOf G wish L)
+  pub fit-paid : TotalPaid (fitOf G mu wish L)
   unfolding fitOf
   fit-paid = by-paid (usesDispersion (G .family))
 
@@ -75,10 +76,10 @@ by-result (noResult NoStop) c p q = record { parts = p; accepts = omega (arith, 
 module _ (t : Settings) (s : Shape) (I : Inputs) (L : Lent) where
   by-verdict : (v : Verdict) → Parted (callBy v t s I L .answer)
   unfolding callBy refusedAnswer fitLeft answerOf tally
-  by-verdict (Refused r) = record { parts = refl; accepts = omega arith; all = λ h. refl; stuck = λ h. absurd (omega (arith, h, refusal-range r)) }
+  by-verdict (Refused r) = record { parts = refl; accepts = omega arith; all = λ h. refl; stuck = λ h. absurd (not-both r 12 (sym h) (inr (omega arith, omega arith))) }
   by-verdict (Accepted f l) =
       let fit = askedFit f l t s I in
-      by-result (fit .outcome) (tally (fit .items)) (tally-parts (fit .items)) (fit-paid (callGiven f l t s I) (t .«n_agq») (limitOf (t .limit) (t .link)))
+      by-result (fit .outcome) (tally (fit .items)) (tally-parts (fit .items)) (fit-paid (callGiven f l t s I) (callMeans f l t s I) (t .«n_agq») (limitOf (t .limit) (t .link)))
 
   parted : Parted (callOf t s I L .answer)
   unfolding callOf

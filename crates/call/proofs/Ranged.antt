@@ -4,6 +4,7 @@ use mathlib.Core.Logic.{inl}
 use mathlib.Core.Bool.{false}
 use Prim.Native.Nat.{ℕ, _<_}
 use lib.ListN.{length}
+use lib.Ieee.{Float}
 use Rattle.base.specs.Sum.{_!_}
 use Rattle.base.proofs.Doubles.{ff}
 use Rattle.model.specs.Inputs.{Inputs}
@@ -25,7 +26,7 @@ module _ (t : Settings) (s : Shape) (I : Inputs) (L : Lent) where
   pub accepted-in-range : FitNumber (callOf t s I L .answer .number) → AllInRange (carriedFamily (t .family)) (I .y)
   accepted-in-range e =
       let a = accepted-exactly t s I L .0 e in
-      range-exactly (carriedFamily (t .family)) (I .y) .0 (rw (← a .2 .0 .1 .0) at (a .2 .1))
+      range-exactly (carriedFamily (t .family)) (I .y) .0 (rw (← a .2 .0 .0 .1 .0) at (a .2 .0 .1))
 
   pub fitted-in-range : callOf t s I L .answer .number ≡ 0 → AllInRange (carriedFamily (t .family)) (I .y)
   fitted-in-range e = accepted-in-range (inl e)
@@ -37,6 +38,9 @@ module _ (t : Settings) (s : Shape) (I : Inputs) (L : Lent) where
       let a = refused-exactly t s I L ResponseRange .0 e in
       outside-exactly (carriedFamily (t .family)) (I .y) .0 (rw (← a .2 .0 .1 .0) at (a .2 .1))
 
+  inside : (y : Float) → t .family ≡ Gaussian → inRange (carriedFamily (t .family)) y ≡ false → ⊥
+  inside y g h = ff (sym (rw (g, gaussian-range y) at h))
+
   -- a Gaussian call is never: the infinite deviance of a fit without residuals stays a fitted result
   pub gaussian-never : t .family ≡ Gaussian → callOf t s I L .answer .number ≡ 9 → ⊥
-  gaussian-never g e = let a = nine-outside e in ff (sym (rw (g, gaussian-range (I .y ! a .0)) at (a .1 .1)))
+  gaussian-never g e = let a = nine-outside e in inside (I .y ! a .0) g (a .1 .1)

@@ -19,7 +19,7 @@ use Rattle.family.specs.Family.{usesDispersion}
 use Rattle.family.specs.declared.carried.CarriedFamily.{CarriedFamily}
 use Rattle.family.specs.declared.carried.CarriedLink.{CarriedLink}
 use Rattle.rule.specs.Given.{Given, nOf}
-use Rattle.rule.specs.Run.{Ending, stopped, failed, itemsBefore, startMeans, runOf}
+use Rattle.rule.specs.Run.{Ending, stopped, failed, itemsBefore, runOf}
 use Rattle.agq_rule.specs.Steps.{quadratureOf}
 use Rattle.agq_rule.specs.Inner.{withPoints, afterRun, innerWith, innerOf}
 use Rattle.agq_rule.proofs.Caps.{inner-capped}
@@ -29,7 +29,7 @@ use Rattle.dispersion.specs.Phi.{effectiveN}
 use Rattle.dispersion.specs.Rounds.{Result, result, noResult, Dispersed, withFlag, lastFit, dispersionOf, fixedOf}
 use Rattle.dispersion.proofs.Reported.{last-ran, phi-ran, unsettled-241}
 use Rattle.call.specs.Fit.{Fitted, sumOf, totalOf, innerAt, fitBy, fitOf, resultAnswer, answerOf}
-use Rattle.call.specs.Call.{Lent, lengthsOf, callGiven, fitLeft, callOf}
+use Rattle.call.specs.Call.{Lent, lengthsOf, callGiven, callMeans, fitLeft, callOf}
 use Rattle.call.proofs.Leaves.{accepted-left, accepted-account, zero-fitted}
 
 -- ---- an inner fit counts itself once
@@ -42,10 +42,9 @@ unfolding afterRun withPoints
 points-after (failed e) G wish phi is = omega arith
 points-after (stopped M) G wish phi is = omega (arith, count-append isFit is (quadratureOf G wish M phi .items))
 
-pub inner-counts : (G : Given) (wish L : ℕ) (phi : Float) → countOf isFit (innerAt G wish L phi .items) ≡ 1
+pub inner-counts : (G : Given) (mu : List Float) (wish L : ℕ) (phi : Float) → countOf isFit (innerAt G mu wish L phi .items) ≡ 1
 unfolding innerAt totalOf innerOf innerWith tally innerCapOf
-inner-counts G wish L phi =
-    let mu = startMeans G in
+inner-counts G mu wish L phi =
     omega (arith, run-counts G phi L mu, points-after (runOf G phi L mu .ending) G wish phi (runOf G phi L mu .items), inner-capped G wish phi L mu .fits)
 
 -- ---- the one fit without dispersion
@@ -59,24 +58,24 @@ unfolding withFlag
 fixed-flag phi (result f) = refl
 fixed-flag phi (noResult e) = refl
 
-module _ (G : Given) (wish L : ℕ) (d : Dispersed Fitted) where
-  by-ran : (b : Bool) → fitBy b G wish L .outcome ≡ result d → innerAt G wish L (d .phi) .outcome ≡ result (d .last)
+module _ (G : Given) (mu : List Float) (wish L : ℕ) (d : Dispersed Fitted) where
+  by-ran : (b : Bool) → fitBy b G mu wish L .outcome ≡ result d → innerAt G mu wish L (d .phi) .outcome ≡ result (d .last)
   unfolding fitBy dispersionOf fixedOf lastFit
-  by-ran true e = phi-ran (effectiveN (nOf G) (G .weights)) sumOf (innerAt G wish L) d 240 oneF e
-  by-ran false e = last-ran (innerAt G wish L) d true oneF (innerAt G wish L oneF .outcome) refl e
+  by-ran true e = phi-ran (effectiveN (nOf G) (G .weights)) sumOf (innerAt G mu wish L) d 240 oneF e
+  by-ran false e = last-ran (innerAt G mu wish L) d true oneF (innerAt G mu wish L oneF .outcome) refl e
 
-  by-all : (b : Bool) → fitBy b G wish L .outcome ≡ result d → d .converged ≡ false → countOf isFit (fitBy b G wish L .items) ≡ 241
+  by-all : (b : Bool) → fitBy b G mu wish L .outcome ≡ result d → d .converged ≡ false → countOf isFit (fitBy b G mu wish L .items) ≡ 241
   unfolding fitBy fixedOf lastFit
-  by-all true e u = unsettled-241 (effectiveN (nOf G) (G .weights)) sumOf (innerAt G wish L) isFit d (inner-counts G wish L) u e
-  by-all false e u = absurd (ff (sym u ∙ (sym (ap flagIn e) ∙ fixed-flag oneF (innerAt G wish L oneF .outcome))))
+  by-all true e u = unsettled-241 (effectiveN (nOf G) (G .weights)) sumOf (innerAt G mu wish L) isFit d (inner-counts G mu wish L) u e
+  by-all false e u = absurd (ff (sym u ∙ (sym (ap flagIn e) ∙ fixed-flag oneF (innerAt G mu wish L oneF .outcome))))
 
   -- at the phi that is reported the inner fit comes to what is reported
-  pub fit-ran : fitOf G wish L .outcome ≡ result d → innerAt G wish L (d .phi) .outcome ≡ result (d .last)
+  pub fit-ran : fitOf G mu wish L .outcome ≡ result d → innerAt G mu wish L (d .phi) .outcome ≡ result (d .last)
   unfolding fitOf
   fit-ran e = by-ran (usesDispersion (G .family)) e
 
   -- a flag that is false tells of 241 inner fits
-  pub flag-all : fitOf G wish L .outcome ≡ result d → d .converged ≡ false → tally (fitOf G wish L .items) .fits ≡ 241
+  pub flag-all : fitOf G mu wish L .outcome ≡ result d → d .converged ≡ false → tally (fitOf G mu wish L .items) .fits ≡ 241
   unfolding fitOf tally
   flag-all e u = by-all (usesDispersion (G .family)) e u
 
@@ -87,14 +86,14 @@ module _ (t : Settings) (s : Shape) (I : Inputs) (A : Lent) (f : CarriedFamily) 
   call-flag-all h u =
       let z = zero-fitted t s I A f l e h in
       let flag : z .0 .converged ≡ false = rw (accepted-left t s I A f l e, z .1) at u in
-      rw (accepted-account t s I A f l e) (flag-all (callGiven f l t s I) (t .«n_agq») (limitOf (t .limit) (t .link)) (z .0) (z .1) flag)
+      rw (accepted-account t s I A f l e) (flag-all (callGiven f l t s I) (callMeans f l t s I) (t .«n_agq») (limitOf (t .limit) (t .link)) (z .0) (z .1) flag)
 
 -- ---- without a free dispersion: one inner fit, whatever it comes to
-pub one-fit : (G : Given) (wish L : ℕ) → usesDispersion (G .family) ≡ false → tally (fitOf G wish L .items) .fits ≡ 1
+pub one-fit : (G : Given) (mu : List Float) (wish L : ℕ) → usesDispersion (G .family) ≡ false → tally (fitOf G mu wish L .items) .fits ≡ 1
 unfolding fitOf fitBy fixedOf lastFit tally
-one-fit G wish L u = rw u (inner-counts G wish L oneF)
+one-fit G mu wish L u = rw u (inner-counts G mu wish L oneF)
 
 pub call-one-fit : (t : Settings) (s : Shape) (I : Inputs) (A : Lent) (f : CarriedFamily) (l : CarriedLink) → tableOf 1 t s I (lengthsOf A) ≡ Accepted f l → usesDispersion f ≡ false
     → callOf t s I A .answer .account .fits ≡ 1
 unfolding callGiven
-call-one-fit t s I A f l e u = rw (accepted-account t s I A f l e) (one-fit (callGiven f l t s I) (t .«n_agq») (limitOf (t .limit) (t .link)) u)
+call-one-fit t s I A f l e u = rw (accepted-account t s I A f l e) (one-fit (callGiven f l t s I) (callMeans f l t s I) (t .«n_agq») (limitOf (t .limit) (t .link)) u)

@@ -8,7 +8,7 @@ use Rattle.model.specs.Inputs.{Inputs}
 use Rattle.model.specs.Items.{tally}
 use Rattle.model.specs.declared.counts.Account.{Account}
 use Rattle.model.specs.declared.ends.Refusal.{Refusal}
-use Rattle.model.specs.declared.ends.Refusal.the-variants.{OutOfRange, Lengths, Work, SparseRows, NotFinite, LinkForFamily, NotCarried, ResponseRange}
+use Rattle.model.specs.declared.ends.Refusal.the-variants.{OutOfRange, Lengths, Work, SparseRows, NotFinite, LinkForFamily, NotCarried, ResponseRange, StartFit}
 use Rattle.model.specs.declared.sizes.Shape.{Shape}
 use Rattle.model.specs.declared.sizes.Settings.{Settings}
 use Rattle.model.proofs.Answers.{refusal-range, end-range}
@@ -28,7 +28,9 @@ refusalOf (suc (suc (suc (suc zero)))) = LinkForFamily
 refusalOf (suc (suc (suc (suc (suc zero))))) = NotCarried
 refusalOf (suc (suc (suc (suc (suc (suc zero)))))) = SparseRows
 refusalOf (suc (suc (suc (suc (suc (suc (suc zero))))))) = Work
-refusalOf (suc (suc (suc (suc (suc (suc (suc (suc n)))))))) = ResponseRange
+refusalOf (suc (suc (suc (suc (suc (suc (suc (suc zero)))))))) = OutOfRange
+refusalOf (suc (suc (suc (suc (suc (suc (suc (suc (suc zero))))))))) = ResponseRange
+refusalOf (suc (suc (suc (suc (suc (suc (suc (suc (suc (suc n)))))))))) = StartFit
 refusalOf zero = OutOfRange
 refusalOf (suc zero) = OutOfRange
 
@@ -41,6 +43,7 @@ refusal-back NotFinite = refl
 refusal-back LinkForFamily = refl
 refusal-back NotCarried = refl
 refusal-back ResponseRange = refl
+refusal-back StartFit = refl
 
 pub same-refusal : (x y : Refusal) → refusalNumber x ≡ refusalNumber y → x ≡ y
 same-refusal x y e = sym (refusal-back x) ∙ (ap refusalOf e ∙ refusal-back y)
@@ -51,10 +54,13 @@ unfolding resultAnswer unfittedAnswer fittedAnswer
 fit-number (result d) a = inl refl
 fit-number (noResult e) a = inr (end-range e)
 
-not-both : (x : Refusal) (n : ℕ) → n ≡ refusalNumber x → FitNumber n → ⊥
+-- no refusal has one of the numbers of an accepted call
+pub not-both : (x : Refusal) (n : ℕ) → n ≡ refusalNumber x → FitNumber n → ⊥
 not-both x n e w =
     let r = refusal-range x in
-    ⊎-elim (λ (z : n ≡ 0). omega (arith, r .0)) (λ (z : (10 ≤ n) × (n ≤ 13)). omega (arith, r .1, z .0)) w
+    ⊎-elim (λ (z : n ≡ 0). omega (arith, r .0))
+    (λ (z : (10 ≤ n) × (n ≤ 13)). ⊎-elim (λ (few : refusalNumber x ≤ 9). omega (arith, few, z .0)) (λ (last : refusalNumber x ≡ 27). omega (arith, last, z .1)) (r .1))
+    w
 
 module _ (t : Settings) (s : Shape) (I : Inputs) (L : Lent) where
   refused : (x : Refusal) → GivenWhen 1 t s I (lengthsOf L) x → callOf t s I L .answer .number ≡ refusalNumber x

@@ -49,7 +49,7 @@ by-result (result d) c =
 module _ (t : Settings) (s : Shape) (I : Inputs) (L : Lent) where
   by-verdict : (v : Verdict) → Reasoned (callBy v t s I L .answer)
   unfolding callBy refusedAnswer fitLeft answerOf
-  by-verdict (Refused r) = record { used = λ h. absurd (omega (arith, h, refusal-range r)); none = λ h. refl; few = omega arith }
+  by-verdict (Refused r) = record { used = λ h. absurd (omega (arith, h, refusal-range r .0)); none = λ h. refl; few = omega arith }
   by-verdict (Accepted f l) = let fit = askedFit f l t s I in by-result (fit .outcome) (tally (fit .items))
 
   reasoned : Reasoned (callOf t s I L .answer)

@@ -1,4 +1,4 @@
--- What a call answers and what it leaves in every lent slice. Document 01, "Numbers of an answer". Assumes nothing.
+-- What a call answers and what it leaves in every lent slice. Document 01, "Numbers of an answer"; document 02, P10. Assumes nothing.
 use mathlib.Core.Path.{_≡_}
 use mathlib.Core.List.{List}
 use mathlib.Core.Logic.{_⊎_}
@@ -75,6 +75,10 @@ unfoldable pub callGiven : CarriedFamily → CarriedLink → Settings → Shape 
 callGiven f l t s I =
     givenOf f l (I .y) (I .weights) (designOf (t .n) (t .p) s (I .theta) (I .offset) (I .x) (sparse (I .starts) (I .columns) (I .values)))
 
+-- the means that they begin from: those of the start asked for
+abbrev pub callMeans : CarriedFamily → CarriedLink → Settings → Shape → Inputs → List Float
+callMeans f l t s I = startMeans (t .start) (callGiven f l t s I)
+
 -- the results after a fit: those of the last inner fit's mode; without a result those before
 unfoldable pub resultsAfter : Result (Dispersed Fitted) → Given → Results → Results
 resultsAfter (noResult e) G before = before
@@ -98,7 +102,7 @@ fitLeft n p q G t L =
 unfoldable pub callBy : Verdict → Settings → Shape → Inputs → Lent → Left
 callBy (Refused refusal) t s I L = record { answer = refusedAnswer refusal; lent = L }
 callBy (Accepted f l) t s I L =
-    fitLeft (t .n) (t .p) (t .rows) (callGiven f l t s I) (fitOf (callGiven f l t s I) (t .«n_agq») (limitOf (t .limit) (t .link))) L
+    fitLeft (t .n) (t .p) (t .rows) (callGiven f l t s I) (fitOf (callGiven f l t s I) (callMeans f l t s I) (t .«n_agq») (limitOf (t .limit) (t .link))) L
 
 -- the call
 unfoldable pub callOf : Settings → Shape → Inputs → Lent → Left
@@ -110,9 +114,9 @@ callOf t s I L = callBy (tableOf 1 t s I (lengthsOf L)) t s I L
 abbrev pub FitNumber : ℕ → Type 0
 FitNumber n = (n ≡ 0) ⊎ ((10 ≤ n) × (n ≤ 13))
 
--- an answer a with the results R is that of the mode k: k is the first stop of the run at the reported phi from the starting means, within the limit, and iterations, deviance, order, reason and results are its own
-pub record Taken (G : Given) (wish limit : ℕ) (a : Answer) (R : Results) (k : Mode) : Type 0 where
-  pub first : FirstStop G (a .phi) (startAt G (startMeans G)) k
+-- an answer a with the results R is that of the mode k: k is the first stop of the run at the reported phi from the starting means mu, within the limit, and iterations, deviance, order, reason and results are its own
+pub record Taken (G : Given) (mu : List Float) (wish limit : ℕ) (a : Answer) (R : Results) (k : Mode) : Type 0 where
+  pub first : FirstStop G (a .phi) (startAt G mu) k
   pub within : k .iterations ≤ limit
   pub iterations : a .iterations ≡ k .iterations
   pub deviance : a .deviance ≡ devianceBy (quadratureOf G wish k (a .phi) .answer) (k .laplace)

@@ -1,5 +1,6 @@
--- The fit that a call asks for, over the inner fit with its quadrature, and its answer. Document 01, "The inner fit", on dispersion, and "Numbers of an answer"; document 02, P5. Assumes nothing.
+-- The fit that a call asks for, over the inner fit with its quadrature, and its answer. Document 01, "The inner fit", on dispersion, and "Numbers of an answer"; document 02, P5 and P10. Assumes nothing.
 use mathlib.Core.Bool.{Bool, true, false}
+use mathlib.Core.List.{List}
 use Prim.Native.Nat.{ℕ}
 use lib.Ieee.{Float}
 use Rattle.model.specs.Answer.{unfittedAnswer, fittedAnswer}
@@ -9,7 +10,6 @@ use Rattle.model.specs.declared.ends.Answer.{Answer}
 use Rattle.family.specs.Family.{usesDispersion}
 use Rattle.rule.specs.Given.{Given, nOf}
 use Rattle.rule.specs.Stop.{Mode}
-use Rattle.rule.specs.Run.{startMeans}
 use Rattle.agq_rule.specs.Inner.{InnerEnd, withMode, withoutMode, Inner, devianceBy, orderBy, whyBy, innerOf}
 use Rattle.agq_rule.specs.declared.answers.Integral.{Integral}
 use Rattle.dispersion.specs.Phi.{effectiveN}
@@ -33,18 +33,18 @@ resultBy (withoutMode e) = noResult e
 unfoldable pub totalOf : Inner → Total Fitted
 totalOf i = record { outcome = resultBy (i .ending); items = i .items }
 
--- the inner fit at phi, which begins from the starting means whatever came before it; wish is the order wished for, L the limit
-unfoldable pub innerAt : Given → ℕ → ℕ → Float → Total Fitted
-innerAt G wish L phi = totalOf (innerOf G wish phi L (startMeans G))
+-- the inner fit at phi, which begins from the starting means mu whatever came before it; wish is the order wished for, L the limit
+unfoldable pub innerAt : Given → List Float → ℕ → ℕ → Float → Total Fitted
+innerAt G mu wish L phi = totalOf (innerOf G wish phi L mu)
 
 -- with a free dispersion the dispersion loop, else one inner fit
-unfoldable pub fitBy : Bool → Given → ℕ → ℕ → Total (Dispersed Fitted)
-fitBy true G wish L = dispersionOf (effectiveN (nOf G) (G .weights)) sumOf (innerAt G wish L)
-fitBy false G wish L = fixedOf (innerAt G wish L)
+unfoldable pub fitBy : Bool → Given → List Float → ℕ → ℕ → Total (Dispersed Fitted)
+fitBy true G mu wish L = dispersionOf (effectiveN (nOf G) (G .weights)) sumOf (innerAt G mu wish L)
+fitBy false G mu wish L = fixedOf (innerAt G mu wish L)
 
--- the fit
-unfoldable pub fitOf : Given → ℕ → ℕ → Total (Dispersed Fitted)
-fitOf G wish L = fitBy (usesDispersion (G .family)) G wish L
+-- the fit from the starting means mu, whatever they are (document 02, P10)
+unfoldable pub fitOf : Given → List Float → ℕ → ℕ → Total (Dispersed Fitted)
+fitOf G mu wish L = fitBy (usesDispersion (G .family)) G mu wish L
 
 -- the answer by what the fit comes to, and the account of what it did
 unfoldable pub resultAnswer : Result (Dispersed Fitted) → Account → Answer

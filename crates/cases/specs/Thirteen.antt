@@ -8,6 +8,7 @@ use Rattle.base.specs.List.{matrix}
 use Rattle.model.specs.declared.names.Family.the-variants.{Poisson}
 use Rattle.model.specs.declared.names.Link.the-variants.{Log}
 use Rattle.model.specs.declared.names.Limit.the-variants.{Given}
+use Rattle.model.specs.declared.names.Start.the-variants.{Usual}
 use Rattle.model.specs.declared.sizes.Shape.{Shape}
 use Rattle.quadrature.specs.declared.orders.Order.the-variants.{Three, Five, Seven, Nine, Eleven}
 use Rattle.quadrature.specs.declared.orders.Decline.the-variants.{Wish, Effects, Cap}
@@ -34,7 +35,7 @@ bytesJ =
 abbrev pub callJ : Job
 callJ =
     record {
-      settings = record { family = Poisson; link = Log; «n_agq» = 1; limit = Given 0; n = 1; p = 1; rows = 1; entries = 1 };
+      settings = record { family = Poisson; link = Log; «n_agq» = 1; limit = Given 0; n = 1; p = 1; rows = 1; entries = 1; start = Usual };
       shape = oneBlock 1 1;
       theta = bits 0x3ff0_0000_0000_0000 ∷ [];
       y = bits 0x4000_0000_0000_0000 ∷ [];

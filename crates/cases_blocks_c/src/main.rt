@@ -168,6 +168,7 @@ fn next_settings() -> CodedSettings {
         p: fed::count(),
         rows: fed::count(),
         entries: fed::count(),
+        start: fed::count(),
     }
 }
 

@@ -195,6 +195,7 @@ fn next_settings() -> Settings {
         p: fed::count(),
         rows: fed::count(),
         entries: fed::count(),
+        start: fed::start(),
     }
 }
 

@@ -74,6 +74,7 @@ fn put_header(header: Header) {
     let family = settings.family;
     let link = settings.link;
     let limit = settings.limit;
+    let start = settings.start;
     text::put_word(b"accepted");
     text::put_count(model::family_code(family) as u64);
     text::put_count(model::link_code(link) as u64);
@@ -83,6 +84,7 @@ fn put_header(header: Header) {
     text::put_count(settings.p as u64);
     text::put_count(settings.rows as u64);
     text::put_count(settings.entries as u64);
+    text::put_count(model::start_code(start) as u64);
     text::put_count(header.thetas as u64);
     text::put_count(header.weights as u64);
     text::put_count(header.offset as u64);
@@ -277,7 +279,7 @@ fn next_job() -> bool {
 
 fn all_jobs() {
     let mut i: usize = 0;
-    while i < 1000 {
+    while i < 2000 {
         if !next_job() {
             return;
         }

@@ -11,6 +11,8 @@ use model::LinkFound;
 use model::Refusal;
 use model::Settings;
 use model::Shape;
+use model::Start;
+use model::StartFound;
 ghost use mathlib.Core.Path.{_≡_};
 ghost use mathlib.Core.Bool.{true};
 ghost use Prim.Native.Nat.{_≤_};
@@ -39,6 +41,13 @@ fn put_link(link: Link) {
         Link::Identity => text::put_word(b" identity"),
         Link::Inverse => text::put_word(b" inverse"),
         Link::Sqrt => text::put_word(b" sqrt"),
+    }
+}
+
+fn put_start(start: Start) {
+    match start {
+        Start::Usual => text::put_word(b" usual"),
+        Start::Trials => text::put_word(b" trials"),
     }
 }
 
@@ -74,6 +83,18 @@ fn link() {
             put_size(model::link_code(l));
         }
         LinkFound::NoSuch => text::put_word(b" none"),
+    }
+}
+
+// From a code to the start, and back.
+fn start() {
+    let found = model::start_coded(fed::count());
+    match found {
+        StartFound::Found(s) => {
+            put_start(s);
+            put_size(model::start_code(s));
+        }
+        StartFound::NoSuch => text::put_word(b" none"),
     }
 }
 
@@ -135,6 +156,7 @@ fn next_settings() -> Settings {
         p: fed::count(),
         rows: fed::count(),
         entries: fed::count(),
+        start: Start::Usual,
     }
 }
 
@@ -160,7 +182,8 @@ fn next_refusal() -> Refusal {
         4 => Refusal::NotFinite,
         5 => Refusal::LinkForFamily,
         6 => Refusal::NotCarried,
-        _ => Refusal::ResponseRange,
+        7 => Refusal::ResponseRange,
+        _ => Refusal::StartFit,
     }
 }
 
@@ -227,7 +250,9 @@ fn run(code: usize) {
         5 => refused(next_refusal()),
         6 => unfitted(next_end()),
         7 => fitted(),
-        _ => items(),
+        8 => items(),
+        9 => start(),
+        _ => text::put_test(model::is_end(fed::count())),
     }
     text::end_line();
 }

@@ -2,6 +2,7 @@
 // Each buffer is longer than what is written and holds 9 before: the rest stays.
 use family::CarriedFamily;
 use family::CarriedLink;
+use model::Start;
 ghost use Rattle.working.specs.Optional.{Optional};
 
 // w from 1 on and z from 14 on. Predictors and means do not belong together, so that each is seen where it stands.
@@ -153,10 +154,24 @@ fn with_offset(offset: &[f64])
     start_back(offset);
 }
 
-fn start_means(family: CarriedFamily) {
+fn put_means(start: Start, family: CarriedFamily, weights: &[f64]) {
     let mut out = [9.0; 6];
-    working::start_means(family, &[0.0, 1.0, 0.3, -0.0, 1e16], 5, &mut out);
+    working::start_means(
+        start,
+        family,
+        &[0.0, 1.0, 0.3, -0.0, 1e16],
+        weights,
+        5,
+        &mut out,
+    );
     text::put_list(b"means", &out, 6);
+}
+
+// The usual start looks at the family and not at the weights, the one with trial counts at the weights and not at the family.
+fn start_means(family: CarriedFamily) {
+    put_means(Start::Usual, family, &[4.0, 2.0, 3.0, 0.0, 0.5]);
+    put_means(Start::Trials, family, &[4.0, 2.0, 3.0, 0.0, 0.5]);
+    put_means(Start::Trials, family, &[]);
 }
 
 // Of four responses, the first of them named. The means stand from 1 on, the deviances from 6 on; then their sum and the fit term.

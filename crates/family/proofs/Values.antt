@@ -1,14 +1,14 @@
 -- Values by computation: the sqrt link of -0.0, the cases that document 01 has run, and Gamma's. Assumes nothing.
 use mathlib.Core.Path.{_≡_, refl}
 use lib.Ieee.{nan, neg, add, sub, mul, div, lt, le, eq, isNan, ofBits, toBits, ofInt}
-use Rattle.base.specs.Number.{bits, zeroF, oneF, twoF, epsF, maxF}
+use Rattle.base.specs.Number.{bits, zeroF, oneF, halfF, twoF, epsF, maxF}
 use Rattle.root.specs.Sqrt.{sqrtOf}
 use Rattle.tabulated.specs.LogTable.{logTable, logRow}
 use Rattle.elementary.specs.LogPoly.{nearPoly, nearSum, nearOf, lnSum}
 use Rattle.elementary.specs.Log.{nearOne, lnNear, lnRow, lnMain, lnFar, lnOf}
 use Rattle.log_gamma.proofs.LogGammaFacts.{at-two}
 use Rattle.family.specs.Link.{linkFun, muEta}
-use Rattle.family.specs.Family.{gammaTerm, devResid, initializeMu, hasDensity, lnDgamma}
+use Rattle.family.specs.Family.{gammaTerm, devResid, initializeMu, trialsMean, hasDensity, lnDgamma}
 use Rattle.family.specs.declared.carried.CarriedLink.the-variants.{Inverse, Sqrt}
 use Rattle.family.specs.declared.carried.CarriedFamily.the-variants.{Binomial, Gamma}
 
@@ -21,6 +21,11 @@ sqrt-link-of-minus-zero = refl
 pub binomial-start-of-zero : initializeMu Binomial zeroF ≡ bits 0x3fd0_0000_0000_0000
 unfolding initializeMu add div ofBits
 binomial-start-of-zero = refl
+
+-- with no trial the start is 0.5 whatever the response, with 4 trials and the share 0.25 it is 1.5 / 5
+pub trials-starts : (trialsMean zeroF zeroF ≡ halfF) × (trialsMean zeroF oneF ≡ halfF) × (trialsMean (bits 0x4010_0000_0000_0000) (bits 0x3fd0_0000_0000_0000) ≡ bits 0x3fd3_3333_3333_3333)
+unfolding trialsMean add mul div ofBits
+trials-starts = (refl, refl, refl)
 
 -- inverse `mu_eta` at 2 → -0.25
 pub inverse-slope-at-two : muEta Inverse twoF ≡ bits 0xbfd0_0000_0000_0000

@@ -1,4 +1,4 @@
--- The families that are carried: variance, deviance of one response, starting mean, and the logarithm of Gamma's density. Document 01, module 3, and document 02, P2; `GlmFamily` and `ln_dgamma` of family.rs. Assumes nothing.
+-- The families that are carried: variance, deviance of one response, starting mean, and the logarithm of Gamma's density. Document 01, module 3, and document 02, P2 and P10; `GlmFamily` and `ln_dgamma` of family.rs. Assumes nothing.
 use mathlib.Core.Bool.{Bool, true, false, _&&_, cond}
 use lib.Ieee.{Float, nan, inf, lt, le, neg}
 use Rattle.base.specs.Number.{_⊕_, _⊖_, _⊗_, _⊘_, bits, zeroF, oneF, halfF, twoF, epsF, maxF}
@@ -60,6 +60,10 @@ initializeMu Binomial y = (y ⊕ halfF) ⊘ twoF
 initializeMu Poisson y = y ⊕ tenthF
 initializeMu Gaussian y = y
 initializeMu Gamma y = maxF y epsF
+
+-- (w y + 0.5) / (w + 1), R's binomial start with the weight w as the number of trials. Document 02, P10
+unfoldable pub trialsMean : Float → Float → Float
+trialsMean w y = (w ⊗ y ⊕ halfF) ⊘ (w ⊕ oneF)
 
 -- `uses_dispersion`
 abbrev pub usesDispersion : CarriedFamily → Bool

@@ -7,7 +7,7 @@ use base::max;
 use elementary::ln;
 use log_gamma::ln_gamma;
 ghost use mathlib.Core.Path.{_≡_};
-ghost use Rattle.family.specs.Family.{varianceOf, successTerm, binomialTerm, poissonTerm, gammaTerm, proportion, inRange, devResid, initializeMu, usesDispersion, hasDensity, lnDgamma};
+ghost use Rattle.family.specs.Family.{varianceOf, successTerm, binomialTerm, poissonTerm, gammaTerm, proportion, inRange, devResid, initializeMu, trialsMean, usesDispersion, hasDensity, lnDgamma};
 
 // The variance of a response with mean mu, up to the dispersion.
 pub fn variance(family: CarriedFamily, mu: f64) -> f64
@@ -143,6 +143,13 @@ pub fn initialize_mu(family: CarriedFamily, y: f64) -> f64
         CarriedFamily::Gaussian => y,
         CarriedFamily::Gamma => max(y, EPSILON),
     }
+}
+
+// The mean that a binomial fit starts from where the weight is a number of trials.
+pub fn trials_mean(wt: f64, y: f64) -> f64
+    ensures { λ r. ⌜ r ≡ trialsMean wt y ⌝ }
+{
+    (wt * y + 0.5) / (wt + 1.0)
 }
 
 // Whether the dispersion is free.

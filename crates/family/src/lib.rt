@@ -15,6 +15,7 @@ pub use families::dev_resid;
 pub use families::in_range;
 pub use families::initialize_mu;
 pub use families::ln_dgamma;
+pub use families::trials_mean;
 pub use families::uses_dispersion;
 pub use families::variance;
 pub use links::link_fun;

@@ -5,6 +5,8 @@ use model::FamilyFound;
 use model::Limit;
 use model::Link;
 use model::LinkFound;
+use model::Start;
+use model::StartFound;
 ghost use Prim.Native.Nat.{_≤_};
 
 // The lesser of two: a, or b where a is past it.
@@ -102,6 +104,14 @@ pub fn link() -> Link {
     match model::link_coded(count()) {
         LinkFound::Found(link) => link,
         LinkFound::NoSuch => Link::Probit,
+    }
+}
+
+// The start of the next code; the usual one stands for every code of none.
+pub fn start() -> Start {
+    match model::start_coded(count()) {
+        StartFound::Found(start) => start,
+        StartFound::NoSuch => Start::Usual,
     }
 }
 

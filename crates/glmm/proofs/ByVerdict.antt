@@ -20,7 +20,7 @@ use Rattle.table.specs.declared.verdicts.Verdict.{Verdict}
 use Rattle.table.specs.declared.verdicts.Verdict.the-variants.{Accepted, Refused}
 use Rattle.table.proofs.Accepting.{accepted-sound}
 use Rattle.call.specs.Fit.{fitOf}
-use Rattle.call.specs.Call.{Lent, lent, lengthsOf, left, callGiven, fitLeft, callBy, callOf}
+use Rattle.call.specs.Call.{Lent, lent, lengthsOf, left, callGiven, callMeans, fitLeft, callBy, callOf}
 use Rattle.glmm.proofs.Asking.{accepted-asked, accepted-limit}
 
 module _ (t : Settings) (s : Shape) (theta y weights offset x : List Float) (starts columns : List ℕ) (values beta se z u b mu eta residual v r m w : List Float) where
@@ -60,7 +60,7 @@ module _ (t : Settings) (s : Shape) (theta y weights offset x : List Float) (sta
         }
 
     pub call-fitted : (k : ℕ) (answer : Answer) (L' : Lent) → k ≡ limitOf (t .limit) (t .link)
-        → left answer L' ≡ fitLeft (t .n) (t .p) (t .rows) (callGiven f l t s I) (fitOf (callGiven f l t s I) (t .«n_agq») k) L → left answer L' ≡ callOf t s I L
+        → left answer L' ≡ fitLeft (t .n) (t .p) (t .rows) (callGiven f l t s I) (fitOf (callGiven f l t s I) (callMeans f l t s I) (t .«n_agq») k) L → left answer L' ≡ callOf t s I L
     unfolding callOf callBy
     call-fitted k answer L' ek e = rw table (rw ek at e)
 

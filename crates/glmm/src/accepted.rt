@@ -4,12 +4,14 @@ use family::CarriedFamily;
 use family::CarriedLink;
 use model::Answer;
 use model::Shape;
+use model::Start;
 use rounds::fit_in;
 use wipe::wipe_work;
 ghost use mathlib.Core.Path.{_≡_};
 ghost use Prim.Native.Nat.{_≤_};
 ghost use Rattle.stored.specs.Stored.{sparse};
 ghost use Rattle.rule.specs.Given.{designOf, givenOf};
+ghost use Rattle.rule.specs.Run.{startMeans};
 ghost use Rattle.iteration.specs.Iterated.{Asked};
 ghost use Rattle.results.specs.Room.{Writable};
 ghost use Rattle.call.specs.Fit.{fitOf};
@@ -21,6 +23,7 @@ pub fn fit_accepted(
     link: CarriedLink,
     limit: usize,
     wish: usize,
+    start: Start,
     shape: Shape,
     n: usize,
     p: usize,
@@ -60,7 +63,11 @@ pub fn fit_accepted(
         (fitOf
         (givenOf family link (now (y .entry)) (now (weights .entry))
         (designOf n p shape (now (theta .entry)) (now (offset .entry)) (now (x .entry))
-        (sparse (now (starts .entry)) (now (columns .entry)) (now (values .entry))))) wish limit)
+        (sparse (now (starts .entry)) (now (columns .entry)) (now (values .entry)))))
+        (startMeans start
+        (givenOf family link (now (y .entry)) (now (weights .entry))
+        (designOf n p shape (now (theta .entry)) (now (offset .entry)) (now (x .entry))
+        (sparse (now (starts .entry)) (now (columns .entry)) (now (values .entry)))))) wish limit)
         (lent (now (beta .entry)) (now (se .entry)) (now (z .entry)) (now (u .entry)) (now (b .entry)) (now (mu .entry)) (now (eta .entry))
         (now (residual .entry)) (now (v .entry)) (now (rows .entry)) (now (matrices .entry)) (now (terms .entry))) ⌝ }
 {
@@ -69,6 +76,7 @@ pub fn fit_accepted(
         link,
         limit,
         wish,
+        start,
         shape,
         theta,
         starts,

@@ -76,12 +76,14 @@ pub fn fit(
         Verdict::Accepted(f, l) => {
             let given = settings.limit;
             let link = settings.link;
+            let start = settings.start;
             let limit = model::limit_of(given, link);
             fit_accepted(
                 f,
                 l,
                 limit,
                 settings.n_agq,
+                start,
                 shape,
                 settings.n,
                 settings.p,

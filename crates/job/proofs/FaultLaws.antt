@@ -1,17 +1,19 @@
 -- The laws of faults: what a demand that holds, or fails, makes of the rest; one turn of each loop; what a sound part reaches. Assumes nothing.
-use mathlib.Core.Path.{_≡_, refl}
-use mathlib.Core.Bool.{Bool, true, false}
+use mathlib.Core.Path.{_≡_, refl, sym, ap, _∙_}
+use mathlib.Core.Bool.{Bool, true, false, not, _&&_, _||_}
 use mathlib.Core.List.{List}
 use Prim.Native.Nat.{ℕ, zero, suc, _+_, _*_, _-_, _≤_, _<_, _/_}
 use native.Mathlib.Omega.{arith}
 use lib.Dec.{leb, ltb, eqb}
 use lib.ListN.{length}
-use borrow.Author.Tests.{le-leb, lt-leb, leb-true, eq-eqb}
+use borrow.Author.Tests.{le-leb, lt-leb, leb-true, eq-eqb, eqb-true, ltb-true}
 use Rattle.bits.specs.Bits.{bitsOf}
 use Rattle.job.specs.declared.faults.Fault.{Fault}
 use Rattle.job.specs.declared.faults.Fault.the-variants.{Sound, At}
-use Rattle.job.specs.Format.{version, linkField, afterRow, blocksAt}
-use Rattle.job.specs.Faults.{demand, _▹_, isSound, reaches, spare, pairFault, blocksFault, entryFault, entriesFault, rowFault, rowsFault, headFault}
+use Rattle.job.specs.declared.head.Head.{Head}
+use Rattle.job.specs.Heads.{headOf}
+use Rattle.job.specs.Format.{version, linkField, limitField, isSecond, afterRow, blocksAt}
+use Rattle.job.specs.Faults.{demand, _▹_, isSound, reaches, spare, pairFault, blocksFault, entryFault, entriesFault, rowFault, rowsFault, commonFault, secondFault, headFault}
 
 -- ---- one demand
 pub reach-yes : (s : List ℕ) (e : ℕ) → e ≤ length s * 8 → reaches s e ≡ Sound
@@ -132,14 +134,64 @@ blocks-reached s p (suc n) l h =
     let t : p + 2 + 2 * n ≤ length s = blocks-reached s (p + 2) n (omega arith) (b .1) in
     omega arith
 
--- a sound header is there
-pub head-reached : (s : List ℕ) → isSound (headFault s) ≡ true → blocksAt s ≤ length s
-unfolding headFault blocksAt
-head-reached s h =
-    let a = both (reaches s 4) _ h in
-    let b = both (demand (eqb (version s) 1) 21 0) _ (a .1) in
+-- a sound header
+pub record Headed (s : List ℕ) : Type 0 where
+  pub known : eqb (version s) 1 || isSecond s ≡ true
+  pub carried : linkField s < 7
+  pub long : 6 ≤ length s
+  pub limited : not (ltb 1000 (limitField s) && ltb (limitField s) 1023) ≡ true
+  pub second : isSound (secondFault s) ≡ true
+
+pub headed : (s : List ℕ) → isSound (headFault s) ≡ true → Headed s
+unfolding headFault commonFault
+headed s h =
+    let w = both (commonFault s) (secondFault s) h in
+    let a = both (reaches s 4) _ (w .0) in
+    let b = both (demand (eqb (version s) 1 || isSecond s) 21 0) _ (a .1) in
     let d = both (reaches s 9) _ (b .1) in
     let e = both (demand (ltb (linkField s) 7) 24 0) _ (d .1) in
     let f = both (reaches s 48) _ (e .1) in
     let r : 48 ≤ length s * 8 = reached s 48 (f .0) in
-    omega arith
+    record {
+      known = demanded _ 21 0 (b .0);
+      carried = ltb-true (linkField s) 7 (demanded _ 24 0 (e .0));
+      long = omega arith;
+      limited = demanded _ 24 4 (f .1);
+      second = w .1;
+    }
+
+-- the version as the header tells it
+pub known-by : (s : List ℕ) (h : Head) (r b : Bool) → h ≡ headOf s → r ≡ eqb (h .version) 1 || eqb (h .version) 2 → r ≡ b → eqb (version s) 1 || isSecond s ≡ b
+known-by s h r b eh er e = sym (er ∙ ap (λ (x : Head). eqb (x .version) 1 || eqb (x .version) 2) eh) ∙ e
+
+-- a version that is not 2 is 1
+left-or : (a : Bool) → a || false ≡ true → a ≡ true
+left-or true e = refl
+left-or false e = e
+
+pub version-one : (s : List ℕ) → Headed s → isSecond s ≡ false → version s ≡ 1
+version-one s h e = eqb-true (version s) 1 (left-or (eqb (version s) 1) (rw e at (h .known)))
+
+-- in version 2 the header is a byte longer, and ends with seven zero bits
+pub second-said : (s : List ℕ) → Headed s → isSecond s ≡ true → (7 ≤ length s) × (bitsOf s 49 7 ≡ 0)
+unfolding secondFault spare
+second-said s h e =
+    let b = both (reaches s 56) (spare s 49 7) (rw e at (h .second)) in
+    let r : 56 ≤ length s * 8 = reached s 56 (b .0) in
+    (omega arith, eqb-true (bitsOf s 49 7) 0 (demanded _ 22 (49 / 8) (b .1)))
+
+pub at-six : (s : List ℕ) → isSecond s ≡ false → blocksAt s ≡ 6
+unfolding blocksAt
+at-six s e = rw e
+
+pub at-seven : (s : List ℕ) → isSecond s ≡ true → blocksAt s ≡ 7
+unfolding blocksAt
+at-seven s e = rw e
+
+-- it is there
+pub head-reached : (s : List ℕ) → isSound (headFault s) ≡ true → blocksAt s ≤ length s
+head-reached s h = by (isSecond s) refl
+  where
+    by : (b : Bool) → isSecond s ≡ b → blocksAt s ≤ length s
+    by true e = omega (arith, at-seven s e, second-said s (headed s h) e .0)
+    by false e = omega (arith, at-six s e, headed s h .long)

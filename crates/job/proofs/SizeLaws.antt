@@ -1,6 +1,6 @@
 -- What the sizes of a job are bounded by, once they were tested, and where its lists begin. Assumes nothing.
-use mathlib.Core.Path.{_≡_}
-use mathlib.Core.Bool.{true, false, _&&_}
+use mathlib.Core.Path.{_≡_, refl}
+use mathlib.Core.Bool.{Bool, true, false, _&&_}
 use mathlib.Core.List.{List}
 use Prim.Native.Nat.{ℕ, _+_, _*_, _≤_, _<_}
 use native.Mathlib.Nat.{mul-le-mul}
@@ -13,12 +13,16 @@ use Rattle.model.proofs.Shapes.{in-range, not-good, theta-few}
 use Rattle.job.specs.declared.sizes.Counts.{Counts}
 use Rattle.job.specs.declared.sizes.Places.{Places}
 use Rattle.job.specs.Places.{countsOf, placesOf, CountsFew}
-use Rattle.job.specs.Format.{blocksAt, groups, effectsIn, weighted, shifted, obs, cols, blocks, shapeOf, rowsIn, thetas, sizesFit, zAt}
+use Rattle.job.proofs.FaultLaws.{at-six, at-seven}
+use Rattle.job.specs.Format.{isSecond, blocksAt, groups, effectsIn, weighted, shifted, obs, cols, blocks, shapeOf, rowsIn, thetas, sizesFit, zAt}
 
 -- the header is seven bytes long at most
 pub head-short : (s : List ℕ) → blocksAt s ≤ 7
-unfolding blocksAt
-head-short s = omega arith
+head-short s = by (isSecond s) refl
+  where
+    by : (b : Bool) → isSecond s ≡ b → blocksAt s ≤ 7
+    by true e = omega (arith, at-seven s e)
+    by false e = omega (arith, at-six s e)
 
 -- a block's numbers, from the byte at which the blocks begin
 pub group-at : (s : List ℕ) (first i m : ℕ) → first ≡ blocksAt s → m ≡ bitsOf s (8 * (first + 2 * i)) 7 → m ≡ groups s i

@@ -1,12 +1,12 @@
--- The bytes of a sound job without NaN are `jobBytes` of what was read: part by part, each part of the file is written from the numbers that stand in it. Assumes nothing.
+-- The bytes of a sound job without NaN are `jobBytes` of its version and of what was read: part by part, each part of the file is written from the numbers that stand in it. Assumes nothing.
 use mathlib.Core.Path.{_≡_, refl, sym, _∙_}
 use mathlib.Core.Bool.{Bool, true, false, not, cond}
-use mathlib.Core.List.{List, [], _∷_, _++_}
+use mathlib.Core.List.{List, [], _∷_, _++_, append-nil}
 use Prim.Native.Nat.{ℕ, zero, suc, _+_, _*_, _-_, _≤_, _<_}
 use native.Mathlib.Nat.{add-zero, zero-add, zero-mul, one-mul, le-of-suc-le-suc, not-suc-le-zero}
 use native.Mathlib.Omega.{arith}
-use borrow.Author.Tests.{eqb-true, ltb-true}
-use lib.Dec.{T, leb, ltb, eqb}
+use borrow.Author.Tests.{eqb-true}
+use lib.Dec.{T, leb, eqb}
 use lib.Ieee.{Float, nan, isNan, binary64}
 use lib.Ieee.Bits.{toBits-ofBits}
 use lib.ListN.{length}
@@ -15,15 +15,16 @@ use Rattle.base.specs.List.{build}
 use Rattle.base.proofs.Fills.{build-length, build-at}
 use Rattle.bits.specs.Bits.{bitsOf, doubleOf}
 use Rattle.bits.proofs.BitLaws.{bits-below}
-use Rattle.model.specs.Names.{familyCode, familyCoded, linkCode, linkCoded}
+use Rattle.model.specs.Names.{familyCode, familyCoded, linkCode, linkCoded, startCode, startCoded}
 use Rattle.model.specs.declared.names.Limit.the-variants.{Given, NotGiven}
+use Rattle.model.specs.declared.names.Start.the-variants.{Usual}
 use Rattle.job.specs.Lists.{joinTo}
-use Rattle.job.specs.Format.{version, familyField, linkField, limitField, blocks, blocksAt, blockAt, groups, effectsIn, shapeOf, number, short, entryAt, columnRead, valueRead, rowAt, startOf, rowsIn, obs, cols, weighted, shifted, thetas, thetaAt, yAt, weightsAt, offsetAt, xAt, zAt, sizesFit}
+use Rattle.job.specs.Format.{version, familyField, linkField, limitField, isSecond, startField, blocks, blocksAt, blockAt, groups, effectsIn, shapeOf, number, short, entryAt, columnRead, valueRead, rowAt, startOf, rowsIn, obs, cols, weighted, shifted, thetas, thetaAt, yAt, weightsAt, offsetAt, xAt, zAt, sizesFit}
 use Rattle.job.specs.Faults.{isSound, demand, spare, pairFault, reaches, headFault, blocksFault, entryFault, entriesFault, rowFault, rowsFault, numbersFault, bodyFault, faultOf}
-use Rattle.job.specs.Job.{familyFrom, linkFrom, limitFrom, settingsOf, columnsOf, valuesOf, sparseOf, jobOf}
-use Rattle.job.specs.Write.{fld, packed, present, limitCode, headBytes, blockBytes, numberBytes, numbersBytes, shortBytes, entryBytes, rowCount, rowBytes, jobBytes}
+use Rattle.job.specs.Job.{familyFrom, linkFrom, limitFrom, startFrom, startIn, settingsOf, columnsOf, valuesOf, sparseOf, Job, jobOf}
+use Rattle.job.specs.Write.{fld, packed, present, limitCode, Version, version1, version2, versionOf, versionCode, commonBytes, startBytes, headBytes, blockBytes, numberBytes, numbersBytes, shortBytes, entryBytes, rowCount, rowBytes, jobBytes}
 use Rattle.job.proofs.ListLaws.{counts-length, counts-at, laid-at, join-at}
-use Rattle.job.proofs.FaultLaws.{both, demanded, reached, pair-reached}
+use Rattle.job.proofs.FaultLaws.{both, demanded, reached, pair-reached, Headed, headed, version-one, second-said, at-six, at-seven}
 use Rattle.job.proofs.SizeLaws.{Small}
 use Rattle.job.proofs.RowLaws.{Fits, sound-fits, row-before, start-next, columns-before, values-before}
 use Rattle.bits.proofs.ByteLaws.{split}
@@ -57,6 +58,12 @@ limit-back l = by (eqb l 1023) refl
     by true e = sym (eqb-true l 1023 e)
     by false e = refl
 
+pub start-back : (c : ℕ) → c < 2 → startCode (startFrom (startCoded c)) ≡ c
+unfolding startFrom startCoded
+start-back zero l = refl
+start-back (suc zero) l = refl
+start-back (suc (suc c)) l = absurd (omega arith)
+
 -- a list is there exactly where its bit is set
 pub present-back : (f : ℕ → Float) (w n : ℕ) → w < 2 → 1 ≤ n → present (build f (w * n)) ≡ w
 unfolding present build
@@ -65,38 +72,41 @@ present-back f (suc zero) zero l h = absurd (not-suc-le-zero h)
 present-back f (suc zero) (suc n) l h = rw (one-mul (suc n)) refl
 present-back f (suc (suc w)) n l h = absurd (omega arith)
 
-head-number : (s : List ℕ) → version s ≡ 1 → packed 0 (fld 4 1 ∷ fld 2 (bitsOf s 4 2) ∷ fld 3 (bitsOf s 6 3) ∷ fld 1 (bitsOf s 9 1) ∷ fld 1 (bitsOf s 10 1) ∷ fld 5 (bitsOf s 11 5) ∷ fld 13 (bitsOf s 16 13) ∷ fld 5 (bitsOf s 29 5) ∷ fld 4 (bitsOf s 34 4) ∷ fld 10 (bitsOf s 38 10) ∷ []) ≡ bitsOf s 0 48
+head-number : (s : List ℕ) (c : ℕ) → version s ≡ c → packed 0 (fld 4 c ∷ fld 2 (bitsOf s 4 2) ∷ fld 3 (bitsOf s 6 3) ∷ fld 1 (bitsOf s 9 1) ∷ fld 1 (bitsOf s 10 1) ∷ fld 5 (bitsOf s 11 5) ∷ fld 13 (bitsOf s 16 13) ∷ fld 5 (bitsOf s 29 5) ∷ fld 4 (bitsOf s 34 4) ∷ fld 10 (bitsOf s 38 10) ∷ []) ≡ bitsOf s 0 48
 unfolding packed
-head-number s e =
+head-number s c e =
     rw
-    (split s 0 38 10, split s 0 34 4, split s 0 29 5, split s 0 16 13, split s 0 11 5, split s 0 10 1, split s 0 9 1, split s 0 6 3, split s 0 4 2, e)
+    (split s 0 38 10, split s 0 34 4, split s 0 29 5, split s 0 16 13, split s 0 11 5, split s 0 10 1, split s 0 9 1, split s 0 6 3, split s 0 4 2, e, zero-add)
 
--- what a sound header says
-pub record Headed (s : List ℕ) : Type 0 where
-  pub one : version s ≡ 1
-  pub carried : linkField s < 7
-
-headed : (s : List ℕ) → isSound (headFault s) ≡ true → Headed s
-unfolding headFault
-headed s h =
-    let a = both (reaches s 4) _ h in
-    let b = both (demand (eqb (version s) 1) 21 0) _ (a .1) in
-    let d = both (reaches s 9) _ (b .1) in
-    let e = both (demand (ltb (linkField s) 7) 24 0) _ (d .1) in
-    record { one = eqb-true (version s) 1 (demanded (eqb (version s) 1) 21 0 (b .0)); carried = ltb-true (linkField s) 7 (demanded (ltb (linkField s) 7) 24 0 (e .0)) }
-
-head-written : (s : List ℕ) → Bytes s → 6 ≤ length s → Headed s → Small s → headBytes (jobOf s) ≡ part s 0 6
-unfolding headBytes jobOf settingsOf
-head-written s h l e m =
+common-written : (s : List ℕ) (v : Version) → Bytes s → Headed s → version s ≡ versionCode v → Small s → commonBytes v (jobOf s) ≡ part s 0 6
+unfolding commonBytes jobOf settingsOf
+common-written s v h e k m =
     rw (
       family-back (familyField s) (bits-below s 4 2),
       link-back (linkField s) (e .carried),
       present-back (number s (weightsAt s)) (weighted s) (obs s) (bits-below s 9 1) (m .some),
       present-back (number s (offsetAt s)) (shifted s) (obs s) (bits-below s 10 1) (m .some),
       limit-back (limitField s),
-      head-number s (e .one),
+      head-number s (versionCode v) k,
     )
-    (bytes-are s 0 6 h l)
+    (bytes-are s 0 6 h (e .long))
+
+start-written : (s : List ℕ) → Bytes s → Headed s → isSecond s ≡ true → startBytes version2 (jobOf s .settings .start) ≡ part s 6 1
+unfolding startBytes jobOf settingsOf startIn packed
+start-written s h e k =
+    let q = second-said s e k in
+    let n : bitsOf s 48 8 ≡ startField s * 128 + 0 = rw (split s 48 1 7, q .1) refl in
+    rw (k, start-back (startField s) (bits-below s 48 1), ← bytes-are s 6 1 h (q .0), n, zero-add)
+
+none-behind : (j : Job) → headBytes version1 j ≡ commonBytes version1 j
+unfolding headBytes startBytes
+none-behind j = append-nil (commonBytes version1 j)
+
+head-written : (s : List ℕ) (b : Bool) → isSecond s ≡ b → Bytes s → Headed s → Small s → headBytes (versionOf s) (jobOf s) ≡ part s 0 (blocksAt s)
+unfolding versionOf headBytes
+head-written s true k h e m =
+    rw (k, at-seven s k) (joined s 0 6 1 7 _ _ (common-written s version2 h e (eqb-true (version s) 2 k) m) (start-written s h e k) refl)
+head-written s false k h e m = rw (k, at-six s k) (none-behind (jobOf s) ∙ common-written s version1 h e (version-one s e k) m)
 
 -- ---- two bytes, the last w bits of which are zero bits
 spared : (s : List ℕ) (p w : ℕ) → isSound (pairFault s p w) ≡ true → bitsOf s (8 * p + (16 - w)) w ≡ 0
@@ -273,11 +283,17 @@ body-written s h f e n =
     (omega arith)) (omega arith)) (omega arith)) (omega arith)) (omega arith)) (omega arith)
 
 -- the bytes of a sound job are those of what was read
-pub written : (s : List ℕ) → Bytes s → isSound (faultOf s) ≡ true → NoNan s → jobBytes (jobOf s) ≡ s
-unfolding jobBytes jobOf settingsOf faultOf blocksAt
+pub written : (s : List ℕ) → Bytes s → isSound (faultOf s) ≡ true → NoNan s → jobBytes (versionOf s) (jobOf s) ≡ s
+unfolding jobBytes jobOf settingsOf faultOf
 written s h e n =
     let f = sound-fits s e in
     let a = both (demand (leb (length s) 65536) 25 65536) _ e in
     let b = both (headFault s) (bodyFault s) (a .1) in
-    let l : 6 ≤ length s = omega (arith, f .fitting .0 .1) in
-    joined s 0 6 (length s - 6) (length s) _ _ (head-written s h l (headed s (b .0)) (f .small)) (body-written s h f (b .1) n) (omega arith) ∙ whole s
+    let l : thetaAt s ≤ length s = f .fitting .0 .1 in
+    let first : headBytes (versionOf s) (jobOf s) ≡ part s 0 (blocksAt s) = head-written s (isSecond s) refl h (headed s (b .0)) (f .small) in
+    joined s 0 (blocksAt s) (length s - blocksAt s) (length s) _ _ first (rw (zero-add (blocksAt s)) (body-written s h f (b .1) n)) (omega arith) ∙ whole s
+
+-- "version 1 keeps the old start", whatever stands where version 2 has its bit
+pub version-1-start : (s : List ℕ) → version s ≡ 1 → settingsOf s .start ≡ Usual
+unfolding settingsOf startIn
+version-1-start s e = rw e

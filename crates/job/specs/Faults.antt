@@ -1,6 +1,6 @@
--- The refusals of a job with their bytes. Document 01, "The job and the program": too long a job first, then what is met first in the file, the sizes between the blocks and the doubles.
+-- The refusals of a job with their bytes. Document 01, "The job and the program", and document 02, P10: too long a job first, then what is met first in the file, the sizes between the blocks and the doubles.
 -- Each part of the file demands something; the first demand that fails is the answer. Assumes nothing.
-use mathlib.Core.Bool.{Bool, true, false, not, _&&_}
+use mathlib.Core.Bool.{Bool, true, false, not, cond, _&&_, _||_}
 use mathlib.Core.List.{List}
 use Prim.Native.Nat.{ℕ, zero, suc, _+_, _*_, _-_, _/_}
 use lib.Dec.{leb, ltb, eqb}
@@ -8,7 +8,7 @@ use lib.ListN.{length}
 use Rattle.bits.specs.Bits.{bitsOf}
 use Rattle.job.specs.declared.faults.Fault.{Fault}
 use Rattle.job.specs.declared.faults.Fault.the-variants.{Sound, At}
-use Rattle.job.specs.Format.{version, linkField, limitField, blocks, blocksAt, rowsIn, sizesFit, zAt, short, afterRow}
+use Rattle.job.specs.Format.{version, linkField, limitField, isSecond, blocks, blocksAt, rowsIn, sizesFit, zAt, short, afterRow}
 
 -- refusal r at byte b, unless the test holds
 unfoldable pub demand : Bool → ℕ → ℕ → Fault
@@ -34,15 +34,23 @@ reaches s e = demand (leb e (length s * 8)) 20 (length s)
 unfoldable pub spare : List ℕ → ℕ → ℕ → Fault
 spare s p w = demand (eqb (bitsOf s p w) 0) 22 (p / 8)
 
--- the header: 21 and 24 for version and link at byte 0, 24 for a limit from 1001 to 1022 at byte 4
-unfoldable pub headFault : List ℕ → Fault
-headFault s =
+-- the header's 48 bits that both versions have: 21 and 24 for version and link at byte 0, 24 for a limit from 1001 to 1022 at byte 4
+unfoldable pub commonFault : List ℕ → Fault
+commonFault s =
     reaches s 4
-    ▹ demand (eqb (version s) 1) 21 0
+    ▹ demand (eqb (version s) 1 || isSecond s) 21 0
     ▹ reaches s 9
     ▹ demand (ltb (linkField s) 7) 24 0
     ▹ reaches s 48
     ▹ demand (not (ltb 1000 (limitField s) && ltb (limitField s) 1023)) 24 4
+
+-- the byte behind them in version 2: seven zero bits after the start
+unfoldable pub secondFault : List ℕ → Fault
+secondFault s = cond (isSecond s) (reaches s 56 ▹ spare s 49 7) Sound
+
+-- the header
+unfoldable pub headFault : List ℕ → Fault
+headFault s = commonFault s ▹ secondFault s
 
 -- two bytes at p, the last w bits of which are zero bits: a block, a row's count, an entry's column
 unfoldable pub pairFault : List ℕ → ℕ → ℕ → Fault

@@ -1,8 +1,9 @@
--- Where each number of a job stands. Document 01, "The job and the program", its first paragraph. Every definition is of the bytes alone, and total:
+-- Where each number of a job stands. Document 01, "The job and the program", its first paragraph; document 02, P10, for version 2. Every definition is of the bytes alone, and total:
 -- past the end all bits are 0. Which jobs are refused is said in `Faults`. Assumes nothing.
-use mathlib.Core.Bool.{Bool, _&&_}
+use mathlib.Core.Bool.{Bool, cond, _&&_}
 use mathlib.Core.List.{List}
 use Prim.Native.Nat.{ℕ, zero, suc, _+_, _*_}
+use lib.Dec.{eqb}
 use lib.Ieee.{Float}
 use lib.ListN.{replicate}
 use Rattle.bits.specs.Bits.{bitsOf, doubleOf}
@@ -10,9 +11,9 @@ use Rattle.model.specs.Shape.{within, effectsOf, thetaLength, goodShape}
 use Rattle.model.specs.declared.sizes.Shape.{Shape}
 use Rattle.job.specs.Lists.{counts, laid}
 
--- ---- the header, 48 bits: version, family, link, weights, offset, n_agq, n, p, blocks and L, one behind the other
+-- ---- the header: version, family, link, weights, offset, n_agq, n, p, blocks and L, one behind the other, 48 bits; in version 2 a byte more behind them
 
--- the version, 1 in every job that is not refused
+-- the version, 1 or 2 in every job that is not refused
 abbrev pub version : List ℕ → ℕ
 version s = bitsOf s 0 4
 
@@ -52,11 +53,19 @@ blocks s = bitsOf s 34 4
 abbrev pub limitField : List ℕ → ℕ
 limitField s = bitsOf s 38 10
 
+-- the job is of version 2
+abbrev pub isSecond : List ℕ → Bool
+isSecond s = eqb (version s) 2
+
+-- the start's code, "one more header bit after L": in version 2 alone, in version 1 the blocks stand there
+abbrev pub startField : List ℕ → ℕ
+startField s = bitsOf s 48 1
+
 -- ---- the blocks: "m 7, k 4, five zero bits", two bytes each
 
 -- the byte at which they begin, after the header
 unfoldable pub blocksAt : List ℕ → ℕ
-blocksAt s = 6
+blocksAt s = cond (isSecond s) 7 6
 
 -- the byte at which block i begins
 abbrev pub blockAt : List ℕ → ℕ → ℕ

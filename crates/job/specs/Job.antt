@@ -1,4 +1,4 @@
--- What a job says, as the fit is given it, and reading as one function of the bytes. Document 01, "The job and the program". Assumes nothing.
+-- What a job says, as the fit is given it, and reading as one function of the bytes. Document 01, "The job and the program"; document 02, P10, for the start. Assumes nothing.
 use mathlib.Core.Bool.{cond}
 use mathlib.Core.List.{List}
 use Prim.Native.Nat.{ℕ, _+_, _*_}
@@ -6,7 +6,7 @@ use lib.Dec.{eqb}
 use lib.Ieee.{Float}
 use Rattle.base.specs.List.{build}
 use Rattle.base.specs.Sparse.{Sparse}
-use Rattle.model.specs.Names.{familyCoded, linkCoded}
+use Rattle.model.specs.Names.{familyCoded, linkCoded, startCoded}
 use Rattle.model.specs.declared.names.Family.{Family}
 use Rattle.model.specs.declared.names.Family.the-variants.{Binomial}
 use Rattle.model.specs.declared.names.FamilyFound.{FamilyFound}
@@ -17,12 +17,16 @@ use Rattle.model.specs.declared.names.LinkFound.{LinkFound}
 use Rattle.model.specs.declared.names.LinkFound.the-variants as linkFound
 use Rattle.model.specs.declared.names.Limit.{Limit}
 use Rattle.model.specs.declared.names.Limit.the-variants.{Given, NotGiven}
+use Rattle.model.specs.declared.names.Start.{Start}
+use Rattle.model.specs.declared.names.Start.the-variants.{Usual}
+use Rattle.model.specs.declared.names.StartFound.{StartFound}
+use Rattle.model.specs.declared.names.StartFound.the-variants as startFound
 use Rattle.model.specs.declared.sizes.Shape.{Shape}
 use Rattle.model.specs.declared.sizes.Settings.{Settings}
 use Rattle.job.specs.declared.faults.Fault.{Fault}
 use Rattle.job.specs.declared.faults.Fault.the-variants.{Sound, At}
 use Rattle.job.specs.Lists.{counts, joinTo}
-use Rattle.job.specs.Format.{familyField, linkField, weighted, shifted, wish, obs, cols, limitField, shapeOf, rowsIn, thetas, thetaAt, yAt, weightsAt, offsetAt, xAt, number, rowAt, startOf, short, columnRead, valueRead}
+use Rattle.job.specs.Format.{familyField, linkField, weighted, shifted, wish, obs, cols, limitField, isSecond, startField, shapeOf, rowsIn, thetas, thetaAt, yAt, weightsAt, offsetAt, xAt, number, rowAt, startOf, short, columnRead, valueRead}
 use Rattle.job.specs.Faults.{faultOf}
 
 -- the family that was found; a code of two bits always names one
@@ -39,6 +43,15 @@ linkFrom linkFound.NoSuch = Logit
 unfoldable pub limitFrom : ℕ → Limit
 limitFrom l = cond (eqb l 1023) NotGiven (Given l)
 
+-- the start that was found; a code of one bit always names one
+unfoldable pub startFrom : StartFound → Start
+startFrom (startFound.Found t) = t
+startFrom startFound.NoSuch = Usual
+
+-- "0 for the old start and 1 for R's"; "version 1 keeps the old start"
+unfoldable pub startIn : List ℕ → Start
+startIn s = cond (isSecond s) (startFrom (startCoded (startField s))) Usual
+
 -- the plain numbers of the call
 unfoldable pub settingsOf : List ℕ → Settings
 settingsOf s =
@@ -51,6 +64,7 @@ settingsOf s =
       p = cols s;
       rows = rowsIn s;
       entries = startOf s (rowsIn s);
+      start = startIn s;
     }
 
 -- the columns of row r of Z'

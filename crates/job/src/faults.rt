@@ -2,13 +2,14 @@
 use crate::head::Head;
 use crate::head::piece_in;
 use crate::sizes::blocks_at;
+ghost use mathlib.Core.Bool.{_||_};
 ghost use mathlib.Core.Path.{_≡_};
 ghost use Prim.Native.Nat.{_+_, _*_, _≤_, _<_};
 ghost use lib.Dec.{eqb};
 ghost use lib.ListN.{length};
 ghost use Rattle.job.specs.Format.{blocks, blocksAt};
 ghost use Rattle.job.specs.Heads.{headOf};
-ghost use Rattle.job.specs.Faults.{demand, _▹_, isSound, reaches, headFault, pairFault, blocksFault, entryFault, entriesFault, rowFault, rowsFault};
+ghost use Rattle.job.specs.Faults.{demand, _▹_, isSound, reaches, commonFault, secondFault, headFault, pairFault, blocksFault, entryFault, entriesFault, rowFault, rowsFault};
 
 // What is wrong with a job: nothing, or a refusal's number and its byte.
 pub enum Fault {
@@ -26,16 +27,27 @@ pub fn is_sound(f: Fault) -> bool
     }
 }
 
-// The header: version, link and limit, each once its bits are there.
-fn head_fault(s: &[u8], head: Head) -> Fault
+// Whether a version is one that is read.
+fn known_version(version: usize) -> bool
+    ensures { λ r. ⌜ r ≡ eqb version 1 || eqb version 2 ⌝ }
+{
+    if version == 1 {
+        return true;
+    }
+    version == 2
+}
+
+// The header's 48 bits: version, link and limit, each once its bits are there.
+fn common_fault(s: &[u8], head: Head) -> Fault
     requires { ⌜ (length (now s) ≤ 65536) × (head ≡ headOf (now s)) ⌝ }
-    ensures { λ r. ⌜ r ≡ headFault (now (s .entry)) ⌝ }
+    ensures { λ r. ⌜ r ≡ commonFault (now (s .entry)) ⌝ }
 {
     let end = s.len();
     if end < 1 {
         return Fault::At(20, end);
     }
-    if head.version != 1 {
+    let known = known_version(head.version);
+    if !known {
         return Fault::At(21, 0);
     }
     if end < 2 {
@@ -64,6 +76,35 @@ fn spare_fault(zeros: usize, p: usize) -> Fault
         return Fault::At(22, p + 1);
     }
     Fault::Sound
+}
+
+// The byte behind them in version 2: the last seven bits are zero bits.
+fn second_fault(s: &[u8], head: Head) -> Fault
+    requires { ⌜ head ≡ headOf (now s) ⌝ }
+    ensures { λ r. ⌜ r ≡ secondFault (now (s .entry)) ⌝ }
+{
+    if head.version != 2 {
+        return Fault::Sound;
+    }
+    let end = s.len();
+    if end < 7 {
+        return Fault::At(20, end);
+    }
+    let zeros = bits::field_at(s, 49, 7);
+    spare_fault(zeros, 5)
+}
+
+// The header.
+fn head_fault(s: &[u8], head: Head) -> Fault
+    requires { ⌜ (length (now s) ≤ 65536) × (head ≡ headOf (now s)) ⌝ }
+    ensures { λ r. ⌜ r ≡ headFault (now (s .entry)) ⌝ }
+{
+    let f = common_fault(s, head);
+    let ok = is_sound(f);
+    if !ok {
+        return f;
+    }
+    second_fault(s, head)
 }
 
 // Two bytes at p, the last three bits of which are zero bits.

@@ -29,10 +29,14 @@ pub struct Places {
     pub z: usize,
 }
 
-// The byte at which the blocks begin. A second version of the format may have a longer header: only this function would know.
+// The byte at which the blocks begin: the header of version 2 is a byte longer.
 pub fn blocks_at(s: &[u8]) -> usize
     ensures { λ r. ⌜ r ≡ blocksAt (now (s .entry)) ⌝ }
 {
+    let version = bits::field_at(s, 0, 4);
+    if version == 2 {
+        return 7;
+    }
     6
 }
 

@@ -38,22 +38,22 @@ counts-of (x ∷ l) (suc n) e = ap (λ (t : List ℕ). x ∷ t) (counts-of l n (
 m-few : (h : Shape) → InRange h → (i : ℕ) → i < h .count → (h .m !! i) ≤ 32
 m-few h r i l = omega (arith, effects-small h r i l, mul-le-mul-left (h .m !! i) (r .k-some i l))
 
-pub record BlockSaid (h : Shape) (s : List ℕ) (i : ℕ) : Type 0 where
+pub record BlockSaid (h : Shape) (s : List ℕ) (a i : ℕ) : Type 0 where
   pub m : groups s i ≡ (h .m !! i)
   pub k : effectsIn s i ≡ (h .k !! i)
-  pub spare : bitsOf s (8 * (6 + 2 * i) + 11) 5 ≡ 0
+  pub spare : bitsOf s (8 * (a + 2 * i) + 11) 5 ≡ 0
 
-pub block-said : (h : Shape) (s : List ℕ) → Bytes s → Has s 6 (joinTo (h .count) (blockBytes h)) → InRange h → (i : ℕ) → i < h .count → BlockSaid h s i
-unfolding blockBytes packed groups effectsIn blocksAt
-block-said h s b g r i l =
-    let here : Has s (6 + 2 * i) (blockBytes h i) = rw (blocks-length h i) at (has-join s 6 (h .count) i (blockBytes h) g l) in
-    let whole = has-number s (6 + 2 * i) 2 _ b here (omega (arith, m-few h r i l, r .k-few i l)) in
-    let p2 = peel s (8 * (6 + 2 * i)) 11 5 _ 0 whole (omega arith) in
-    let p1 = peel s (8 * (6 + 2 * i)) 7 4 _ (h .k !! i) (p2 .0) (omega (arith, r .k-few i l)) in
-    record { m = p1 .0 ∙ zero-add (h .m !! i); k = p1 .1; spare = p2 .1 }
+pub block-said : (h : Shape) (s : List ℕ) (a : ℕ) → blocksAt s ≡ a → Bytes s → Has s a (joinTo (h .count) (blockBytes h)) → InRange h → (i : ℕ) → i < h .count → BlockSaid h s a i
+unfolding blockBytes packed groups effectsIn
+block-said h s a e b g r i l =
+    let here : Has s (a + 2 * i) (blockBytes h i) = rw (blocks-length h i) at (has-join s a (h .count) i (blockBytes h) g l) in
+    let whole = has-number s (a + 2 * i) 2 _ b here (omega (arith, m-few h r i l, r .k-few i l)) in
+    let p2 = peel s (8 * (a + 2 * i)) 11 5 _ 0 whole (omega arith) in
+    let p1 = peel s (8 * (a + 2 * i)) 7 4 _ (h .k !! i) (p2 .0) (omega (arith, r .k-few i l)) in
+    record { m = rw e (p1 .0 ∙ zero-add (h .m !! i)); k = rw e (p1 .1); spare = p2 .1 }
 
-pub shape-said : (h : Shape) (s : List ℕ) → blocks s ≡ h .count → ((i : ℕ) → i < h .count → BlockSaid h s i) → ZeroPast (h .count) (h .m) → ZeroPast (h .count) (h .k) → shapeOf s ≡ h
-shape-said h s e q bm bk =
+pub shape-said : (h : Shape) (s : List ℕ) (a : ℕ) → blocks s ≡ h .count → ((i : ℕ) → i < h .count → BlockSaid h s a i) → ZeroPast (h .count) (h .m) → ZeroPast (h .count) (h .k) → shapeOf s ≡ h
+shape-said h s a e q bm bk =
     let m : laid (counts (groups s) (blocks s)) (replicate 8 0) ≡ h .m = rw (e, counts-same (groups s) (λ i. h .m !! i) (h .count) (λ i l. q i l .m)) (sym bm) in
     let k : laid (counts (effectsIn s) (blocks s)) (replicate 8 0) ≡ h .k = rw (e, counts-same (effectsIn s) (λ i. h .k !! i) (h .count) (λ i l. q i l .k)) (sym bk) in
     λ i. record { count = e i; m = m i; k = k i }

@@ -11,7 +11,7 @@ use Rattle.base.specs.Sum.{allTo}
 use Rattle.model.specs.Shape.{totalTo, blockEffects, blockThetas, goodBlock, goodShape}
 use Rattle.model.specs.Settings.{goodLimit}
 use Rattle.job.specs.Lists.{counts, laid}
-use Rattle.job.specs.Write.{present, jobBytes}
+use Rattle.job.specs.Write.{present, version1, jobBytes}
 use Rattle.job.proofs.JobCases.{jobJ, caseJ-written}
 use Rattle.job_back.specs.Sayable.{Doubles, Sayable}
 
@@ -22,14 +22,15 @@ one-double b (suc i) l = absurd (omega arith)
 no-double : Doubles []
 no-double i l = absurd (omega arith)
 
-short-J : length (jobBytes jobJ) ≤ 65536
+short-J : length (jobBytes version1 jobJ) ≤ 65536
 short-J = rw caseJ-written (omega arith)
 
-pub sayable-J : Sayable jobJ
+pub sayable-J : Sayable version1 jobJ
 unfolding goodLimit goodShape goodBlock totalTo blockEffects blockThetas allTo counts laid present
 sayable-J =
     record {
       settings = record { some = omega arith; few = omega arith; column = omega arith; columns = omega arith; wish = omega arith; limit = refl };
+      start = λ e. refl;
       shape = record { good = refl; m-zero = refl; k-zero = refl };
       effects = refl;
       theta = refl;

@@ -8,3 +8,4 @@ pub mod SoundParts
 pub mod Back
 pub mod CaseJ
 pub mod Said
+pub mod Versions

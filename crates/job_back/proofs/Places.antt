@@ -1,23 +1,34 @@
 -- Where each part of a written job stands, and that all of it is bytes. Assumes nothing.
-use mathlib.Core.Path.{_≡_, refl, _∙_}
+use mathlib.Core.Path.{_≡_, refl, ap, _∙_}
 use mathlib.Core.List.{List, [], _++_}
 use Prim.Native.Nat.{ℕ, _+_, _*_}
+use native.Mathlib.Nat.{zero-add}
 use native.Mathlib.Omega.{arith}
 use lib.Ieee.{Float, toBits, binary64}
 use lib.ListN.{length, length-append}
 use Rattle.base.specs.Sum.{_!_, _!!_}
 use Rattle.base.specs.Sparse.{Sparse}
+use Rattle.model.specs.declared.names.Start.{Start}
 use Rattle.model.specs.declared.sizes.Shape.{Shape}
 use Rattle.job.specs.Lists.{joinTo}
 use Rattle.job.specs.Job.{Job}
-use Rattle.job.specs.Write.{headBytes, blockBytes, numberBytes, numbersBytes, shortBytes, entryBytes, rowCount, rowBytes, jobBytes}
+use Rattle.job.specs.Write.{Version, version1, version2, headLength, commonBytes, startBytes, headBytes, blockBytes, numberBytes, numbersBytes, shortBytes, entryBytes, rowCount, rowBytes, jobBytes}
 use Rattle.job.proofs.ByteLaws.{Bytes}
-use Rattle.job_back.proofs.Pieces.{bytes-both, bytes-of, bytes-join, bytes-length, join-length, Has, has-whole, has-left, has-right}
+use Rattle.job_back.proofs.Pieces.{bytes-none, bytes-both, bytes-of, bytes-join, bytes-length, join-length, Has, has-whole, has-left, has-right}
 
 -- ---- lengths
-pub head-length : (j : Job) → length (headBytes j) ≡ 6
+common-length : (v : Version) (j : Job) → length (commonBytes v j) ≡ 6
+unfolding commonBytes
+common-length v j = bytes-length 6 _
+
+start-length : (v : Version) (t : Start) → 6 + length (startBytes v t) ≡ headLength v
+unfolding startBytes
+start-length version1 t = refl
+start-length version2 t = ap (λ (n : ℕ). 6 + n) (bytes-length 1 _)
+
+pub head-length : (v : Version) (j : Job) → length (headBytes v j) ≡ headLength v
 unfolding headBytes
-head-length j = bytes-length 6 _
+head-length v j = length-append (commonBytes v j) (startBytes v (j .settings .start)) ∙ rw (common-length v j) (start-length v (j .settings .start))
 
 block-length : (h : Shape) (i : ℕ) → length (blockBytes h i) ≡ 2
 unfolding blockBytes
@@ -64,10 +75,19 @@ row-bytes z r =
     bytes-both (shortBytes (rowCount z r)) (joinTo (rowCount z r) (λ i. entryBytes z ((z .starts !! r) + i))) (bytes-of 2 _)
     (bytes-join (rowCount z r) (λ i. entryBytes z ((z .starts !! r) + i)) (λ i. bytes-both (shortBytes (z .columns !! ((z .starts !! r) + i))) (numberBytes (z .values ! ((z .starts !! r) + i))) (bytes-of 2 _) (bytes-of 8 _)))
 
-pub job-bytes : (j : Job) → Bytes (jobBytes j)
-unfolding jobBytes headBytes blockBytes
-job-bytes j =
-    bytes-both (headBytes j) _ (bytes-of 6 _)
+start-bytes : (v : Version) (t : Start) → Bytes (startBytes v t)
+unfolding startBytes
+start-bytes version1 t = bytes-none
+start-bytes version2 t = bytes-of 1 _
+
+head-bytes : (v : Version) (j : Job) → Bytes (headBytes v j)
+unfolding headBytes commonBytes
+head-bytes v j = bytes-both (commonBytes v j) (startBytes v (j .settings .start)) (bytes-of 6 _) (start-bytes v (j .settings .start))
+
+pub job-bytes : (v : Version) (j : Job) → Bytes (jobBytes v j)
+unfolding jobBytes blockBytes
+job-bytes v j =
+    bytes-both (headBytes v j) _ (head-bytes v j)
     (bytes-both (joinTo (j .shape .count) (blockBytes (j .shape))) _ (bytes-join (j .shape .count) (blockBytes (j .shape)) (λ i. bytes-of 2 _))
     (bytes-both (numbersBytes (j .theta)) _ (numbers-bytes (j .theta))
     (bytes-both (numbersBytes (j .y)) _ (numbers-bytes (j .y))
@@ -76,9 +96,9 @@ job-bytes j =
     (bytes-both (numbersBytes (j .x)) _ (numbers-bytes (j .x)) (bytes-join (j .settings .rows) (rowBytes (j .z)) (row-bytes (j .z)))))))))
 
 -- ---- the parts of the whole
-pub record Laid (j : Job) (s : List ℕ) (theta y weights offset x z : ℕ) : Type 0 where
-  pub has-head : Has s 0 (headBytes j)
-  pub has-blocks : Has s 6 (joinTo (j .shape .count) (blockBytes (j .shape)))
+pub record Laid (v : Version) (j : Job) (s : List ℕ) (theta y weights offset x z : ℕ) : Type 0 where
+  pub has-head : Has s 0 (headBytes v j)
+  pub has-blocks : Has s (headLength v) (joinTo (j .shape .count) (blockBytes (j .shape)))
   pub has-theta : Has s theta (numbersBytes (j .theta))
   pub has-y : Has s y (numbersBytes (j .y))
   pub has-weights : Has s weights (numbersBytes (j .weights))
@@ -87,11 +107,11 @@ pub record Laid (j : Job) (s : List ℕ) (theta y weights offset x z : ℕ) : Ty
   pub has-rows : Has s z (joinTo (j .settings .rows) (rowBytes (j .z)))
   pub long : length s ≡ z + length (joinTo (j .settings .rows) (rowBytes (j .z)))
 
-module _ (j : Job) (n p w o t c : ℕ) (ec : j .shape .count ≡ c) (et : length (j .theta) ≡ t) (ey : length (j .y) ≡ n) (ew : length (j .weights) ≡ w) (eo : length (j .offset) ≡ o) (ex : length (j .x) ≡ p) where
-  pub laid-out : Laid j (jobBytes j) (6 + 2 * c) (6 + 2 * c + 8 * t) (6 + 2 * c + 8 * t + 8 * n) (6 + 2 * c + 8 * t + 8 * n + 8 * w) (6 + 2 * c + 8 * t + 8 * n + 8 * w + 8 * o) (6 + 2 * c + 8 * t + 8 * n + 8 * w + 8 * o + 8 * p)
+module _ (v : Version) (j : Job) (n p w o t c : ℕ) (ec : j .shape .count ≡ c) (et : length (j .theta) ≡ t) (ey : length (j .y) ≡ n) (ew : length (j .weights) ≡ w) (eo : length (j .offset) ≡ o) (ex : length (j .x) ≡ p) where
+  pub laid-out : Laid v j (jobBytes v j) (headLength v + 2 * c) (headLength v + 2 * c + 8 * t) (headLength v + 2 * c + 8 * t + 8 * n) (headLength v + 2 * c + 8 * t + 8 * n + 8 * w) (headLength v + 2 * c + 8 * t + 8 * n + 8 * w + 8 * o) (headLength v + 2 * c + 8 * t + 8 * n + 8 * w + 8 * o + 8 * p)
   unfolding jobBytes
   laid-out =
-      let s = jobBytes j in
+      let s = jobBytes v j in
       let zs = joinTo (j .settings .rows) (rowBytes (j .z)) in
       let xs = numbersBytes (j .x) ++ zs in
       let os = numbersBytes (j .offset) ++ xs in
@@ -105,25 +125,25 @@ module _ (j : Job) (n p w o t c : ℕ) (ec : j .shape .count ≡ c) (et : length
       let lw : length (numbersBytes (j .weights)) ≡ 8 * w = numbers-length (j .weights) ∙ rw ew refl in
       let lo : length (numbersBytes (j .offset)) ≡ 8 * o = numbers-length (j .offset) ∙ rw eo refl in
       let lx : length (numbersBytes (j .x)) ≡ 8 * p = numbers-length (j .x) ∙ rw ex refl in
-      let hb : Has s 6 bs = has-right s 0 6 (headBytes j) bs (head-length j) (has-whole s) in
-      let ht : Has s (6 + 2 * c) ts = has-right s 6 (2 * c) (joinTo (j .shape .count) (blockBytes (j .shape))) ts lb hb in
-      let hy : Has s (6 + 2 * c + 8 * t) ys = has-right s (6 + 2 * c) (8 * t) (numbersBytes (j .theta)) ys lt ht in
-      let hw : Has s (6 + 2 * c + 8 * t + 8 * n) ws = has-right s (6 + 2 * c + 8 * t) (8 * n) (numbersBytes (j .y)) ws ly hy in
-      let ho : Has s (6 + 2 * c + 8 * t + 8 * n + 8 * w) os = has-right s (6 + 2 * c + 8 * t + 8 * n) (8 * w) (numbersBytes (j .weights)) os lw hw in
-      let hx : Has s (6 + 2 * c + 8 * t + 8 * n + 8 * w + 8 * o) xs = has-right s (6 + 2 * c + 8 * t + 8 * n + 8 * w) (8 * o) (numbersBytes (j .offset)) xs lo ho in
+      let hb : Has s (headLength v) bs = rw (zero-add (headLength v)) at (has-right s 0 (headLength v) (headBytes v j) bs (head-length v j) (has-whole s)) in
+      let ht : Has s (headLength v + 2 * c) ts = has-right s (headLength v) (2 * c) (joinTo (j .shape .count) (blockBytes (j .shape))) ts lb hb in
+      let hy : Has s (headLength v + 2 * c + 8 * t) ys = has-right s (headLength v + 2 * c) (8 * t) (numbersBytes (j .theta)) ys lt ht in
+      let hw : Has s (headLength v + 2 * c + 8 * t + 8 * n) ws = has-right s (headLength v + 2 * c + 8 * t) (8 * n) (numbersBytes (j .y)) ws ly hy in
+      let ho : Has s (headLength v + 2 * c + 8 * t + 8 * n + 8 * w) os = has-right s (headLength v + 2 * c + 8 * t + 8 * n) (8 * w) (numbersBytes (j .weights)) os lw hw in
+      let hx : Has s (headLength v + 2 * c + 8 * t + 8 * n + 8 * w + 8 * o) xs = has-right s (headLength v + 2 * c + 8 * t + 8 * n + 8 * w) (8 * o) (numbersBytes (j .offset)) xs lo ho in
       record {
-        has-head = has-left s 0 (headBytes j) bs (has-whole s);
-        has-blocks = has-left s 6 (joinTo (j .shape .count) (blockBytes (j .shape))) ts hb;
-        has-theta = has-left s (6 + 2 * c) (numbersBytes (j .theta)) ys ht;
-        has-y = has-left s (6 + 2 * c + 8 * t) (numbersBytes (j .y)) ws hy;
-        has-weights = has-left s (6 + 2 * c + 8 * t + 8 * n) (numbersBytes (j .weights)) os hw;
-        has-offset = has-left s (6 + 2 * c + 8 * t + 8 * n + 8 * w) (numbersBytes (j .offset)) xs ho;
-        has-x = has-left s (6 + 2 * c + 8 * t + 8 * n + 8 * w + 8 * o) (numbersBytes (j .x)) zs hx;
-        has-rows = has-right s (6 + 2 * c + 8 * t + 8 * n + 8 * w + 8 * o) (8 * p) (numbersBytes (j .x)) zs lx hx;
+        has-head = has-left s 0 (headBytes v j) bs (has-whole s);
+        has-blocks = has-left s (headLength v) (joinTo (j .shape .count) (blockBytes (j .shape))) ts hb;
+        has-theta = has-left s (headLength v + 2 * c) (numbersBytes (j .theta)) ys ht;
+        has-y = has-left s (headLength v + 2 * c + 8 * t) (numbersBytes (j .y)) ws hy;
+        has-weights = has-left s (headLength v + 2 * c + 8 * t + 8 * n) (numbersBytes (j .weights)) os hw;
+        has-offset = has-left s (headLength v + 2 * c + 8 * t + 8 * n + 8 * w) (numbersBytes (j .offset)) xs ho;
+        has-x = has-left s (headLength v + 2 * c + 8 * t + 8 * n + 8 * w + 8 * o) (numbersBytes (j .x)) zs hx;
+        has-rows = has-right s (headLength v + 2 * c + 8 * t + 8 * n + 8 * w + 8 * o) (8 * p) (numbersBytes (j .x)) zs lx hx;
         long = omega (
           arith,
-          length-append (headBytes j) bs,
-          head-length j,
+          length-append (headBytes v j) bs,
+          head-length v j,
           length-append (joinTo (j .shape .count) (blockBytes (j .shape))) ts,
           length-append (numbersBytes (j .theta)) ys,
           length-append (numbersBytes (j .y)) ws,

@@ -1,12 +1,12 @@
 -- What is read from a sound job is a call that a job can say: so such calls are all that there are. Assumes nothing.
 use mathlib.Core.Path.{_≡_, refl, sym, ap, _∙_}
-use mathlib.Core.Bool.{true, not, _&&_}
+use mathlib.Core.Bool.{Bool, true, false, not, _&&_}
 use mathlib.Core.List.{List, [], _∷_, _++_}
 use mathlib.Core.Logic.{⊎-elim}
 use Prim.Native.Nat.{ℕ, zero, suc, _+_, _*_, _≤_, _<_}
 use native.Mathlib.Omega.{arith}
 use borrow.Author.Tests.{le-leb, lt-ltb, eq-eqb, ne-eqb}
-use lib.Dec.{T, leb, ltb, eqb}
+use lib.Dec.{T, leb, ltb}
 use lib.Ieee.{Float, fits, binary64}
 use lib.Ieee.Bits.{ofBits-fits}
 use lib.ListN.{length, replicate}
@@ -17,13 +17,14 @@ use Rattle.base.proofs.Sums.{lt-or-ge}
 use Rattle.bits.specs.Bits.{doubleOf}
 use Rattle.bits.proofs.BitLaws.{bits-below}
 use Rattle.model.specs.Settings.{goodLimit}
+use Rattle.model.specs.declared.names.Start.the-variants.{Usual}
 use Rattle.model.specs.Shape.{within}
 use Rattle.model.proofs.Tests.{both, from-within}
 use Rattle.job.specs.Lists.{counts, joinTo, laid}
-use Rattle.job.specs.Format.{version, linkField, limitField, blocks, blocksAt, obs, cols, weighted, shifted, rowsIn, thetas, groups, effectsIn, shapeOf, number, thetaAt, yAt, weightsAt, offsetAt, xAt, rowAt, startOf, short, entryAt, columnRead, valueRead, sizesFit}
-use Rattle.job.specs.Faults.{demand, reaches, isSound, headFault, faultOf}
-use Rattle.job.specs.Job.{limitFrom, settingsOf, columnsOf, valuesOf, sparseOf, sound, jobOf, readOf}
-use Rattle.job.specs.Write.{present, jobBytes}
+use Rattle.job.specs.Format.{limitField, isSecond, blocks, blocksAt, obs, cols, weighted, shifted, rowsIn, thetas, groups, effectsIn, shapeOf, number, thetaAt, yAt, weightsAt, offsetAt, xAt, rowAt, startOf, short, entryAt, columnRead, valueRead, sizesFit}
+use Rattle.job.specs.Faults.{demand, isSound, headFault, faultOf}
+use Rattle.job.specs.Job.{limitFrom, startIn, settingsOf, columnsOf, valuesOf, sparseOf, sound, jobOf, readOf}
+use Rattle.job.specs.Write.{present, version1, version2, versionOf, headLength, jobBytes}
 use Rattle.job.proofs.ListLaws.{counts-length, counts-at, laid-at}
 use Rattle.job.proofs.FaultLaws as faults
 use Rattle.job.proofs.RowLaws.{Fits, sound-fits, start-next, row-starts, columns-before, values-before}
@@ -90,14 +91,18 @@ limit-good l h e =
     (lt-or-ge 1000 l)
 
 limit-of : (s : List ℕ) → isSound (headFault s) ≡ true → goodLimit (limitFrom (limitField s)) ≡ true
-unfolding headFault
-limit-of s h =
-    let a = faults.both (reaches s 4) _ h in
-    let b = faults.both (demand (eqb (version s) 1) 21 0) _ (a .1) in
-    let c = faults.both (reaches s 9) _ (b .1) in
-    let d = faults.both (demand (ltb (linkField s) 7) 24 0) _ (c .1) in
-    let e = faults.both (reaches s 48) _ (d .1) in
-    limit-good (limitField s) (bits-below s 38 10) (faults.demanded _ 24 4 (e .1))
+limit-of s h = limit-good (limitField s) (bits-below s 38 10) (faults.headed s h .limited)
+
+-- ---- the version
+version-long : (s : List ℕ) (b : Bool) → isSecond s ≡ b → headLength (versionOf s) ≡ blocksAt s
+unfolding versionOf blocksAt
+version-long s true e = rw e
+version-long s false e = rw e
+
+version-start : (s : List ℕ) (b : Bool) → isSecond s ≡ b → versionOf s ≡ version1 → startIn s ≡ Usual
+unfolding versionOf startIn
+version-start s true e v = let never : version2 ≡ version1 = rw e at v in cc
+version-start s false e v = rw e
 
 -- ---- the parts
 module _ (s : List ℕ) (h : isSound (faultOf s) ≡ true) where
@@ -165,26 +170,23 @@ module _ (s : List ℕ) (h : isSound (faultOf s) ≡ true) where
         doubles = λ i l. values-fit i;
       }
 
-  six : blocksAt s ≡ 6
-  unfolding blocksAt
-  six = refl
-
   -- as long as it was
-  short-again : length (jobBytes (jobOf s)) ≤ 65536
+  short-again : length (jobBytes (versionOf s) (jobOf s)) ≤ 65536
   unfolding jobOf settingsOf
   short-again =
-      let placed = laid-out (jobOf s) (obs s) (obs s * cols s) (weighted s * obs s) (shifted s * obs s) (thetas s) (blocks s) refl (build-length _ _) (build-length _ _) (build-length _ _) (build-length _ _) (build-length _ _) in
+      let placed = laid-out (versionOf s) (jobOf s) (obs s) (obs s * cols s) (weighted s * obs s) (shifted s * obs s) (thetas s) (blocks s) refl (build-length _ _) (build-length _ _) (build-length _ _) (build-length _ _) (build-length _ _) in
       let rows = rows-before (sparseOf s) (rowsIn s) (startOf s (rowsIn s)) rows-sayable (rowsIn s) (omega arith) in
-      omega (arith, placed .long, rows, start-at (rowsIn s) (omega arith), row-starts s (rowsIn s), whole .ends, whole .fitting .0 .0, six)
+      omega (arith, placed .long, rows, start-at (rowsIn s) (omega arith), row-starts s (rowsIn s), whole .ends, whole .fitting .0 .0, version-long s (isSecond s) refl)
 
   -- what is read can be said
-  pub read-sayable : Sayable (jobOf s)
+  pub read-sayable : Sayable (versionOf s) (jobOf s)
   unfolding jobOf settingsOf
   read-sayable =
       let weights : weighted s * obs s ≡ present (build (number s (weightsAt s)) (weighted s * obs s)) * obs s = rw (present-back (number s (weightsAt s)) (weighted s) (obs s) (bits-below s 9 1) (whole .small .some)) refl in
       let offset : shifted s * obs s ≡ present (build (number s (offsetAt s)) (shifted s * obs s)) * obs s = rw (present-back (number s (offsetAt s)) (shifted s) (obs s) (bits-below s 10 1) (whole .small .some)) refl in
       record {
         settings = settings-sayable;
+        start = version-start s (isSecond s) refl;
         shape = shape-sayable;
         effects = refl;
         theta = build-length _ _;
@@ -202,5 +204,5 @@ module _ (s : List ℕ) (h : isSound (faultOf s) ≡ true) where
       }
 
 -- so what was read, written and read again is the same, also where a NaN of another pattern stood in the bytes
-pub read-again : (s : List ℕ) → isSound (faultOf s) ≡ true → readOf (jobBytes (jobOf s)) ≡ sound (jobOf s)
-read-again s h = read-back (jobOf s) (read-sayable s h)
+pub read-again : (s : List ℕ) → isSound (faultOf s) ≡ true → readOf (jobBytes (versionOf s) (jobOf s)) ≡ sound (jobOf s)
+read-again s h = read-back (versionOf s) (jobOf s) (read-sayable s h)

@@ -1,41 +1,48 @@
 -- When each part of a job has no fault. Assumes nothing.
 use mathlib.Core.Path.{_≡_, refl}
+use mathlib.Core.Bool.{true, false, _&&_, _||_}
 use mathlib.Core.List.{List}
 use Prim.Native.Nat.{ℕ, zero, suc, _+_, _*_, _-_, _≤_, _<_}
 use native.Mathlib.Nat.{add-zero}
 use native.Mathlib.Omega.{arith}
-use borrow.Author.Tests.{le-leb, lt-ltb, le-ltb, eq-eqb}
+use borrow.Author.Tests.{le-leb, leb-true, lt-ltb, le-ltb}
+use lib.Dec.{ltb, eqb}
 use lib.ListN.{length}
 use Rattle.bits.specs.Bits.{bitsOf}
+use Rattle.model.specs.Settings.{goodLimit}
+use Rattle.model.specs.declared.names.Limit.{Limit}
+use Rattle.model.specs.declared.names.Limit.the-variants.{Given, NotGiven}
 use Rattle.job.specs.declared.faults.Fault.the-variants.{Sound}
-use Rattle.job.specs.Format.{version, linkField, limitField, short, rowAt}
-use Rattle.job.specs.Faults.{demand, _▹_, headFault, pairFault, blocksFault, entryFault, entriesFault, rowFault, rowsFault}
+use Rattle.job.specs.Format.{version, linkField, limitField, isSecond, short, rowAt}
+use Rattle.job.specs.Faults.{demand, _▹_, commonFault, secondFault, headFault, pairFault, blocksFault, entryFault, entriesFault, rowFault, rowsFault}
+use Rattle.job.specs.Write.{limitCode, Version, version1, version2, versionCode, headLength}
 use Rattle.job.proofs.FaultLaws.{reach-yes, spare-yes}
 
-pub head-sound : (s : List ℕ) → 6 ≤ length s → version s ≡ 1 → linkField s < 7 → (limitField s ≤ 1000) → headFault s ≡ Sound
-unfolding headFault demand _▹_
-head-sound s l v k m =
+-- the header's 48 bits, by what is found of the limit
+common-sound : (s : List ℕ) → 6 ≤ length s → eqb (version s) 1 || isSecond s ≡ true → linkField s < 7 → ltb 1000 (limitField s) && ltb (limitField s) 1023 ≡ false → commonFault s ≡ Sound
+unfolding commonFault demand _▹_
+common-sound s l v k m =
     rw (
       reach-yes s 4 (omega arith),
-      eq-eqb (version s) 1 v,
-      reach-yes s 9 (omega arith),
-      lt-ltb (linkField s) 7 k,
-      reach-yes s 48 (omega arith),
-      le-ltb 1000 (limitField s) m,
-    )
-
--- the same where the limit is not given
-pub head-sound-without : (s : List ℕ) → 6 ≤ length s → version s ≡ 1 → linkField s < 7 → limitField s ≡ 1023 → headFault s ≡ Sound
-unfolding headFault demand _▹_
-head-sound-without s l v k m =
-    rw (
-      reach-yes s 4 (omega arith),
-      eq-eqb (version s) 1 v,
+      v,
       reach-yes s 9 (omega arith),
       lt-ltb (linkField s) 7 k,
       reach-yes s 48 (omega arith),
       m,
     )
+
+-- the header of either version
+pub head-sound : (v : Version) (s : List ℕ) → headLength v ≤ length s → version s ≡ versionCode v → (v ≡ version2 → bitsOf s 49 7 ≡ 0) → linkField s < 7 → ltb 1000 (limitField s) && ltb (limitField s) 1023 ≡ false → headFault s ≡ Sound
+unfolding headFault secondFault _▹_
+head-sound version1 s l e z k m = rw (common-sound s l (rw e) k m, e)
+head-sound version2 s l e z k m =
+    rw (common-sound s (omega arith) (rw e) k m, e, reach-yes s 56 (omega arith), spare-yes s 49 7 0 (rw (z refl)) refl)
+
+-- a limit in range, and one that is not given
+pub limit-in : (l : Limit) (c : ℕ) → goodLimit l ≡ true → c ≡ limitCode l → ltb 1000 c && ltb c 1023 ≡ false
+unfolding goodLimit limitCode
+limit-in (Given k) c g e = rw (le-ltb 1000 c (omega (arith, leb-true k 1000 g)))
+limit-in NotGiven c g e = rw e
 
 -- two bytes, the last w bits of which are zero bits
 pub pair-sound : (s : List ℕ) (p w : ℕ) → p + 2 ≤ length s → bitsOf s (8 * p + (16 - w)) w ≡ 0 → pairFault s p w ≡ Sound

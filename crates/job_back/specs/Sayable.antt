@@ -1,4 +1,4 @@
--- Which calls a job can say: sizes in range, lists as long as the sizes ask, and numbers that their fields hold. Document 01, "What the port carries" and "The job and the program". Assumes nothing.
+-- Which calls a job can say: sizes in range, lists as long as the sizes ask, and numbers that their fields hold. Document 01, "What the port carries" and "The job and the program"; document 02, P10, for the versions. Assumes nothing.
 use mathlib.Core.Path.{_≡_}
 use mathlib.Core.Bool.{true}
 use mathlib.Core.List.{List}
@@ -10,11 +10,12 @@ use Rattle.base.specs.Sum.{_!_, _!!_}
 use Rattle.base.specs.Sparse.{Sparse}
 use Rattle.model.specs.Shape.{effectsOf, thetaLength, goodShape}
 use Rattle.model.specs.Settings.{goodLimit}
+use Rattle.model.specs.declared.names.Start.the-variants.{Usual}
 use Rattle.model.specs.declared.sizes.Settings.{Settings}
 use Rattle.model.specs.declared.sizes.Shape.{Shape}
 use Rattle.job.specs.Lists.{counts, laid}
 use Rattle.job.specs.Job.{Job}
-use Rattle.job.specs.Write.{present, jobBytes}
+use Rattle.job.specs.Write.{present, Version, version1, jobBytes}
 
 -- every number of a list is a double
 abbrev pub Doubles : List Float → Type 0
@@ -50,9 +51,10 @@ pub record RowsSayable (rows entries : ℕ) (z : Sparse) : Type 0 where
   pub low : (e : ℕ) → e < entries → (z .columns !! e) < 8192
   pub doubles : Doubles (z .values)
 
--- a call that a job can say
-pub record Sayable (j : Job) : Type 0 where
+-- a call that a job of this version can say: version 1 says no start but the old one
+pub record Sayable (v : Version) (j : Job) : Type 0 where
   pub settings : SettingsSayable (j .settings)
+  pub start : v ≡ version1 → j .settings .start ≡ Usual
   pub shape : ShapeSayable (j .shape)
   pub effects : j .settings .rows ≡ effectsOf (j .shape)
   pub theta : length (j .theta) ≡ thetaLength (j .shape)
@@ -66,4 +68,4 @@ pub record Sayable (j : Job) : Type 0 where
   pub weights-doubles : Doubles (j .weights)
   pub offset-doubles : Doubles (j .offset)
   pub x-doubles : Doubles (j .x)
-  pub short : length (jobBytes j) ≤ 65536
+  pub short : length (jobBytes v j) ≤ 65536

@@ -1,12 +1,12 @@
--- What a call with the bytes of a job returns, and what it leaves in every lent buffer. Document 01, "Numbers of an answer" and "The job and the program"; document 02, P5 and P9. Assumes nothing.
+-- What a call with the bytes of a job returns, and what it leaves in every lent buffer. Document 01, "Numbers of an answer" and "The job and the program"; document 02, P5, P9 and P10. Assumes nothing.
 use mathlib.Core.Bool.{Bool, cond}
 use mathlib.Core.List.{List, [], _∷_}
 use Prim.Native.Nat.{ℕ}
-use lib.Dec.{leb, ltb}
+use lib.Dec.{leb}
 use lib.Ieee.{Float}
 use lib.ListN.{length}
 use Rattle.model.specs.Account.{noCounts}
-use Rattle.model.specs.Answer.{blankAnswer}
+use Rattle.model.specs.Answer.{isEnd, blankAnswer}
 use Rattle.model.specs.declared.ends.Answer.{Answer}
 use Rattle.job.specs.Lists.{laid}
 use Rattle.job.specs.Job.{Read, faulty, sound, readOf}
@@ -47,9 +47,9 @@ countsOf a byte =
 
 -- ---- the call
 
--- a number below 10 is a refusal's, or 0; an accepted call returns 0
+-- an accepted call returns 0, whatever it came to; any other number is a refusal's, and returned
 unfoldable pub returnedBy : ℕ → ℕ
-returnedBy k = cond (ltb k 10) k 0
+returnedBy k = cond (isEnd k) 0 k
 
 -- what is told of a call that is done
 unfoldable pub toldBy : Done → List ℕ → Told

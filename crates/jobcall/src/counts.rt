@@ -61,8 +61,8 @@ pub fn put_refusal(number: u64, byte: usize, counts: &mut [u64])
 pub fn returned(number: usize) -> u64
     ensures { λ r. ⌜ r ≡ returnedBy number ⌝ }
 {
-    if number < 10 {
-        return number as u64;
+    if model::is_end(number) {
+        return 0;
     }
-    0
+    number as u64
 }

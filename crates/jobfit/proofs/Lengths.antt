@@ -32,7 +32,7 @@ use Rattle.rule.specs.Working.{workingWeights, workingResponses}
 use Rattle.rule.specs.Solve.{Solved, Solve, solved, unsolved, Reduced, systemOf, factorOf, normalOf, normalSide, betaOf, effectsAfter, foundWith, foundBeta, found, afterRoot, solveRoot, solveNormal, solveReduced, afterFactor, solveFactor, solveSystem, solveWorking, solveOf}
 use Rattle.rule.specs.Try.{Trial, Move, Tried, refused, moves, Search, foundMove, noMove, candidateOf, fineEtaAt, meansOf, pwrssOf, afterPwrss, tryPwrss, afterMeans, tryMeans, afterEta, tryEta, tryOf, itemBefore, afterTry, triesFrom, triesOf, trialOf}
 use Rattle.rule.specs.Stop.{Mode, stops, modeFit, modeSum, modeDevs, modeOf}
-use Rattle.rule.specs.Run.{Ending, stopped, failed, Outcome, State, itemsBefore, failedAfter, afterStop, moved, afterSearch, afterSolve, runFrom, startMeans, startAt, runOf}
+use Rattle.rule.specs.Run.{Ending, stopped, failed, Outcome, State, itemsBefore, failedAfter, afterStop, moved, afterSearch, afterSolve, runFrom, startAt, runOf}
 use Rattle.rule.specs.Results.{vFrom, seOf, zValues, residualsOf}
 use Rattle.agq_rule.specs.Inner.{withPoints, afterRun, innerWith, innerOf}
 use Rattle.dispersion.specs.Phi.{effectiveN, roundOf}
@@ -46,7 +46,7 @@ use Rattle.table.specs.declared.verdicts.Verdict.{Verdict}
 use Rattle.table.specs.declared.verdicts.Verdict.the-variants.{Accepted, Refused}
 use Rattle.table.proofs.Accepting.{accepted-sound}
 use Rattle.call.specs.Fit.{Fitted, sumOf, resultBy, totalOf, innerAt, fitBy, fitOf}
-use Rattle.call.specs.Call.{Lent, lengthsOf, callGiven, callOf}
+use Rattle.call.specs.Call.{Lent, lengthsOf, callGiven, callMeans, callOf}
 use Rattle.call.proofs.Leaves.{refused-left, askedFit, unfitted-answer, fitted-results}
 use Rattle.jobfit.proofs.Lent.{refusal-some}
 
@@ -180,9 +180,9 @@ module _ (G : Given) (phi : Float) where
   inner-fits (failed e) wish is k = tt
   inner-fits (stopped M) wish is k = k
 
-  at-fits : (wish L : ℕ) → ResultFits G (innerAt G wish L phi .outcome)
+  at-fits : (mu : List Float) (wish L : ℕ) → ResultFits G (innerAt G mu wish L phi .outcome)
   unfolding innerAt totalOf innerOf innerWith runOf itemsBefore
-  at-fits wish L = inner-fits (runFrom G phi L (startAt G (startMeans G)) .ending) wish _ (run-fits L (startAt G (startMeans G)))
+  at-fits mu wish L = inner-fits (runFrom G phi L (startAt G mu) .ending) wish _ (run-fits L (startAt G mu))
 
 -- ---- the last of a fit
 abbrev LastFits : Given → Result (Dispersed Fitted) → Type 0
@@ -210,10 +210,10 @@ module _ (G : Given) (count : Float) (inner : Float → Total Fitted) (fits : (p
   loop-fits zero phi = flag-fits false phi (inner phi .outcome) (fits phi)
   loop-fits (suc left) phi = after-fit (inner phi .outcome) phi (inner phi .items) (dispersionFrom count sumOf inner left) (fits phi) (λ next. loop-fits left next)
 
-by-fits : (b : Bool) (G : Given) (wish L : ℕ) → LastFits G (fitBy b G wish L .outcome)
+by-fits : (b : Bool) (G : Given) (mu : List Float) (wish L : ℕ) → LastFits G (fitBy b G mu wish L .outcome)
 unfolding fitBy dispersionOf fixedOf lastFit
-by-fits true G wish L = loop-fits G (effectiveN (nOf G) (G .weights)) (innerAt G wish L) (λ phi. at-fits G phi wish L) 240 oneF
-by-fits false G wish L = flag-fits G (effectiveN (nOf G) (G .weights)) (innerAt G wish L) (λ phi. at-fits G phi wish L) true oneF (innerAt G wish L oneF .outcome) (at-fits G oneF wish L)
+by-fits true G mu wish L = loop-fits G (effectiveN (nOf G) (G .weights)) (innerAt G mu wish L) (λ phi. at-fits G phi mu wish L) 240 oneF
+by-fits false G mu wish L = flag-fits G (effectiveN (nOf G) (G .weights)) (innerAt G mu wish L) (λ phi. at-fits G phi mu wish L) true oneF (innerAt G mu wish L oneF .outcome) (at-fits G oneF mu wish L)
 
 -- ---- the nine results
 pub record ResultsFit (n p q : ℕ) (R : Results) : Type 0 where
@@ -253,7 +253,7 @@ module _ (t : Settings) (s : Shape) (I : Inputs) (L : Lent) (z : callOf t s I L 
   unfolding fitOf callGiven
   accepted-fits f l e =
       by (askedFit f l t s I .outcome) refl
-      (by-fits (usesDispersion (callGiven f l t s I .family)) (callGiven f l t s I) (t .«n_agq») (limitOf (t .limit) (t .link)))
+      (by-fits (usesDispersion (callGiven f l t s I .family)) (callGiven f l t s I) (callMeans f l t s I) (t .«n_agq») (limitOf (t .limit) (t .link)))
     where
       by : (x : Result (Dispersed Fitted)) → askedFit f l t s I .outcome ≡ x → LastFits (callGiven f l t s I) x → ResultsFit (t .n) (t .p) (t .rows) (callOf t s I L .lent .results)
       by (noResult end) q k = absurd (end-some end (rw (unfitted-answer t s I L f l e end q) at z))

@@ -1,26 +1,28 @@
 -- An answer's number is 0 exactly for a fit, and every other answer is blank but for its number and account. Assumes nothing.
 use mathlib.Core.Path.{_≡_, refl}
-use mathlib.Core.Bool.{true}
+use mathlib.Core.Bool.{true, false}
+use mathlib.Core.Logic.{_⊎_, inl, inr}
 use Prim.Native.Nat.{_≤_}
 use native.Mathlib.Omega.{arith}
 use Rattle.base.proofs.Doubles.{ff}
-use Rattle.model.specs.Answer.{endNumber, refusalNumber, refusedAnswer, unfittedAnswer, fittedAnswer, Possible, refused, unfitted, fitted, isFitted, Blank}
+use Rattle.model.specs.Answer.{endNumber, refusalNumber, isEnd, refusedAnswer, unfittedAnswer, fittedAnswer, Possible, refused, unfitted, fitted, isFitted, Blank}
 use Rattle.model.specs.declared.ends.Answer.{Answer}
 use Rattle.model.specs.declared.ends.End.{End}
 use Rattle.model.specs.declared.ends.End.the-variants.{SystemPivot, NormalPivot, NoStep, NoStop}
 use Rattle.model.specs.declared.ends.Refusal.{Refusal}
-use Rattle.model.specs.declared.ends.Refusal.the-variants.{OutOfRange, Lengths, Work, SparseRows, NotFinite, LinkForFamily, NotCarried, ResponseRange}
+use Rattle.model.specs.declared.ends.Refusal.the-variants.{OutOfRange, Lengths, Work, SparseRows, NotFinite, LinkForFamily, NotCarried, ResponseRange, StartFit}
 
--- refusals are 1 to 9
-pub refusal-range : (r : Refusal) → (1 ≤ refusalNumber r) × (refusalNumber r ≤ 9)
-refusal-range OutOfRange = (omega arith, omega arith)
-refusal-range Lengths = (omega arith, omega arith)
-refusal-range Work = (omega arith, omega arith)
-refusal-range SparseRows = (omega arith, omega arith)
-refusal-range NotFinite = (omega arith, omega arith)
-refusal-range LinkForFamily = (omega arith, omega arith)
-refusal-range NotCarried = (omega arith, omega arith)
-refusal-range ResponseRange = (omega arith, omega arith)
+-- refusals are 1 to 9 and 27
+pub refusal-range : (r : Refusal) → (1 ≤ refusalNumber r) × ((refusalNumber r ≤ 9) ⊎ (refusalNumber r ≡ 27))
+refusal-range OutOfRange = (omega arith, inl (omega arith))
+refusal-range Lengths = (omega arith, inl (omega arith))
+refusal-range Work = (omega arith, inl (omega arith))
+refusal-range SparseRows = (omega arith, inl (omega arith))
+refusal-range NotFinite = (omega arith, inl (omega arith))
+refusal-range LinkForFamily = (omega arith, inl (omega arith))
+refusal-range NotCarried = (omega arith, inl (omega arith))
+refusal-range ResponseRange = (omega arith, inl (omega arith))
+refusal-range StartFit = (omega arith, inr refl)
 
 -- ends without a result are 10 to 13
 pub end-range : (e : End) → (10 ≤ endNumber e) × (endNumber e ≤ 13)
@@ -28,6 +30,24 @@ end-range SystemPivot = (omega arith, omega arith)
 end-range NormalPivot = (omega arith, omega arith)
 end-range NoStep = (omega arith, omega arith)
 end-range NoStop = (omega arith, omega arith)
+
+-- the tests that tell ends from refusals: no refusal is an end, and every end is one
+pub refusal-no-end : (r : Refusal) → isEnd (refusalNumber r) ≡ false
+refusal-no-end OutOfRange = refl
+refusal-no-end Lengths = refl
+refusal-no-end Work = refl
+refusal-no-end SparseRows = refl
+refusal-no-end NotFinite = refl
+refusal-no-end LinkForFamily = refl
+refusal-no-end NotCarried = refl
+refusal-no-end ResponseRange = refl
+refusal-no-end StartFit = refl
+
+pub end-is-end : (e : End) → isEnd (endNumber e) ≡ true
+end-is-end SystemPivot = refl
+end-is-end NormalPivot = refl
+end-is-end NoStep = refl
+end-is-end NoStop = refl
 
 -- the number of a fit is 0
 pub fitted-zero : {a : Answer} (g : Possible a) → isFitted g ≡ true → a .number ≡ 0
@@ -39,7 +59,7 @@ fitted-zero (fitted d phi order why converged iterations a) e = refl
 -- and only a fit's
 pub zero-fitted : {a : Answer} (g : Possible a) → a .number ≡ 0 → isFitted g ≡ true
 unfolding refusedAnswer unfittedAnswer fittedAnswer
-zero-fitted (refused r) e = absurd (omega (arith, refusal-range r))
+zero-fitted (refused r) e = absurd (omega (arith, refusal-range r .0))
 zero-fitted (unfitted e a) h = absurd (omega (arith, end-range e))
 zero-fitted (fitted d phi order why converged iterations a) e = refl
 

@@ -1,16 +1,23 @@
--- Codes: which numbers are none, and a code and its family or link determine each other, so that a job can be written and read back. Assumes nothing.
+-- Codes: which numbers are none, and a code and its family, link or start determine each other, so that a job can be written and read back. Assumes nothing.
 use mathlib.Core.Path.{_≡_, refl, ap}
 use mathlib.Core.List.{[], _∷_}
 use Prim.Native.Nat.{ℕ, zero, suc, _≤_}
 use native.Mathlib.Omega.{arith}
 use lib.ListN.{List·getD-eq-default}
-use Rattle.model.specs.Names.{familyCode, familyCoded, linkCode, linkCoded}
+use Rattle.model.specs.Names.{familyCode, familyCoded, linkCode, linkCoded, startCode, startCoded}
 use Rattle.model.specs.declared.names.Family.{Family}
 use Rattle.model.specs.declared.names.Family.the-variants.{Binomial, Poisson, Gaussian, Gamma}
 use Rattle.model.specs.declared.names.FamilyFound.the-variants as familyFound
 use Rattle.model.specs.declared.names.Link.{Link}
 use Rattle.model.specs.declared.names.Link.the-variants.{Logit, Probit, Cloglog, Log, Identity, Inverse, Sqrt}
 use Rattle.model.specs.declared.names.LinkFound.the-variants as linkFound
+use Rattle.model.specs.declared.names.Start.{Start}
+use Rattle.model.specs.declared.names.Start.the-variants.{Usual, Trials}
+use Rattle.model.specs.declared.names.StartFound.the-variants as startFound
+
+-- a number that is none of 0 and 1
+pub past-one : {c : ℕ} → (c ≡ 0 → ⊥) → (c ≡ 1 → ⊥) → 2 ≤ c
+past-one h₀ h₁ = omega arith
 
 -- a number that is none of 0 to 3
 pub past-three : {c : ℕ} → (c ≡ 0 → ⊥) → (c ≡ 1 → ⊥) → (c ≡ 2 → ⊥) → (c ≡ 3 → ⊥) → 4 ≤ c
@@ -33,6 +40,11 @@ no-link c h =
     List·getD-eq-default
     (linkFound.Found Logit ∷ linkFound.Found Probit ∷ linkFound.Found Cloglog ∷ linkFound.Found Log ∷ linkFound.Found Identity ∷ linkFound.Found Inverse ∷ linkFound.Found Sqrt ∷ [])
     linkFound.NoSuch h
+
+-- no start has a code from 2 on
+pub no-start : (c : ℕ) → 2 ≤ c → startCoded c ≡ startFound.NoSuch
+unfolding startCoded
+no-start c h = List·getD-eq-default (startFound.Found Usual ∷ startFound.Found Trials ∷ []) startFound.NoSuch h
 
 -- each family is the one with its code
 pub family-of-code : (f : Family) → familyCoded (familyCode f) ≡ familyFound.Found f
@@ -97,5 +109,24 @@ code-of-link (suc (suc (suc (suc (suc (suc zero)))))) x e =
     let same : Sqrt ≡ x = cc in
     ap linkCode {x = Sqrt} same
 code-of-link (suc (suc (suc (suc (suc (suc (suc c))))))) x e =
+    let never : _≡_ {A = ℕ} 0 1 = cc in
+    omega arith
+
+-- each start is the one with its code
+pub start-of-code : (s : Start) → startCoded (startCode s) ≡ startFound.Found s
+unfolding startCoded
+start-of-code Usual = refl
+start-of-code Trials = refl
+
+-- and its code is the only one
+pub code-of-start : (c : ℕ) (s : Start) → startCoded c ≡ startFound.Found s → c ≡ startCode s
+unfolding startCoded
+code-of-start zero x e =
+    let same : Usual ≡ x = cc in
+    ap startCode {x = Usual} same
+code-of-start (suc zero) x e =
+    let same : Trials ≡ x = cc in
+    ap startCode {x = Trials} same
+code-of-start (suc (suc c)) x e =
     let never : _≡_ {A = ℕ} 0 1 = cc in
     omega arith

@@ -1,16 +1,17 @@
--- How a call can end, and the record that it answers. Document 01, "Numbers of an answer"; document 02, P5 and P6. Assumes nothing.
+-- How a call can end, and the record that it answers. Document 01, "Numbers of an answer"; document 02, P5, P6 and P10. Assumes nothing.
 use mathlib.Core.Path.{_≡_}
 use mathlib.Core.Bool.{Bool, true, false}
 use Prim.Native.Nat.{ℕ}
 use lib.Ieee.{Float}
 use Rattle.base.specs.Number.{zeroF}
 use Rattle.model.specs.Account.{noCounts}
+use Rattle.model.specs.Shape.{within}
 use Rattle.model.specs.declared.counts.Account.{Account}
 use Rattle.model.specs.declared.ends.Answer.{Answer}
 use Rattle.model.specs.declared.ends.End.{End}
 use Rattle.model.specs.declared.ends.End.the-variants.{SystemPivot, NormalPivot, NoStep, NoStop}
 use Rattle.model.specs.declared.ends.Refusal.{Refusal}
-use Rattle.model.specs.declared.ends.Refusal.the-variants.{OutOfRange, Lengths, Work, SparseRows, NotFinite, LinkForFamily, NotCarried, ResponseRange}
+use Rattle.model.specs.declared.ends.Refusal.the-variants.{OutOfRange, Lengths, Work, SparseRows, NotFinite, LinkForFamily, NotCarried, ResponseRange, StartFit}
 
 -- the number under which each end without a result is told
 abbrev pub endNumber : End → ℕ
@@ -29,6 +30,11 @@ refusalNumber NotFinite = 3
 refusalNumber LinkForFamily = 4
 refusalNumber NotCarried = 5
 refusalNumber ResponseRange = 9
+refusalNumber StartFit = 27
+
+-- the numbers 10 to 13 tell that an accepted call has no result; every number but these and 0 is a refusal's
+abbrev pub isEnd : ℕ → Bool
+isEnd k = within 10 13 k
 
 -- an answer without a result tells its number and its account, and is zero everywhere else
 abbrev pub blankAnswer : ℕ → Account → Answer

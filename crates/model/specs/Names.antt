@@ -1,4 +1,4 @@
--- Codes of the families and links, and the limit of iterations. Document 01, "The job and the program", and "What the port carries" for the limit. Assumes nothing.
+-- Codes of the families, links and starts, and the limit of iterations. Document 01, "The job and the program", and "What the port carries" for the limit; document 02, P10, for the starts. Assumes nothing.
 use mathlib.Core.Bool.{Bool, true, false, cond}
 use mathlib.Core.List.{[], _∷_}
 use Prim.Native.Nat.{ℕ}
@@ -13,6 +13,10 @@ use Rattle.model.specs.declared.names.LinkFound.{LinkFound}
 use Rattle.model.specs.declared.names.LinkFound.the-variants as linkFound
 use Rattle.model.specs.declared.names.Limit.{Limit}
 use Rattle.model.specs.declared.names.Limit.the-variants.{Given, NotGiven}
+use Rattle.model.specs.declared.names.Start.{Start}
+use Rattle.model.specs.declared.names.Start.the-variants.{Usual, Trials}
+use Rattle.model.specs.declared.names.StartFound.{StartFound}
+use Rattle.model.specs.declared.names.StartFound.the-variants as startFound
 
 -- a family's code in a job is its place in this list, from 0
 abbrev pub familyCode : Family → ℕ
@@ -43,6 +47,15 @@ linkCoded code =
     (linkFound.Found Logit ∷ linkFound.Found Probit ∷ linkFound.Found Cloglog ∷ linkFound.Found Log ∷ linkFound.Found Identity
     ∷ linkFound.Found Inverse ∷ linkFound.Found Sqrt ∷ [])
     code linkFound.NoSuch
+
+-- a start's code in a job of version 2 is its bit (document 02, P10)
+abbrev pub startCode : Start → ℕ
+startCode Usual = 0
+startCode Trials = 1
+
+-- the start with a code, none from 2 on
+unfoldable pub startCoded : ℕ → StartFound
+startCoded code = getD (startFound.Found Usual ∷ startFound.Found Trials ∷ []) code startFound.NoSuch
 
 -- the link is `inverse`, which has a limit, a number of tries and a test of its own
 abbrev pub isInverse : Link → Bool

@@ -1,7 +1,7 @@
 // How a call can end, the number of each end, and the record that a call answers.
 use crate::counts::Account;
 ghost use mathlib.Core.Path.{_≡_};
-ghost use Rattle.model.specs.Answer.{endNumber, refusalNumber, blankAnswer, refusedAnswer, unfittedAnswer, fittedAnswer};
+ghost use Rattle.model.specs.Answer.{endNumber, refusalNumber, isEnd, blankAnswer, refusedAnswer, unfittedAnswer, fittedAnswer};
 
 // Why an accepted call has no result.
 pub enum End {
@@ -33,6 +33,8 @@ pub enum Refusal {
     NotCarried,
     // Some response lies outside its family's range.
     ResponseRange,
+    // The start asked for goes with the binomial family and no weight below 0, and this is not so.
+    StartFit,
 }
 
 // What a call answers beside the lent results. `why` is 0 where a rule of that order was used, else the
@@ -73,7 +75,18 @@ pub fn refusal_number(refusal: Refusal) -> usize
         Refusal::LinkForFamily => 4,
         Refusal::NotCarried => 5,
         Refusal::ResponseRange => 9,
+        Refusal::StartFit => 27,
     }
+}
+
+// The number is that of a call which was accepted and has no result.
+pub fn is_end(number: usize) -> bool
+    ensures { λ r. ⌜ r ≡ isEnd number ⌝ }
+{
+    if number < 10 {
+        return false;
+    }
+    number <= 13
 }
 
 impl Answer {

@@ -1,6 +1,6 @@
-// The families and links by name, their codes in a job, and the limit of iterations.
+// The families, links and starts by name, their codes in a job, and the limit of iterations.
 ghost use mathlib.Core.Path.{_≡_};
-ghost use Rattle.model.specs.Names.{familyCode, familyCoded, linkCode, linkCoded, isInverse, limitOf};
+ghost use Rattle.model.specs.Names.{familyCode, familyCoded, linkCode, linkCoded, startCode, startCoded, isInverse, limitOf};
 
 // A family's code is its place here.
 pub enum Family {
@@ -30,6 +30,18 @@ pub enum FamilyFound {
 // What a code or a name stands for, which may be no link.
 pub enum LinkFound {
     Found(Link),
+    NoSuch,
+}
+
+// How the starting means are made: by the family's rule, or with the weights as trial counts. A start's code is its place here.
+pub enum Start {
+    Usual,
+    Trials,
+}
+
+// What a code stands for, which may be no start.
+pub enum StartFound {
+    Found(Start),
     NoSuch,
 }
 
@@ -92,6 +104,27 @@ pub fn link_coded(code: usize) -> LinkFound
         5 => LinkFound::Found(Link::Inverse),
         6 => LinkFound::Found(Link::Sqrt),
         _ => LinkFound::NoSuch,
+    }
+}
+
+// For a job's header.
+pub fn start_code(start: Start) -> usize
+    ensures { λ r. ⌜ r ≡ startCode start ⌝ }
+{
+    match start {
+        Start::Usual => 0,
+        Start::Trials => 1,
+    }
+}
+
+// From a caller's settings, whose number can be any.
+pub fn start_coded(code: usize) -> StartFound
+    ensures { λ r. ⌜ r ≡ startCoded code ⌝ }
+{
+    match code {
+        0 => StartFound::Found(Start::Usual),
+        1 => StartFound::Found(Start::Trials),
+        _ => StartFound::NoSuch,
     }
 }
 

@@ -2,6 +2,7 @@
 use crate::names::Family;
 use crate::names::Limit;
 use crate::names::Link;
+use crate::names::Start;
 ghost use mathlib.Core.Path.{_≡_};
 ghost use mathlib.Core.Bool.{true, _&&_};
 ghost use Prim.Native.Nat.{_≤_, _<_};
@@ -15,7 +16,7 @@ pub struct Shape {
     pub k: [usize; 8],
 }
 
-// The plain numbers of a call: n observations, p columns of X, and how many rows and entries Z' has.
+// The plain numbers of a call: n observations, p columns of X, how many rows and entries Z' has, and how the starting means are made.
 pub struct Settings {
     pub family: Family,
     pub link: Link,
@@ -25,6 +26,7 @@ pub struct Settings {
     pub p: usize,
     pub rows: usize,
     pub entries: usize,
+    pub start: Start,
 }
 
 // A block of a good shape has at most 32 groups too, since q is at most 32: so the product m·k stays small whatever is given.

@@ -1,7 +1,7 @@
 -- Case J through the whole program: its 44 bytes make one line of output. Document 01, "The job and the program", its last lines; document 02, P5 and P9. Assumes nothing.
 use mathlib.Core.Path.{_≡_, refl, _∙_}
 use mathlib.Core.List.{[], _∷_}
-use lib.Ieee.{ofBits}
+use lib.Ieee.{lt, le, eq, ofBits}
 use Rattle.base.specs.Number.{finite}
 use Rattle.base.specs.Sparse.{notFalling, goodStarts, columnFits, goodColumns, goodRow, goodRows}
 use Rattle.base.specs.Sum.{allTo}
@@ -13,12 +13,13 @@ use Rattle.model.specs.Settings.{goodLimit, goodSizes}
 use Rattle.model.specs.Shape.{totalTo, blockEffects, blockThetas, goodBlock, goodShape}
 use Rattle.model.specs.declared.ends.End.the-variants.{NoStop}
 use Rattle.family.specs.Carried.{linksFor, among, validFor}
+use Rattle.family.specs.Family.{inRange}
 use Rattle.family.specs.declared.carried.CarriedFamily.the-variants.{Poisson}
 use Rattle.family.specs.declared.carried.CarriedLink.the-variants.{Log}
 use Rattle.rule.specs.Run.{itemsBefore, failedAfter, runFrom, runOf}
 use Rattle.agq_rule.specs.Inner.{afterRun, innerWith, innerOf}
-use Rattle.table.specs.Tests.{absentOr, goodInputs, goodResults, goodWork, allFinite, finiteNumbers}
-use Rattle.table.specs.Table.{refuseUnless, withLink, carriedPair, tableOf}
+use Rattle.table.specs.Tests.{absentOr, goodInputs, goodResults, goodWork, allFinite, finiteNumbers, allInRange, startFits}
+use Rattle.table.specs.Table.{refuseUnless, withLink, carriedPair, tested, tableOf}
 use Rattle.table.specs.declared.verdicts.Verdict.the-variants.{Accepted}
 use Rattle.dispersion.specs.Rounds.{noResult, withFlag, lastFit, fixedOf}
 use Rattle.job.proofs.JobCases.{caseJ, jobJ, caseJ-read}
@@ -33,7 +34,7 @@ use Rattle.output.specs.Output.{slicesFor, callFor, leftText, outputBy, 
 
 -- it is accepted
 accepted-J : tableOf 1 (jobJ .settings) (jobJ .shape) (inputsOf jobJ) (lengthsOf (slicesFor (jobJ .settings))) ≡ Accepted Poisson Log
-unfolding tableOf refuseUnless goodSizes goodLimit goodShape goodBlock totalTo blockEffects blockThetas allTo goodInputs absentOr goodResults goodWork lengthsOf slicesFor zeros goodRows goodRow goodStarts goodColumns columnFits notFalling finiteNumbers allFinite finite ofBits validFor linksFor among carriedPair withLink
+unfolding tableOf refuseUnless goodSizes goodLimit goodShape goodBlock totalTo blockEffects blockThetas allTo goodInputs absentOr goodResults goodWork lengthsOf slicesFor zeros goodRows goodRow goodStarts goodColumns columnFits notFalling finiteNumbers allFinite finite ofBits validFor linksFor among carriedPair withLink tested allInRange inRange le lt eq startFits
 accepted-J = refl
 
 -- no iteration is left to do

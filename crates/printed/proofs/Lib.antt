@@ -1,2 +1,3 @@
--- What the program prints in each case. Assumes nothing.
+-- What the program prints in each case, and with either start. Assumes nothing.
 pub mod Printed
+pub mod Starts

@@ -9,7 +9,7 @@ use Rattle.model.specs.declared.ends.Answer.{Answer}
 use Rattle.model.specs.declared.ends.End.{End}
 use Rattle.model.specs.declared.ends.End.the-variants.{SystemPivot, NormalPivot, NoStep, NoStop}
 use Rattle.model.specs.declared.ends.Refusal.{Refusal}
-use Rattle.model.specs.declared.ends.Refusal.the-variants.{OutOfRange, Lengths, Work, SparseRows, NotFinite, LinkForFamily, NotCarried, ResponseRange}
+use Rattle.model.specs.declared.ends.Refusal.the-variants.{OutOfRange, Lengths, Work, SparseRows, NotFinite, LinkForFamily, NotCarried, ResponseRange, StartFit}
 use Rattle.family.specs.declared.carried.CarriedFamily.{CarriedFamily}
 use Rattle.family.specs.declared.carried.CarriedLink.{CarriedLink}
 use Rattle.results.specs.Nine.{Results, resultsOf}
@@ -47,6 +47,7 @@ refused-text NotFinite R = refl
 refused-text LinkForFamily R = refl
 refused-text NotCarried R = refl
 refused-text ResponseRange R = refl
+refused-text StartFit R = refl
 
 -- what the table refuses is told at byte 0
 pub table-refused : (s : List ℕ) (r : Refusal) → faultOf s ≡ Sound → verdictOn s ≡ Refused r → outputOf s ≡ refusedLine (refusalNumber r) 0

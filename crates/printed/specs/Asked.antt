@@ -10,7 +10,7 @@ use Rattle.table.specs.declared.verdicts.Verdict.{Verdict}
 use Rattle.dispersion.specs.Rounds.{Total, Dispersed}
 use Rattle.job.specs.Job.{jobOf}
 use Rattle.call.specs.Fit.{Fitted, fitOf}
-use Rattle.call.specs.Call.{lengthsOf, callGiven}
+use Rattle.call.specs.Call.{lengthsOf, callGiven, callMeans}
 use Rattle.jobfit.specs.Done.{inputsOf}
 use Rattle.output.specs.Output.{slicesFor}
 
@@ -24,4 +24,4 @@ givenBy f l s = callGiven f l (jobOf s .settings) (jobOf s .shape) (inputsOf (jo
 
 -- its fit
 abbrev pub fitFor : CarriedFamily → CarriedLink → List ℕ → Total (Dispersed Fitted)
-fitFor f l s = fitOf (givenBy f l s) (jobOf s .settings .«n_agq») (limitOf (jobOf s .settings .limit) (jobOf s .settings .link))
+fitFor f l s = fitOf (givenBy f l s) (callMeans f l (jobOf s .settings) (jobOf s .shape) (inputsOf (jobOf s))) (jobOf s .settings .«n_agq») (limitOf (jobOf s .settings .limit) (jobOf s .settings .link))

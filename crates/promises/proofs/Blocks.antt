@@ -50,7 +50,7 @@ module _ {M : Type 1} (𝓤 : URA M) (H : Heap 𝓤) (A : Atoms 𝓤) (mem : Mem
 pub block-fields : (x : Block) → block.the-type .to x ≡ (x .m, (x .k, tt))
 block-fields x = refl
 
-pub settings-fields : (x : CodedSettings) → settings.the-type .to x ≡ (x .family, (x .link, (x .«n_agq», (x .limit, (x .n, (x .p, (x .rows, (x .entries, tt))))))))
+pub settings-fields : (x : CodedSettings) → settings.the-type .to x ≡ (x .family, (x .link, (x .«n_agq», (x .limit, (x .n, (x .p, (x .rows, (x .entries, (x .start, tt)))))))))
 settings-fields x = refl
 
 pub answer-fields : (x : PlainAnswer) → answer.the-type .to x ≡ (x .number, (x .deviance, (x .phi, (x .order, (x .flag, (x .iterations, (x .fits, (x .solves, (x .tries, (x .points, (x .why, (x .eta, (x .mean, (x .pwrss, (x .ok, tt)))))))))))))))

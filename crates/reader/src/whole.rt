@@ -12,14 +12,16 @@ use model::Link;
 use model::LinkFound;
 use model::Settings;
 use model::Shape;
+use model::Start;
+use model::StartFound;
 ghost use mathlib.Core.Path.{_≡_};
 ghost use mathlib.Core.Bool.{true};
-ghost use Rattle.model.specs.Names.{familyCoded, linkCoded};
+ghost use Rattle.model.specs.Names.{familyCoded, linkCoded, startCoded};
 ghost use Rattle.job.specs.Format.{rowsIn, startOf};
 ghost use Rattle.job.specs.Faults.{isSound, faultOf};
 ghost use Rattle.job.specs.Heads.{headOf};
 ghost use Rattle.job.specs.Places.{countsOf, placesOf};
-ghost use Rattle.job.specs.Job.{familyFrom, linkFrom, limitFrom, jobOf};
+ghost use Rattle.job.specs.Job.{familyFrom, linkFrom, limitFrom, startFrom, startIn, jobOf};
 ghost use Rattle.reader.specs.Reading.{roomy, headerOf, filled, refusedAt, ReadDone};
 ghost use Rattle.model.specs.Inputs.{inputs};
 
@@ -73,6 +75,28 @@ fn limit_in(code: usize) -> Limit
     Limit::Given(code)
 }
 
+// One bit always names a start.
+fn start_named(code: usize) -> Start
+    ensures { λ r. ⌜ r ≡ startFrom (startCoded code) ⌝ }
+{
+    match model::start_coded(code) {
+        StartFound::Found(start) => start,
+        StartFound::NoSuch => Start::Usual,
+    }
+}
+
+// The start's bit is there in version 2 alone.
+fn start_in(s: &[u8], head: Head) -> Start
+    requires { ⌜ head ≡ headOf (now s) ⌝ }
+    ensures { λ r. ⌜ r ≡ startIn (now (s .entry)) ⌝ }
+{
+    if head.version != 2 {
+        return Start::Usual;
+    }
+    let code = bits::field_at(s, 48, 1);
+    start_named(code)
+}
+
 // What is told of a job, given its header, its counts and how many entries its rows have.
 fn header_in(s: &[u8], head: Head, c: Counts, entries: usize) -> Header
     requires { ⌜ (head ≡ headOf (now s)) × (c ≡ countsOf (now s)) × (entries ≡ startOf (now s) (rowsIn (now s))) ⌝ }
@@ -81,6 +105,7 @@ fn header_in(s: &[u8], head: Head, c: Counts, entries: usize) -> Header
     let family = family_in(head.family);
     let link = link_in(head.link);
     let limit = limit_in(head.limit);
+    let start = start_in(s, head);
     let n_agq = head.n_agq;
     let p = head.p;
     let n = c.n;
@@ -97,6 +122,7 @@ fn header_in(s: &[u8], head: Head, c: Counts, entries: usize) -> Header
         p,
         rows,
         entries,
+        start,
     };
     Header {
         settings,

@@ -2,10 +2,11 @@
 use mathlib.Core.Bool.{cond}
 use mathlib.Core.List.{List, [], _∷_, _++_}
 use Prim.Native.Nat.{ℕ, _+_, _≤_}
-use lib.Dec.{ltb, eqb}
+use lib.Dec.{eqb}
 use lib.Ieee.{Float}
 use lib.ListN.{length}
 use Rattle.base.specs.Sum.{_!_}
+use Rattle.model.specs.Answer.{isEnd}
 use Rattle.model.specs.declared.ends.Answer.{Answer}
 use Rattle.job.specs.Lists.{joinTo}
 use Rattle.lines.specs.Lines.{endLine, refusedLine, valueLine, Appended}
@@ -42,9 +43,9 @@ unfoldable pub fittedText : Answer → Results → List ℕ
 fittedText a R =
     endLine a ++ (valueLine (100 ∷ 101 ∷ 118 ∷ 105 ∷ 97 ∷ 110 ∷ 99 ∷ 101 ∷ []) 0 (a .deviance) ++ (valueLine (112 ∷ 104 ∷ 105 ∷ []) 0 (a .phi) ++ resultLines R))
 
--- by the answer's number: 0 is fitted; 1 to 7 are the table's refusals, told at byte 0; 10 to 13 have their end line alone
+-- by the answer's number: 0 is fitted; 10 to 13 have their end line alone; any other is a refusal of the table, told at byte 0
 unfoldable pub answerText : Answer → Results → List ℕ
-answerText a R = cond (eqb (a .number) 0) (fittedText a R) (cond (ltb (a .number) 10) (refusedLine (a .number) 0) (endLine a))
+answerText a R = cond (eqb (a .number) 0) (fittedText a R) (cond (isEnd (a .number)) (endLine a) (refusedLine (a .number) 0))
 
 -- the results of a call in range are few
 pub record Few (R : Results) : Type 0 where

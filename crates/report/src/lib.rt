@@ -140,8 +140,8 @@ pub fn put_answer(
     if number == 0 {
         return put_fitted(out, answer, beta, se, z, u, b, mu, eta, residual, v);
     }
-    if number < 10 {
-        return lines::refused_line(out, number as u64, 0);
+    if model::is_end(number) {
+        return lines::end_line(out, answer);
     }
-    lines::end_line(out, answer)
+    lines::refused_line(out, number as u64, 0)
 }

@@ -14,7 +14,6 @@ use Rattle.model.specs.Items.{tally}
 use Rattle.model.specs.declared.counts.Account.{Account}
 use Rattle.family.specs.Family.{usesDispersion}
 use Rattle.rule.specs.Given.{Given, nOf, qOf}
-use Rattle.rule.specs.Run.{startMeans}
 use Rattle.agq_rule.specs.Inner.{InnerEnd, withMode, withoutMode, innerOf}
 use Rattle.dispersion.specs.Phi.{effectiveN}
 use Rattle.dispersion.specs.Rounds.{Total, Dispersed, withFlag, lastFit, dispersionOf, fixedOf}
@@ -39,13 +38,13 @@ module _ (G : Given) (phi : Float) (flag : Bool) (b : Account) (r m : List Float
   end-answered (withoutMode e) h = rw (ef, h) refl
 
 -- ---- a fit that comes to what its last inner fit came to, with the account of all
-module _ (G : Given) (wish L : ℕ) (phi : Float) (flag : Bool) (T : Total (Dispersed Fitted)) (eo : T .outcome ≡ withFlag flag phi (innerAt G wish L phi .outcome)) (r₀ r r' m₀ m m' t₀ t t' : List Float)
+module _ (G : Given) (mu : List Float) (wish L : ℕ) (phi : Float) (flag : Bool) (T : Total (Dispersed Fitted)) (eo : T .outcome ≡ withFlag flag phi (innerAt G mu wish L phi .outcome)) (r₀ r r' m₀ m m' t₀ t t' : List Float)
     (ro : Only 0 (rowsLength (nOf G)) r₀ r) (mo : Only 0 (matricesLength (G .design .p) (qOf (G .design))) m₀ m) (to : Only 0 termsLength t₀ t) (a : InnerAnswer)
-    (i : AnswerLeft G wish phi L (startMeans G) r r' m m' t t' a) where
+    (i : AnswerLeft G wish phi L mu r r' m m' t t' a) where
   pub ended : (b : Account) (f : Fit) → tally (T .items) ≡ b → f ≡ fitFrom (a .end) a phi flag b → FitLeft G T r₀ r' m₀ m' t₀ t' f
   unfolding innerAt totalOf answerOf
   ended b f eb ef =
-      let x = innerOf G wish phi L (startMeans G) .ending in
+      let x = innerOf G wish phi L mu .ending in
       record {
         told = rw eo (end-told G phi flag b r' m' a f ef x (i .told));
         answered = rw (eo, eb) (end-answered G phi flag b r' m' a f ef x (i .told));
@@ -55,19 +54,19 @@ module _ (G : Given) (wish L : ℕ) (phi : Float) (flag : Bool) (T : Total (Disp
       }
 
 -- ---- a family without dispersion: one inner fit at phi 1
-pub fixed-ended : (G : Given) (wish L : ℕ) (r r' m m' t t' : List Float) (a : InnerAnswer) → AnswerLeft G wish oneF L (startMeans G) r r' m m' t t' a → (f : Fit) → f ≡ fitFrom (a .end) a oneF true (a .account)
-    → FitLeft G (fixedOf (innerAt G wish L)) r r' m m' t t' f
+pub fixed-ended : (G : Given) (mu : List Float) (wish L : ℕ) (r r' m m' t t' : List Float) (a : InnerAnswer) → AnswerLeft G wish oneF L mu r r' m m' t t' a → (f : Fit) → f ≡ fitFrom (a .end) a oneF true (a .account)
+    → FitLeft G (fixedOf (innerAt G mu wish L)) r r' m m' t t' f
 unfolding fixedOf lastFit innerAt totalOf
-fixed-ended G wish L r r' m m' t t' a i f ef =
-    ended G wish L oneF true (fixedOf (innerAt G wish L)) refl r r r' m m m' t t t' (only-none 0 (rowsLength (nOf G)) r) (only-none 0 (matricesLength (G .design .p) (qOf (G .design))) m) (only-none 0 termsLength t) a i (a .account) f
+fixed-ended G mu wish L r r' m m' t t' a i f ef =
+    ended G mu wish L oneF true (fixedOf (innerAt G mu wish L)) refl r r r' m m m' t t t' (only-none 0 (rowsLength (nOf G)) r) (only-none 0 (matricesLength (G .design .p) (qOf (G .design))) m) (only-none 0 termsLength t) a i (a .account) f
     (sym (i .counted)) ef
 
 -- ---- the fit by whether the dispersion is free
-module _ (G : Given) (wish L : ℕ) (r r' m m' t t' : List Float) (f : Fit) where
-  pub free-left : usesDispersion (G .family) ≡ true → FitLeft G (dispersionOf (effectiveN (nOf G) (G .weights)) sumOf (innerAt G wish L)) r r' m m' t t' f → FitLeft G (fitOf G wish L) r r' m m' t t' f
+module _ (G : Given) (mu : List Float) (wish L : ℕ) (r r' m m' t t' : List Float) (f : Fit) where
+  pub free-left : usesDispersion (G .family) ≡ true → FitLeft G (dispersionOf (effectiveN (nOf G) (G .weights)) sumOf (innerAt G mu wish L)) r r' m m' t t' f → FitLeft G (fitOf G mu wish L) r r' m m' t t' f
   unfolding fitOf fitBy
   free-left e h = rw e h
 
-  pub fixed-left : usesDispersion (G .family) ≡ false → FitLeft G (fixedOf (innerAt G wish L)) r r' m m' t t' f → FitLeft G (fitOf G wish L) r r' m m' t t' f
+  pub fixed-left : usesDispersion (G .family) ≡ false → FitLeft G (fixedOf (innerAt G mu wish L)) r r' m m' t t' f → FitLeft G (fitOf G mu wish L) r r' m m' t t' f
   unfolding fitOf fitBy
   fixed-left e h = rw e h

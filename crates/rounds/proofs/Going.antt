@@ -19,7 +19,6 @@ use Rattle.model.specs.declared.counts.Account.{Account}
 use Rattle.model.proofs.Accounts.{plus-assoc, none-plus, caps-trans, inner-more, inner-capped, capped-fit}
 use Rattle.model.proofs.Tallies.{tally-append}
 use Rattle.rule.specs.Given.{Given, nOf, qOf}
-use Rattle.rule.specs.Run.{startMeans}
 use Rattle.agq_rule.specs.Inner.{InnerEnd, withMode, withoutMode, innerOf}
 use Rattle.dispersion.specs.Phi.{roundOf}
 use Rattle.dispersion.specs.Rounds.{result, noResult, Total, Dispersed, totalBefore, withFlag, lastFit, dispersionFrom, dispersionOf}
@@ -40,9 +39,9 @@ abbrev isSettled : Round → Bool
 isSettled Settled = true
 isSettled (Next phi) = false
 
-module _ (G : Given) (wish L : ℕ) (effective : Float) where
+module _ (G : Given) (mu : List Float) (wish L : ℕ) (effective : Float) where
   abbrev inner : Float → Total Fitted
-  inner = innerAt G wish L
+  inner = innerAt G mu wish L
 
   abbrev whole : Total (Dispersed Fitted)
   whole = dispersionOf effective sumOf inner
@@ -77,11 +76,11 @@ module _ (G : Given) (wish L : ℕ) (effective : Float) where
 
   -- ---- one round
   module _ (r₀ r r' m₀ m m' t₀ t t' : List Float) (phi : Float) (account : Account) (k : ℕ) (g : Going r₀ r m₀ m t₀ t phi account k) (a : InnerAnswer)
-      (i : AnswerLeft G wish phi L (startMeans G) r r' m m' t t' a) where
+      (i : AnswerLeft G wish phi L mu r r' m m' t t' a) where
     pub sums-fit : goodShape (G .design .shape) ≡ true → L ≤ 1000 → SumFits account (a .account)
     unfolding innerAt totalOf
     sums-fit good few =
-        let one : AtMost innerCap (a .account) = rw (i .counted) (inner-at-capped G wish L good few phi) in
+        let one : AtMost innerCap (a .account) = rw (i .counted) (inner-at-capped G mu wish L good few phi) in
         capped-fit (inner-capped k (omega (arith, g .within)) (g .few)) (caps-trans one-fit one)
 
     -- the last round of all
@@ -91,14 +90,14 @@ module _ (G : Given) (wish L : ℕ) (effective : Float) where
         let z : 240 - k ≡ 0 = omega arith in
         let o : whole .outcome ≡ withFlag false phi (inner phi .outcome) = g .outcome ∙ rw z refl in
         let s : tally (whole .items) ≡ b = g .items ∙ (rw (z, eb, i .counted) refl) in
-        ended G wish L phi false whole o r₀ r r' m₀ m m' t₀ t t' (g .rows-only) (g .matrices-only) (g .terms-only) a i b f s ef
+        ended G mu wish L phi false whole o r₀ r r' m₀ m m' t₀ t t' (g .rows-only) (g .matrices-only) (g .terms-only) a i b f s ef
 
     module _ (less : k < 240) where
       left-turn : 240 - k ≡ suc (240 - (k + 1))
       left-turn = omega arith
 
       -- the loop settles where nothing is to follow
-      settled-rest : (x : InnerEnd) → innerOf G wish phi L (startMeans G) .ending ≡ x → AnswerTold x G r' m' a → roundAfter (a .end) effective phi (a .«deviance_sum») ≡ Settled
+      settled-rest : (x : InnerEnd) → innerOf G wish phi L mu .ending ≡ x → AnswerTold x G r' m' a → roundAfter (a .end) effective phi (a .«deviance_sum») ≡ Settled
           → restAt k phi ≡ lastFit true phi (inner phi)
       unfolding innerAt totalOf resultBy roundAfter lastFit withFlag
       settled-rest (withoutMode e) q h s =
@@ -113,13 +112,13 @@ module _ (G : Given) (wish L : ℕ) (effective : Float) where
           → FitLeft G whole r₀ r' m₀ m' t₀ t' f
       unfolding lastFit innerAt totalOf
       end-settled b f s eb ef =
-          let rest : restAt k phi ≡ lastFit true phi (inner phi) = settled-rest (innerOf G wish phi L (startMeans G) .ending) refl (i .told) s in
+          let rest : restAt k phi ≡ lastFit true phi (inner phi) = settled-rest (innerOf G wish phi L mu .ending) refl (i .told) s in
           let o : whole .outcome ≡ withFlag true phi (inner phi .outcome) = g .outcome ∙ rw rest refl in
           let c : tally (whole .items) ≡ b = g .items ∙ (rw (rest, eb, i .counted) refl) in
-          ended G wish L phi true whole o r₀ r r' m₀ m m' t₀ t t' (g .rows-only) (g .matrices-only) (g .terms-only) a i b f c ef
+          ended G mu wish L phi true whole o r₀ r r' m₀ m m' t₀ t t' (g .rows-only) (g .matrices-only) (g .terms-only) a i b f c ef
 
       -- it goes on at the next phi
-      next-rest : (next : Float) (x : InnerEnd) → innerOf G wish phi L (startMeans G) .ending ≡ x → AnswerTold x G r' m' a → roundAfter (a .end) effective phi (a .«deviance_sum») ≡ Next next
+      next-rest : (next : Float) (x : InnerEnd) → innerOf G wish phi L mu .ending ≡ x → AnswerTold x G r' m' a → roundAfter (a .end) effective phi (a .«deviance_sum») ≡ Next next
           → restAt k phi ≡ totalBefore (inner phi .items) (restAt (k + 1) next)
       unfolding innerAt totalOf resultBy roundAfter
       next-rest next (withoutMode e) q h s =
@@ -134,8 +133,8 @@ module _ (G : Given) (wish L : ℕ) (effective : Float) where
           → Going r₀ r' m₀ m' t₀ t' next b (k + 1)
       unfolding totalBefore innerAt totalOf
       turn-on b next good few s eb =
-          let rest : restAt k phi ≡ totalBefore (inner phi .items) (restAt (k + 1) next) = next-rest next (innerOf G wish phi L (startMeans G) .ending) refl (i .told) s in
-          let one : AtMost innerCap (a .account) = rw (i .counted) (inner-at-capped G wish L good few phi) in
+          let rest : restAt k phi ≡ totalBefore (inner phi .items) (restAt (k + 1) next) = next-rest next (innerOf G wish phi L mu .ending) refl (i .told) s in
+          let one : AtMost innerCap (a .account) = rw (i .counted) (inner-at-capped G mu wish L good few phi) in
           let c : tally (whole .items) ≡ account ⊞ (tally (inner phi .items) ⊞ tally (restAt (k + 1) next .items)) =
           g .items ∙ (rw rest (ap (λ (x : Account). account ⊞ x) (tally-append (inner phi .items) (restAt (k + 1) next .items)))) in
           rw eb

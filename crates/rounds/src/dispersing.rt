@@ -10,9 +10,11 @@ use family::CarriedLink;
 use family::uses_dispersion;
 use model::Account;
 use model::Shape;
+use model::Start;
 ghost use Prim.Native.Nat.{_≤_};
 ghost use Rattle.stored.specs.Stored.{sparse};
 ghost use Rattle.rule.specs.Given.{designOf, givenOf};
+ghost use Rattle.rule.specs.Run.{startMeans};
 ghost use Rattle.iteration.specs.Iterated.{Asked};
 ghost use Rattle.dispersion.specs.Phi.{effectiveN};
 ghost use Rattle.dispersion.specs.Rounds.{dispersionOf, fixedOf};
@@ -25,6 +27,7 @@ fn dispersed_fit(
     link: CarriedLink,
     limit: usize,
     wish: usize,
+    start: Start,
     shape: Shape,
     theta: &[f64],
     starts: &[usize],
@@ -52,7 +55,11 @@ fn dispersed_fit(
         (innerAt
         (givenOf family link (now (y .entry)) (now (weights .entry))
         (designOf n p shape (now (theta .entry)) (now (offset .entry)) (now (x .entry))
-        (sparse (now (starts .entry)) (now (columns .entry)) (now (values .entry))))) wish limit)) (now (r .entry)) (now (r .exit)) (now (m .entry))
+        (sparse (now (starts .entry)) (now (columns .entry)) (now (values .entry)))))
+        (startMeans start
+        (givenOf family link (now (y .entry)) (now (weights .entry))
+        (designOf n p shape (now (theta .entry)) (now (offset .entry)) (now (x .entry))
+        (sparse (now (starts .entry)) (now (columns .entry)) (now (values .entry)))))) wish limit)) (now (r .entry)) (now (r .exit)) (now (m .entry))
         (now (m .exit)) (now (t .entry)) (now (t .exit)) a ⌝ }
 {
     let effective = effective_n(weights, n);
@@ -66,6 +73,7 @@ fn dispersed_fit(
             phi,
             limit,
             wish,
+            start,
             shape,
             theta,
             starts,
@@ -100,6 +108,7 @@ fn dispersed_fit(
         phi,
         limit,
         wish,
+        start,
         shape,
         theta,
         starts,
@@ -126,6 +135,7 @@ fn fixed_fit(
     link: CarriedLink,
     limit: usize,
     wish: usize,
+    start: Start,
     shape: Shape,
     theta: &[f64],
     starts: &[usize],
@@ -153,7 +163,11 @@ fn fixed_fit(
         (innerAt
         (givenOf family link (now (y .entry)) (now (weights .entry))
         (designOf n p shape (now (theta .entry)) (now (offset .entry)) (now (x .entry))
-        (sparse (now (starts .entry)) (now (columns .entry)) (now (values .entry))))) wish limit)) (now (r .entry)) (now (r .exit)) (now (m .entry))
+        (sparse (now (starts .entry)) (now (columns .entry)) (now (values .entry)))))
+        (startMeans start
+        (givenOf family link (now (y .entry)) (now (weights .entry))
+        (designOf n p shape (now (theta .entry)) (now (offset .entry)) (now (x .entry))
+        (sparse (now (starts .entry)) (now (columns .entry)) (now (values .entry)))))) wish limit)) (now (r .entry)) (now (r .exit)) (now (m .entry))
         (now (m .exit)) (now (t .entry)) (now (t .exit)) a ⌝ }
 {
     let a = inner_at(
@@ -162,6 +176,7 @@ fn fixed_fit(
         1.0,
         limit,
         wish,
+        start,
         shape,
         theta,
         starts,
@@ -187,6 +202,7 @@ pub fn fit_in(
     link: CarriedLink,
     limit: usize,
     wish: usize,
+    start: Start,
     shape: Shape,
     theta: &[f64],
     starts: &[usize],
@@ -213,7 +229,11 @@ pub fn fit_in(
         (fitOf
         (givenOf family link (now (y .entry)) (now (weights .entry))
         (designOf n p shape (now (theta .entry)) (now (offset .entry)) (now (x .entry))
-        (sparse (now (starts .entry)) (now (columns .entry)) (now (values .entry))))) wish limit) (now (r .entry)) (now (r .exit)) (now (m .entry))
+        (sparse (now (starts .entry)) (now (columns .entry)) (now (values .entry)))))
+        (startMeans start
+        (givenOf family link (now (y .entry)) (now (weights .entry))
+        (designOf n p shape (now (theta .entry)) (now (offset .entry)) (now (x .entry))
+        (sparse (now (starts .entry)) (now (columns .entry)) (now (values .entry)))))) wish limit) (now (r .entry)) (now (r .exit)) (now (m .entry))
         (now (m .exit)) (now (t .entry)) (now (t .exit)) a ⌝ }
 {
     if uses_dispersion(family) {
@@ -222,6 +242,7 @@ pub fn fit_in(
             link,
             limit,
             wish,
+            start,
             shape,
             theta,
             starts,
@@ -244,6 +265,7 @@ pub fn fit_in(
         link,
         limit,
         wish,
+        start,
         shape,
         theta,
         starts,

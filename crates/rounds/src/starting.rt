@@ -4,6 +4,7 @@ use family::CarriedLink;
 use inner::InnerAnswer;
 use inner::inner_answer;
 use model::Shape;
+use model::Start;
 use working::start_means;
 ghost use Prim.Native.Nat.{_≤_};
 ghost use Rattle.rule.specs.Run.{startMeans};
@@ -19,6 +20,7 @@ pub fn inner_at(
     phi: f64,
     limit: usize,
     wish: usize,
+    start: Start,
     shape: Shape,
     theta: &[f64],
     starts: &[usize],
@@ -42,7 +44,7 @@ pub fn inner_at(
         (givenOf family link (now (y .entry)) (now (weights .entry))
         (designOf n p shape (now (theta .entry)) (now (offset .entry)) (now (x .entry))
         (sparse (now (starts .entry)) (now (columns .entry)) (now (values .entry))))) wish phi limit
-        (startMeans
+        (startMeans start
         (givenOf family link (now (y .entry)) (now (weights .entry))
         (designOf n p shape (now (theta .entry)) (now (offset .entry)) (now (x .entry))
         (sparse (now (starts .entry)) (now (columns .entry)) (now (values .entry)))))) (now (r .entry)) (now (r .exit)) (now (m .entry))
@@ -50,7 +52,7 @@ pub fn inner_at(
 {
     let mu = layout::mu_row(n);
     let raw = layout::raw_row(n);
-    start_means(family, y, n, &mut r[mu..raw]);
+    start_means(start, family, y, weights, n, &mut r[mu..raw]);
     inner_answer(
         family,
         link,

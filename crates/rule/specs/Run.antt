@@ -1,4 +1,4 @@
--- The run of the inner fit: start, iterations, stop test, ends 10 to 13. The starting means are a parameter. Document 01, "The inner fit". Assumes nothing.
+-- The run of the inner fit: start, iterations, stop test, ends 10 to 13. The starting means are a parameter. Document 01, "The inner fit"; document 02, P10. Assumes nothing.
 use mathlib.Core.Path.{_≡_}
 use mathlib.Core.List.{List, [], _∷_, _++_}
 use mathlib.Core.Bool.{Bool, true, false}
@@ -10,10 +10,13 @@ use Rattle.base.specs.List.{build}
 use Rattle.model.specs.Items.{Item, aFit, aSolve}
 use Rattle.model.specs.declared.ends.End.{End}
 use Rattle.model.specs.declared.ends.End.the-variants.{NoStep, NoStop}
+use Rattle.model.specs.declared.names.Start.{Start}
+use Rattle.model.specs.declared.names.Start.the-variants.{Usual, Trials}
 use Rattle.family.specs.Link.{linkFun}
-use Rattle.family.specs.Family.{initializeMu}
+use Rattle.family.specs.Family.{initializeMu, trialsMean}
 use Rattle.family.specs.declared.carried.CarriedFamily.{CarriedFamily}
 use Rattle.family.specs.declared.carried.CarriedLink.{CarriedLink}
+use Rattle.family_lists.specs.Lists.{weightAt}
 use Rattle.rule.specs.Given.{Given, nOf, plusOffset}
 use Rattle.rule.specs.Solve.{Solved, Solve, solved, unsolved, solveOf}
 use Rattle.rule.specs.Try.{Move, Search, foundMove, noMove, triesOf, trialOf}
@@ -69,13 +72,18 @@ unfoldable pub runFrom : Given → Float → ℕ → State → Outcome
 runFrom G phi zero s = failedAfter [] NoStop
 runFrom G phi (suc f) s = afterSolve (solveOf G phi (s .eta) (s .mu)) G s (runFrom G phi f)
 
--- the starting mean of observation i, by `initialize_mu`
-unfoldable pub startMeanAt : CarriedFamily → List Float → ℕ → Float
-startMeanAt family y i = initializeMu family (y ! i)
+-- the starting mean of a response y with weight w: by `initialize_mu`, or with the weight as the number of trials (document 02, P10)
+unfoldable pub startMean : Start → CarriedFamily → Float → Float → Float
+startMean Usual family w y = initializeMu family y
+startMean Trials family w y = trialsMean w y
+
+-- the starting mean of observation i, whose weight is 1 where there are none
+unfoldable pub startMeanAt : Start → CarriedFamily → (y weights : List Float) → ℕ → Float
+startMeanAt start family y weights i = startMean start family (weightAt weights i) (y ! i)
 
 -- the starting means
-unfoldable pub startMeans : Given → List Float
-startMeans G = build (startMeanAt (G .family) (G .y)) (nOf G)
+unfoldable pub startMeans : Start → Given → List Float
+startMeans start G = build (startMeanAt start (G .family) (G .y) (G .weights)) (nOf G)
 
 -- eta of observation i: link (mu), plus offset where there is one
 unfoldable pub startEtaAt : CarriedLink → List Float → List Float → ℕ → Float

@@ -6,6 +6,7 @@ use Rattle.base.specs.Number.{zeroF, oneF}
 use Rattle.model.specs.Answer.{endNumber}
 use Rattle.model.specs.Items.{tally}
 use Rattle.model.specs.declared.counts.Account.{Account}
+use Rattle.model.specs.declared.names.Start.the-variants.{Usual}
 use Rattle.rule.specs.Given.{Given, nOf}
 use Rattle.rule.specs.Solve.{bOf}
 use Rattle.rule.specs.Stop.{Mode}
@@ -63,4 +64,4 @@ toldOutcome G o = toldEnding G (tally (o .items)) (o .ending)
 
 -- of the inner fit at phi = 1 from its usual start, with at most L iterations
 unfoldable pub toldOf : Given → ℕ → Told
-toldOf G L = toldOutcome G (runOf G oneF L (startMeans G))
+toldOf G L = toldOutcome G (runOf G oneF L (startMeans Usual G))

@@ -10,10 +10,11 @@ use Rattle.base.proofs.SparseRows.{good-rows}
 use Rattle.model.specs.Settings.{goodSizes}
 use Rattle.model.specs.declared.names.Family.{Family}
 use Rattle.model.specs.declared.names.Link.{Link}
+use Rattle.model.specs.declared.names.Start.the-variants.{Usual}
 use Rattle.model.specs.declared.sizes.Shape.{Shape}
 use Rattle.model.specs.declared.sizes.Settings.{Settings}
 use Rattle.model.specs.declared.ends.Refusal.{Refusal}
-use Rattle.model.specs.declared.ends.Refusal.the-variants.{OutOfRange, Lengths, Work, SparseRows, NotFinite, LinkForFamily, NotCarried, ResponseRange}
+use Rattle.model.specs.declared.ends.Refusal.the-variants.{OutOfRange, Lengths, Work, SparseRows, NotFinite, LinkForFamily, NotCarried, ResponseRange, StartFit}
 use Rattle.model.proofs.Sized.{sized}
 use Rattle.model.proofs.Tests.{both}
 use Rattle.family.specs.Carried.{carriedFamily, carriedLink, validFor}
@@ -21,14 +22,14 @@ use Rattle.family.specs.declared.carried.CarriedFamily.{CarriedFamily}
 use Rattle.family.specs.declared.carried.CarriedLink.{CarriedLink}
 use Rattle.family.specs.declared.carried.LinkCarried.{LinkCarried}
 use Rattle.family.specs.declared.carried.LinkCarried.the-variants as linkCarried
-use Rattle.table.specs.Tests.{goodInputs, goodResults, goodWork, goodNumbers, allInRange}
+use Rattle.table.specs.Tests.{goodInputs, goodResults, goodWork, goodNumbers, allInRange, startFits}
 use Rattle.model.specs.Inputs.{Inputs}
-use Rattle.table.specs.Table.{refuseUnless, withLink, carriedPair, rangeTested, tableOf}
+use Rattle.table.specs.Table.{refuseUnless, withLink, carriedPair, tested, tableOf}
 use Rattle.table.specs.Facts.{Sound}
 use Rattle.table.specs.declared.verdicts.LentLengths.{LentLengths}
 use Rattle.table.specs.declared.verdicts.Verdict.{Verdict}
 use Rattle.table.specs.declared.verdicts.Verdict.the-variants.{Accepted, Refused}
-use Rattle.table.proofs.Meant.{inputs-fit, results-fit, work-fits, numbers-finite, list-in-range}
+use Rattle.table.proofs.Meant.{inputs-fit, results-fit, work-fits, numbers-finite, list-in-range, start-fits}
 
 -- ---- the lines, from the first to the last
 module _ (r : ℕ) (t : Settings) (s : Shape) (I : Inputs) (L : LentLengths) where
@@ -66,7 +67,7 @@ module _ (r : ℕ) (t : Settings) (s : Shape) (I : Inputs) (L : LentLengths) whe
               unfolding tableOf refuseUnless
               line-4 a = rw (sizes, lent, results, work, rows, numbers, a) refl
 
-              pub last-lines : validFor (t .link) (t .family) ≡ true → tableOf r t s I L ≡ rangeTested (I .y) (carriedPair (t .family) (t .link))
+              pub last-lines : validFor (t .link) (t .family) ≡ true → tableOf r t s I L ≡ tested (startFits (t .start) (I .weights)) StartFit (tested (allInRange (I .y)) ResponseRange (carriedPair (t .family) (t .link)))
               unfolding tableOf refuseUnless
               last-lines a = rw (sizes, lent, results, work, rows, numbers, a) refl
 
@@ -80,20 +81,25 @@ module _ (family : Family) (link : Link) where
   unfolding carriedPair withLink
   both-carried f l a b = rw (b, a) refl
 
--- ---- number 9
-module _ (y : List Float) (f : CarriedFamily) (l : CarriedLink) where
-  pub out-of-range : allInRange y f ≡ false → rangeTested y (Accepted f l) ≡ Refused ResponseRange
-  unfolding rangeTested refuseUnless
-  out-of-range a = rw a refl
+-- ---- numbers 9 and 27: lines that ask something of the family found
+module _ (fits : CarriedFamily → Bool) (refusal : Refusal) where
+  pub test-fails : (f : CarriedFamily) (l : CarriedLink) → fits f ≡ false → tested fits refusal (Accepted f l) ≡ Refused refusal
+  unfolding tested refuseUnless
+  test-fails f l a = rw a refl
 
-  pub in-range : allInRange y f ≡ true → rangeTested y (Accepted f l) ≡ Accepted f l
-  unfolding rangeTested refuseUnless
-  in-range a = rw a refl
+  pub test-holds : (f : CarriedFamily) (l : CarriedLink) → fits f ≡ true → tested fits refusal (Accepted f l) ≡ Accepted f l
+  unfolding tested refuseUnless
+  test-holds f l a = rw a refl
 
--- a refusal of an earlier line stays
-pub range-after : (y : List Float) (refusal : Refusal) → rangeTested y (Refused refusal) ≡ Refused refusal
-unfolding rangeTested
-range-after y refusal = refl
+  -- a refusal of an earlier line stays
+  pub earlier-stays : (earlier : Refusal) → tested fits refusal (Refused earlier) ≡ Refused earlier
+  unfolding tested
+  earlier-stays earlier = refl
+
+-- the usual start passes always
+pub usual-passes : (weights : List Float) (f : CarriedFamily) → startFits Usual weights f ≡ true
+unfolding startFits
+usual-passes weights f = refl
 
 -- ---- an accepted call passed every test
 -- a verdict accepts
@@ -122,13 +128,13 @@ unfolding withLink
 last-line g (linkCarried.Carried k) f l e = (ap (familyIn f) e, ap (λ (x : Verdict). linkCarried.Carried (linkIn l x)) e)
 last-line g linkCarried.NotYet f l e = absurd (ff (ap isAccepted e))
 
-pub range-passed : (y : List Float) (v : Verdict) (f : CarriedFamily) (l : CarriedLink) → rangeTested y v ≡ Accepted f l → (v ≡ Accepted f l) × (allInRange y f ≡ true)
-unfolding rangeTested
-range-passed y (Accepted g k) f l e =
-    let p = passed (allInRange y g) ResponseRange (Accepted g k) f l e in
+pub test-passed : (fits : CarriedFamily → Bool) (refusal : Refusal) (v : Verdict) (f : CarriedFamily) (l : CarriedLink) → tested fits refusal v ≡ Accepted f l → (v ≡ Accepted f l) × (fits f ≡ true)
+unfolding tested
+test-passed fits refusal (Accepted g k) f l e =
+    let p = passed (fits g) refusal (Accepted g k) f l e in
     let same : g ≡ f = ap (familyIn f) (p .1) in
     (p .1, rw same at (p .0))
-range-passed y (Refused refusal) f l e = absurd (ff (ap isAccepted e))
+test-passed fits refusal (Refused earlier) f l e = absurd (ff (ap isAccepted e))
 
 pub accepted-sound : (r : ℕ) (t : Settings) (s : Shape) (I : Inputs) (L : LentLengths) (f : CarriedFamily) (l : CarriedLink) → tableOf r t s I L ≡ Accepted f l → Sound r t s I L f l
 unfolding tableOf carriedPair
@@ -139,7 +145,8 @@ accepted-sound r t s I L f l e =
     let d = passed (goodRows (I .starts) (I .columns) (t .rows) (t .n)) SparseRows _ f l (c .1) in
     let g = passed (goodNumbers I) NotFinite _ f l (d .1) in
     let h = passed (validFor (t .link) (t .family)) LinkForFamily _ f l (g .1) in
-    let o = range-passed (I .y) (carriedPair (t .family) (t .link)) f l (h .1) in
+    let w = test-passed (startFits (t .start) (I .weights)) StartFit _ f l (h .1) in
+    let o = test-passed (allInRange (I .y)) ResponseRange (carriedPair (t .family) (t .link)) f l (w .0) in
     let k = last-line (carriedFamily (t .family)) (carriedLink (t .link)) f l (o .0) in
     let m : (goodInputs r t s I ≡ true) × (goodResults r t L ≡ true) = both (b .0) in
     let n = inputs-fit r t s I (m .0) in
@@ -154,4 +161,5 @@ accepted-sound r t s I L f l e =
       family = k .0;
       link = k .1;
       ranged = list-in-range f (I .y) (o .1);
+      started = start-fits (t .start) (I .weights) f (w .1);
     }

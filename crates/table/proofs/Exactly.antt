@@ -1,14 +1,15 @@
 -- Each test of the table is passed exactly when its facts hold. Assumes nothing.
-use mathlib.Core.Path.{_≡_, refl, sym, _∙_}
+use mathlib.Core.Path.{_≡_, refl, sym, ap, _∙_}
 use mathlib.Core.List.{List}
-use mathlib.Core.Logic.{_↔_}
-use mathlib.Core.Bool.{Bool, true, false}
+use mathlib.Core.Logic.{_↔_, _⊎_, inl, inr, ⊎-elim}
+use mathlib.Core.Bool.{Bool, true, false, not}
 use Prim.Native.Nat.{ℕ, zero, suc, _+_, _-_, _*_, _<_}
 use native.Mathlib.Omega.{arith}
 use borrow.Author.Tests.{le-leb, lt-ltb, eq-eqb, ne-eqb, eqb-true}
 use lib.Dec.{eqb}
 use lib.ListN.{length}
-use lib.Ieee.{Float}
+use lib.Ieee.{Float, lt}
+use Rattle.base.specs.Number.{zeroF}
 use Rattle.base.specs.Sum.{_!_, _!!_, allTo, finiteAt}
 use Rattle.base.specs.Sparse.{notFalling, goodStarts, columnFits, goodColumns, goodRow, goodRows, Rising}
 use Rattle.base.proofs.Doubles.{ff}
@@ -16,6 +17,8 @@ use Rattle.base.proofs.Sums.{all-at, all-of, all-fails}
 use Rattle.base.proofs.SparseRows.{starts-step, starts-within, columns-rising}
 use Rattle.model.specs.Inputs.{Inputs}
 use Rattle.model.specs.Settings.{goodSizes, Sized}
+use Rattle.model.specs.declared.names.Start.{Start}
+use Rattle.model.specs.declared.names.Start.the-variants.{Usual, Trials}
 use Rattle.model.specs.declared.sizes.Shape.{Shape}
 use Rattle.model.specs.declared.sizes.Settings.{Settings}
 use Rattle.model.proofs.Sized.{sized, sized-when}
@@ -23,10 +26,11 @@ use Rattle.model.proofs.Tests.{both, joined}
 use Rattle.layout.specs.WorkTerms.{termsLength}
 use Rattle.family.specs.Family.{inRange}
 use Rattle.family.specs.declared.carried.CarriedFamily.{CarriedFamily}
-use Rattle.table.specs.Tests.{goodInputs, goodResults, goodWork, allFinite, finiteNumbers, goodNumbers, inRangeAt, allInRange}
-use Rattle.table.specs.Facts.{InputsFit, ResultsFit, WorkFits, RowsFit, AllFinite, AllInRange, NumbersFinite}
+use Rattle.family.specs.declared.carried.CarriedFamily.the-variants.{Binomial, Poisson, Gaussian, Gamma}
+use Rattle.table.specs.Tests.{goodInputs, goodResults, goodWork, allFinite, finiteNumbers, goodNumbers, inRangeAt, allInRange, notBelowAt, noneBelow, startFits}
+use Rattle.table.specs.Facts.{InputsFit, ResultsFit, WorkFits, RowsFit, AllFinite, AllInRange, NoneBelow, StartFits, NumbersFinite}
 use Rattle.table.specs.declared.verdicts.LentLengths.{LentLengths}
-use Rattle.table.proofs.Meant.{or-absent, inputs-fit, inputs-when, results-fit, results-when, work-fits, work-when, numbers-finite, list-in-range}
+use Rattle.table.proofs.Meant.{or-absent, inputs-fit, inputs-when, results-fit, results-when, work-fits, work-when, numbers-finite, list-in-range, isTrials, isBinomial, start-fits}
 
 -- ---- number 1
 pub sizes-exactly : (t : Settings) (s : Shape) → (goodSizes t s ≡ true) ↔ Sized t s
@@ -116,3 +120,50 @@ one-fails t (suc n) e = by (allTo n t) refl (one-fails t n)
 pub outside-exactly : (f : CarriedFamily) (y : List Float) → (allInRange y f ≡ false) ↔ ((i : ℕ) × ((i < length y) × (inRange f (y ! i) ≡ false)))
 unfolding allInRange
 outside-exactly f y = (one-fails (inRangeAt f y) (length y), λ h. sym (all-fails (inRangeAt f y) (length y) (h .0) (h .1 .0) (h .1 .1)))
+
+-- ---- number 27
+start-told : (start : Start) (weights : List Float) (f : CarriedFamily) → StartFits start weights f → startFits start weights f ≡ true
+unfolding startFits noneBelow
+start-told Usual weights f h = refl
+start-told Trials weights Binomial h = sym (all-of (notBelowAt weights) (length weights) (λ i l. ap not (h refl .1 i l)))
+start-told Trials weights Poisson h = absurd (ff (ap isBinomial (h refl .0)))
+start-told Trials weights Gaussian h = absurd (ff (ap isBinomial (h refl .0)))
+start-told Trials weights Gamma h = absurd (ff (ap isBinomial (h refl .0)))
+
+pub start-exactly : (start : Start) (weights : List Float) (f : CarriedFamily) → (startFits start weights f ≡ true) ↔ StartFits start weights f
+start-exactly start weights f = (start-fits start weights f, start-told start weights f)
+
+-- some weight is below 0
+abbrev pub SomeBelow : List Float → Type 0
+SomeBelow weights = (i : ℕ) × ((i < length weights) × (lt (weights ! i) zeroF ≡ true))
+
+below : {b : Bool} → not b ≡ false → b ≡ true
+below {b = true} e = refl
+below {b = false} e = absurd (ff (sym e))
+
+one-below : (weights : List Float) → noneBelow weights ≡ false → SomeBelow weights
+unfolding noneBelow
+one-below weights e =
+    let k = one-fails (notBelowAt weights) (length weights) e in
+    (k .0, (k .1 .0, below (k .1 .1)))
+
+unfit-meant : (start : Start) (weights : List Float) (f : CarriedFamily) → startFits start weights f ≡ false → (start ≡ Trials) × ((f ≡ Binomial → ⊥) ⊎ SomeBelow weights)
+unfolding startFits
+unfit-meant Usual weights f e = absurd (ff (sym e))
+unfit-meant Trials weights Binomial e = (refl, inr (one-below weights e))
+unfit-meant Trials weights Poisson e = (refl, inl (λ b. ff (ap isBinomial b)))
+unfit-meant Trials weights Gaussian e = (refl, inl (λ b. ff (ap isBinomial b)))
+unfit-meant Trials weights Gamma e = (refl, inl (λ b. ff (ap isBinomial b)))
+
+unfit-told : (start : Start) (weights : List Float) (f : CarriedFamily) → (start ≡ Trials) × ((f ≡ Binomial → ⊥) ⊎ SomeBelow weights) → startFits start weights f ≡ false
+unfolding startFits noneBelow
+unfit-told Usual weights f h = absurd (ff (ap isTrials (h .0)))
+unfit-told Trials weights Binomial h =
+    ⊎-elim (λ (n : Binomial ≡ Binomial → ⊥). absurd (n refl)) (λ (w : SomeBelow weights). sym (all-fails (notBelowAt weights) (length weights) (w .0) (w .1 .0) (ap not (w .1 .1)))) (h .1)
+unfit-told Trials weights Poisson h = refl
+unfit-told Trials weights Gaussian h = refl
+unfit-told Trials weights Gamma h = refl
+
+-- 27: trial counts are asked for, and the family is not binomial or some weight is below 0
+pub unfit-exactly : (start : Start) (weights : List Float) (f : CarriedFamily) → (startFits start weights f ≡ false) ↔ ((start ≡ Trials) × ((f ≡ Binomial → ⊥) ⊎ SomeBelow weights))
+unfit-exactly start weights f = (unfit-meant start weights f, unfit-told start weights f)

@@ -1,8 +1,8 @@
 -- Each test of the table as facts, and back. Assumes nothing.
-use mathlib.Core.Path.{_≡_, refl, sym}
+use mathlib.Core.Path.{_≡_, refl, sym, ap}
 use mathlib.Core.List.{List}
 use mathlib.Core.Logic.{_⊎_, inl, inr, ⊎-elim}
-use mathlib.Core.Bool.{Bool, true, false, _||_}
+use mathlib.Core.Bool.{Bool, true, false, not, _||_}
 use Prim.Native.Nat.{ℕ, _+_, _*_, _≤_}
 use native.Mathlib.Nat.{mul-le-mul}
 use lib.Dec.{leb, eqb}
@@ -10,18 +10,22 @@ use lib.ListN.{length}
 use lib.Ieee.{Float}
 use borrow.Author.Tests.{leb-true, le-leb, eqb-true, eq-eqb}
 use Rattle.base.specs.Sum.{finiteAt}
+use Rattle.base.proofs.Doubles.{ff}
 use Rattle.base.proofs.Sums.{all-at}
 use Rattle.model.specs.Shape.{thetaLength}
+use Rattle.model.specs.declared.names.Start.{Start}
+use Rattle.model.specs.declared.names.Start.the-variants.{Usual, Trials}
 use Rattle.model.specs.declared.sizes.Shape.{Shape}
 use Rattle.model.specs.declared.sizes.Settings.{Settings}
 use Rattle.model.proofs.Tests.{both, false-unless}
 use Rattle.family.specs.declared.carried.CarriedFamily.{CarriedFamily}
+use Rattle.family.specs.declared.carried.CarriedFamily.the-variants.{Binomial, Poisson, Gaussian, Gamma}
 use Rattle.layout.specs.WorkRows.{rowsLength}
 use Rattle.layout.specs.WorkMatrices.{matricesLength}
 use Rattle.layout.specs.WorkTerms.{termsLength}
-use Rattle.table.specs.Tests.{absentOr, goodInputs, goodResults, goodWork, allFinite, finiteNumbers, goodNumbers, inRangeAt, allInRange}
+use Rattle.table.specs.Tests.{absentOr, goodInputs, goodResults, goodWork, allFinite, finiteNumbers, goodNumbers, inRangeAt, allInRange, notBelowAt, noneBelow, startFits}
 use Rattle.model.specs.Inputs.{Inputs}
-use Rattle.table.specs.Facts.{AbsentOr, InputsFit, ResultsFit, WorkFits, AllFinite, AllInRange, NumbersFinite}
+use Rattle.table.specs.Facts.{AbsentOr, InputsFit, ResultsFit, WorkFits, AllFinite, AllInRange, NoneBelow, StartFits, NumbersFinite}
 use Rattle.table.specs.declared.verdicts.LentLengths.{LentLengths}
 
 -- ---- lists that may be absent
@@ -133,6 +137,35 @@ work-when t L a b = rw (le-leb (rowsLength (t .n)) (L .rows) a, le-leb (matrices
 pub list-in-range : (f : CarriedFamily) (y : List Float) → allInRange y f ≡ true → AllInRange f y
 unfolding allInRange
 list-in-range f y e = all-at (inRangeAt f y) (length y) (sym e)
+
+-- ---- number 27
+-- the start is the one with trial counts
+abbrev pub isTrials : Start → Bool
+isTrials Usual = false
+isTrials Trials = true
+
+-- the family is binomial
+abbrev pub isBinomial : CarriedFamily → Bool
+isBinomial Binomial = true
+isBinomial Poisson = false
+isBinomial Gaussian = false
+isBinomial Gamma = false
+
+not-below : {b : Bool} → not b ≡ true → b ≡ false
+not-below {b = true} e = absurd (ff e)
+not-below {b = false} e = refl
+
+list-none-below : (weights : List Float) → noneBelow weights ≡ true → NoneBelow weights
+unfolding noneBelow
+list-none-below weights e = λ i l. not-below (all-at (notBelowAt weights) (length weights) (sym e) i l)
+
+pub start-fits : (start : Start) (weights : List Float) (f : CarriedFamily) → startFits start weights f ≡ true → StartFits start weights f
+unfolding startFits
+start-fits Usual weights f e = λ s. absurd (ff (ap isTrials s))
+start-fits Trials weights Binomial e = λ s. (refl, list-none-below weights e)
+start-fits Trials weights Poisson e = absurd (ff e)
+start-fits Trials weights Gaussian e = absurd (ff e)
+start-fits Trials weights Gamma e = absurd (ff e)
 
 -- ---- number 3
 finite-list : (xs : List Float) → allFinite xs ≡ true → AllFinite xs

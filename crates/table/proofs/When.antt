@@ -12,20 +12,20 @@ use Rattle.model.specs.declared.names.Link.the-variants.{Probit}
 use Rattle.model.specs.declared.sizes.Shape.{Shape}
 use Rattle.model.specs.declared.sizes.Settings.{Settings}
 use Rattle.model.specs.declared.ends.Refusal.{Refusal}
-use Rattle.model.specs.declared.ends.Refusal.the-variants.{OutOfRange, Lengths, Work, SparseRows, NotFinite, LinkForFamily, NotCarried, ResponseRange}
+use Rattle.model.specs.declared.ends.Refusal.the-variants.{OutOfRange, Lengths, Work, SparseRows, NotFinite, LinkForFamily, NotCarried, ResponseRange, StartFit}
 use Rattle.family.specs.Carried.{carriedFamily, carriedLink, validFor}
 use Rattle.family.specs.declared.carried.CarriedFamily.{CarriedFamily}
 use Rattle.family.specs.declared.carried.CarriedLink.{CarriedLink}
 use Rattle.family.specs.declared.carried.LinkCarried.{LinkCarried}
 use Rattle.family.specs.declared.carried.LinkCarried.the-variants as linkCarried
 use Rattle.family.proofs.ValidPairs.{only-probit, probit-for-binomial}
-use Rattle.table.specs.Tests.{goodInputs, goodResults, goodWork, goodNumbers, allInRange}
-use Rattle.table.specs.Table.{refuseUnless, carriedPair, rangeTested, tableOf}
-use Rattle.table.specs.When.{PastLink, PastCarried, GivenWhen, AcceptedWhen, SomeAccepted}
+use Rattle.table.specs.Tests.{goodInputs, goodResults, goodWork, goodNumbers, allInRange, startFits}
+use Rattle.table.specs.Table.{refuseUnless, carriedPair, tested, tableOf}
+use Rattle.table.specs.When.{PastLink, PastCarried, PastRange, GivenWhen, AcceptedWhen, SomeAccepted}
 use Rattle.table.specs.declared.verdicts.LentLengths.{LentLengths}
 use Rattle.table.specs.declared.verdicts.Verdict.{Verdict}
 use Rattle.table.specs.declared.verdicts.Verdict.the-variants.{Accepted, Refused}
-use Rattle.table.proofs.Accepting.{isAccepted, no-link, both-carried, out-of-range, in-range, range-after, range-passed, last-line}
+use Rattle.table.proofs.Accepting.{isAccepted, no-link, both-carried, test-fails, test-holds, earlier-stays, test-passed, last-line}
 
 -- the refusal of a refusing verdict, x of any other
 abbrev refusalIn : Refusal → Verdict → Refusal
@@ -39,12 +39,22 @@ by-said false f g = g refl
 
 module _ (r : ℕ) (t : Settings) (s : Shape) (I : Inputs) (L : LentLengths) where
   -- ---- when a line says so, the table gives it
-  past-all : PastLink r t s I L → tableOf r t s I L ≡ rangeTested (I .y) (carriedPair (t .family) (t .link))
+  -- the last two lines, after a verdict
+  abbrev ranged : Verdict → Verdict
+  ranged v = tested (allInRange (I .y)) ResponseRange v
+
+  abbrev started : Verdict → Verdict
+  started v = tested (startFits (t .start) (I .weights)) StartFit v
+
+  past-all : PastLink r t s I L → tableOf r t s I L ≡ started (ranged (carriedPair (t .family) (t .link)))
   unfolding tableOf refuseUnless
   past-all p = rw (p .0 .0 .0 .0 .0, p .0 .0 .0 .0 .1, p .0 .0 .0 .1, p .0 .0 .1, p .0 .1, p .1) refl
 
-  past-carried : (f : CarriedFamily) (l : CarriedLink) → PastCarried r t s I L f l → tableOf r t s I L ≡ rangeTested (I .y) (Accepted f l)
-  past-carried f l p = past-all (p .0) ∙ ap (rangeTested (I .y)) (both-carried (t .family) (t .link) f l (p .1 .0) (p .1 .1))
+  past-carried : (f : CarriedFamily) (l : CarriedLink) → PastCarried r t s I L f l → tableOf r t s I L ≡ started (ranged (Accepted f l))
+  past-carried f l p = past-all (p .0) ∙ ap (λ (v : Verdict). started (ranged v)) (both-carried (t .family) (t .link) f l (p .1 .0) (p .1 .1))
+
+  past-range : (f : CarriedFamily) (l : CarriedLink) → PastRange r t s I L f l → tableOf r t s I L ≡ started (Accepted f l)
+  past-range f l p = past-carried f l (p .0) ∙ ap started (test-holds (allInRange (I .y)) ResponseRange f l (p .1))
 
   given : (x : Refusal) → GivenWhen r t s I L x → tableOf r t s I L ≡ Refused x
   unfolding GivenWhen tableOf refuseUnless
@@ -54,11 +64,15 @@ module _ (r : ℕ) (t : Settings) (s : Shape) (I : Inputs) (L : LentLengths) whe
   given SparseRows a = rw (a .0 .0 .0, a .0 .0 .1, a .0 .1, a .1) refl
   given NotFinite a = rw (a .0 .0 .0 .0, a .0 .0 .0 .1, a .0 .0 .1, a .0 .1, a .1) refl
   given LinkForFamily a = rw (a .0 .0 .0 .0 .0, a .0 .0 .0 .0 .1, a .0 .0 .0 .1, a .0 .0 .1, a .0 .1, a .1) refl
-  given NotCarried a = past-all (a .0) ∙ ap (rangeTested (I .y)) (no-link (t .family) (t .link) (a .1)) ∙ range-after (I .y) NotCarried
-  given ResponseRange (f, l, a) = past-carried f l (a .0) ∙ out-of-range (I .y) f l (a .1)
+  given NotCarried a =
+      past-all (a .0) ∙ ap (λ (v : Verdict). started (ranged v)) (no-link (t .family) (t .link) (a .1)) ∙ ap started (earlier-stays (allInRange (I .y)) ResponseRange NotCarried)
+      ∙ earlier-stays (startFits (t .start) (I .weights)) StartFit NotCarried
+  given ResponseRange (f, l, a) =
+      past-carried f l (a .0) ∙ ap started (test-fails (allInRange (I .y)) ResponseRange f l (a .1)) ∙ earlier-stays (startFits (t .start) (I .weights)) StartFit ResponseRange
+  given StartFit (f, l, a) = past-range f l (a .0) ∙ test-fails (startFits (t .start) (I .weights)) StartFit f l (a .1)
 
   accepted : (f : CarriedFamily) (l : CarriedLink) → AcceptedWhen r t s I L f l → tableOf r t s I L ≡ Accepted f l
-  accepted f l a = past-carried f l (a .0) ∙ in-range (I .y) f l (a .1)
+  accepted f l a = past-range f l (a .0) ∙ test-holds (startFits (t .start) (I .weights)) StartFit f l (a .1)
 
   -- ---- some line does
   abbrev pub Decided : Type 0
@@ -68,7 +82,11 @@ module _ (r : ℕ) (t : Settings) (s : Shape) (I : Inputs) (L : LentLengths) whe
   unfolding GivenWhen
   carried p (linkCarried.Carried l) b =
       let f = carriedFamily (t .family) in
-      by-said (allInRange (I .y) f) (λ g. inr (f, l, ((p, (refl, b)), g))) (λ g. inl (ResponseRange, (f, l, ((p, (refl, b)), g))))
+      by-said (allInRange (I .y) f)
+      (λ g. by-said (startFits (t .start) (I .weights) f)
+      (λ h. inr (f, l, (((p, (refl, b)), g), h)))
+      (λ h. inl (StartFit, (f, l, (((p, (refl, b)), g), h)))))
+      (λ g. inl (ResponseRange, (f, l, ((p, (refl, b)), g))))
   carried p linkCarried.NotYet b = inl (NotCarried, (p, b))
 
   pub decided : Decided
@@ -105,7 +123,7 @@ module _ (r : ℕ) (t : Settings) (s : Shape) (I : Inputs) (L : LentLengths) whe
     λ e.
         ⊎-elim
         (λ (d : (y : Refusal) × GivenWhen r t s I L y). absurd (ff (ap isAccepted (sym (given (d .0) (d .1)) ∙ e))))
-        (λ (d : SomeAccepted r t s I L). let p = d .2 .0 .0 in let o = range-passed (I .y) _ f l (sym (past-all p) ∙ e) in ((p, last-line (carriedFamily (t .family)) (carriedLink (t .link)) f l (o .0)), o .1))
+        (λ (d : SomeAccepted r t s I L). let p = d .2 .0 .0 .0 in let w = test-passed (startFits (t .start) (I .weights)) StartFit _ f l (sym (past-all p) ∙ e) in let o = test-passed (allInRange (I .y)) ResponseRange _ f l (w .0) in (((p, last-line (carriedFamily (t .family)) (carriedLink (t .link)) f l (o .0)), o .1), w .1))
         decided,
     accepted f l,
   )

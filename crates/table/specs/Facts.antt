@@ -2,15 +2,17 @@
 use mathlib.Core.Path.{_≡_}
 use mathlib.Core.List.{List}
 use mathlib.Core.Logic.{_⊎_}
-use mathlib.Core.Bool.{true}
+use mathlib.Core.Bool.{true, false}
 use Prim.Native.Nat.{ℕ, _+_, _*_, _≤_, _<_}
 use lib.ListN.{length}
-use lib.Ieee.{Float}
-use Rattle.base.specs.Number.{finite}
+use lib.Ieee.{Float, lt}
+use Rattle.base.specs.Number.{zeroF, finite}
 use Rattle.base.specs.Sum.{_!_, _!!_}
 use Rattle.base.specs.Sparse.{Rising, Rows}
 use Rattle.model.specs.Shape.{thetaLength}
 use Rattle.model.specs.Settings.{Sized}
+use Rattle.model.specs.declared.names.Start.{Start}
+use Rattle.model.specs.declared.names.Start.the-variants.{Trials}
 use Rattle.model.specs.declared.sizes.Shape.{Shape}
 use Rattle.model.specs.declared.sizes.Settings.{Settings}
 use Rattle.layout.specs.WorkRows.{rowsLength}
@@ -19,6 +21,7 @@ use Rattle.layout.specs.WorkTerms.{termsLength}
 use Rattle.family.specs.Family.{inRange}
 use Rattle.family.specs.Carried.{carriedFamily, carriedLink, validFor}
 use Rattle.family.specs.declared.carried.CarriedFamily.{CarriedFamily}
+use Rattle.family.specs.declared.carried.CarriedFamily.the-variants.{Binomial}
 use Rattle.family.specs.declared.carried.CarriedLink.{CarriedLink}
 use Rattle.family.specs.declared.carried.LinkCarried.the-variants as linkCarried
 use Rattle.model.specs.Inputs.{Inputs}
@@ -71,6 +74,14 @@ AllFinite xs = (i : ℕ) → i < length xs → finite (xs ! i) ≡ true
 abbrev pub AllInRange : CarriedFamily → List Float → Type 0
 AllInRange f y = (i : ℕ) → i < length y → inRange f (y ! i) ≡ true
 
+-- no weight is below 0
+abbrev pub NoneBelow : List Float → Type 0
+NoneBelow weights = (i : ℕ) → i < length weights → lt (weights ! i) zeroF ≡ false
+
+-- with trial counts the family is binomial, and no weight is below 0
+abbrev pub StartFits : Start → List Float → CarriedFamily → Type 0
+StartFits start weights f = start ≡ Trials → (f ≡ Binomial) × NoneBelow weights
+
 -- every input number is finite
 pub record NumbersFinite (I : Inputs) : Type 0 where
   pub theta : AllFinite (I .theta)
@@ -92,3 +103,4 @@ pub record Sound (r : ℕ) (t : Settings) (s : Shape) (I : Inputs) (L : LentLeng
   pub family : carriedFamily (t .family) ≡ f
   pub link : carriedLink (t .link) ≡ linkCarried.Carried l
   pub ranged : AllInRange f (I .y)
+  pub started : StartFits (t .start) (I .weights) f

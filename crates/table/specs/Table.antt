@@ -1,8 +1,6 @@
--- The table of refusals, in its order: 1, 2, 7, 6, 3, 4, 5, 9. Document 01, "Numbers of an answer"; document 02, P2: 5 means probit only, and P6: 9. Assumes nothing.
+-- The table of refusals, in its order: 1, 2, 7, 6, 3, 4, 5, 9, 27. Document 01, "Numbers of an answer"; document 02, P2: 5 means probit only, P6: 9, and P10: 27. Assumes nothing.
 use mathlib.Core.Bool.{Bool, true, false, _&&_}
-use mathlib.Core.List.{List}
 use Prim.Native.Nat.{ℕ}
-use lib.Ieee.{Float}
 use Rattle.base.specs.Sparse.{goodRows}
 use Rattle.model.specs.Settings.{goodSizes}
 use Rattle.model.specs.declared.names.Family.{Family}
@@ -10,12 +8,12 @@ use Rattle.model.specs.declared.names.Link.{Link}
 use Rattle.model.specs.declared.sizes.Shape.{Shape}
 use Rattle.model.specs.declared.sizes.Settings.{Settings}
 use Rattle.model.specs.declared.ends.Refusal.{Refusal}
-use Rattle.model.specs.declared.ends.Refusal.the-variants.{OutOfRange, Lengths, Work, SparseRows, NotFinite, LinkForFamily, NotCarried, ResponseRange}
+use Rattle.model.specs.declared.ends.Refusal.the-variants.{OutOfRange, Lengths, Work, SparseRows, NotFinite, LinkForFamily, NotCarried, ResponseRange, StartFit}
 use Rattle.family.specs.Carried.{carriedFamily, carriedLink, validFor}
 use Rattle.family.specs.declared.carried.CarriedFamily.{CarriedFamily}
 use Rattle.family.specs.declared.carried.LinkCarried.{LinkCarried}
 use Rattle.family.specs.declared.carried.LinkCarried.the-variants as linkCarried
-use Rattle.table.specs.Tests.{goodInputs, goodResults, goodWork, goodNumbers, allInRange}
+use Rattle.table.specs.Tests.{goodInputs, goodResults, goodWork, goodNumbers, allInRange, startFits}
 use Rattle.model.specs.Inputs.{Inputs}
 use Rattle.table.specs.declared.verdicts.LentLengths.{LentLengths}
 use Rattle.table.specs.declared.verdicts.Verdict.{Verdict}
@@ -35,10 +33,10 @@ withLink f linkCarried.NotYet = Refused NotCarried
 unfoldable pub carriedPair : Family → Link → Verdict
 carriedPair family link = withLink (carriedFamily family) (carriedLink link)
 
--- the last line, number 9: it asks of the responses what their family asks, so that the lines before it decide first
-unfoldable pub rangeTested : List Float → Verdict → Verdict
-rangeTested y (Accepted f l) = refuseUnless (allInRange y f) ResponseRange (Accepted f l)
-rangeTested y (Refused earlier) = Refused earlier
+-- one of the last lines, 9 and 27: what it asks hangs on the family, so that the lines before it decide first
+unfoldable pub tested : (CarriedFamily → Bool) → Refusal → Verdict → Verdict
+tested fits refusal (Accepted f l) = refuseUnless (fits f) refusal (Accepted f l)
+tested fits refusal (Refused earlier) = Refused earlier
 
 -- the table, for r responses on one design
 unfoldable pub tableOf : ℕ → Settings → Shape → Inputs → LentLengths → Verdict
@@ -49,4 +47,4 @@ tableOf r t s I L =
     (refuseUnless (goodRows (I .starts) (I .columns) (t .rows) (t .n)) SparseRows
     (refuseUnless (goodNumbers I) NotFinite
     (refuseUnless (validFor (t .link) (t .family)) LinkForFamily
-    (rangeTested (I .y) (carriedPair (t .family) (t .link))))))))
+    (tested (startFits (t .start) (I .weights)) StartFit (tested (allInRange (I .y)) ResponseRange (carriedPair (t .family) (t .link)))))))))

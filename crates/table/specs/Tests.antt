@@ -1,13 +1,16 @@
--- The tests of the table, but that of the sizes (number 1, `goodSizes` of model) and that of Z' (number 6, `goodRows` of base). Document 01, "Numbers of an answer" and "What the port carries"; document 02, P6. Assumes nothing.
+-- The tests of the table, but that of the sizes (number 1, `goodSizes` of model) and that of Z' (number 6, `goodRows` of base). Document 01, "Numbers of an answer" and "What the port carries"; document 02, P6 and P10. Assumes nothing.
 use mathlib.Core.List.{List}
-use mathlib.Core.Bool.{Bool, _&&_, _||_}
+use mathlib.Core.Bool.{Bool, true, false, not, _&&_, _||_}
 use Prim.Native.Nat.{ℕ, _+_, _*_}
 use lib.Dec.{leb, eqb}
 use lib.ListN.{length}
-use lib.Ieee.{Float}
+use lib.Ieee.{Float, lt}
+use Rattle.base.specs.Number.{zeroF}
 use Rattle.base.specs.Sum.{_!_, allTo, finiteAt}
 use Rattle.model.specs.Inputs.{Inputs}
 use Rattle.model.specs.Shape.{thetaLength}
+use Rattle.model.specs.declared.names.Start.{Start}
+use Rattle.model.specs.declared.names.Start.the-variants.{Usual, Trials}
 use Rattle.model.specs.declared.sizes.Shape.{Shape}
 use Rattle.model.specs.declared.sizes.Settings.{Settings}
 use Rattle.layout.specs.WorkRows.{rowsLength}
@@ -15,6 +18,7 @@ use Rattle.layout.specs.WorkMatrices.{matricesLength}
 use Rattle.layout.specs.WorkTerms.{termsLength}
 use Rattle.family.specs.Family.{inRange}
 use Rattle.family.specs.declared.carried.CarriedFamily.{CarriedFamily}
+use Rattle.family.specs.declared.carried.CarriedFamily.the-variants.{Binomial, Poisson, Gaussian, Gamma}
 use Rattle.table.specs.declared.verdicts.LentLengths.{LentLengths}
 
 -- ---- number 2, with r responses on one design
@@ -64,3 +68,21 @@ inRangeAt f y i = inRange f (y ! i)
 -- every response does
 unfoldable pub allInRange : List Float → CarriedFamily → Bool
 allInRange y f = allTo (length y) (inRangeAt f y)
+
+-- ---- number 27 (document 02, P10)
+
+-- weight i is not below 0; -0.0 is not
+abbrev pub notBelowAt : List Float → ℕ → Bool
+notBelowAt weights i = not (lt (weights ! i) zeroF)
+
+-- no weight is below 0
+unfoldable pub noneBelow : List Float → Bool
+noneBelow weights = allTo (length weights) (notBelowAt weights)
+
+-- the start with trial counts is for the binomial family, and for weights that can be counts; the usual start is for all
+unfoldable pub startFits : Start → List Float → CarriedFamily → Bool
+startFits Usual weights f = true
+startFits Trials weights Binomial = noneBelow weights
+startFits Trials weights Poisson = false
+startFits Trials weights Gaussian = false
+startFits Trials weights Gamma = false

@@ -1,4 +1,4 @@
--- When each number of the table is given: its own test fails and every test before it is passed. Document 01, "Numbers of an answer"; document 02, P6. Assumes nothing.
+-- When each number of the table is given: its own test fails and every test before it is passed. Document 01, "Numbers of an answer"; document 02, P6 and P10. Assumes nothing.
 use mathlib.Core.Path.{_≡_}
 use mathlib.Core.Bool.{true, false, _&&_}
 use Prim.Native.Nat.{ℕ}
@@ -8,12 +8,12 @@ use Rattle.model.specs.Settings.{goodSizes}
 use Rattle.model.specs.declared.sizes.Shape.{Shape}
 use Rattle.model.specs.declared.sizes.Settings.{Settings}
 use Rattle.model.specs.declared.ends.Refusal.{Refusal}
-use Rattle.model.specs.declared.ends.Refusal.the-variants.{OutOfRange, Lengths, Work, SparseRows, NotFinite, LinkForFamily, NotCarried, ResponseRange}
+use Rattle.model.specs.declared.ends.Refusal.the-variants.{OutOfRange, Lengths, Work, SparseRows, NotFinite, LinkForFamily, NotCarried, ResponseRange, StartFit}
 use Rattle.family.specs.Carried.{carriedFamily, carriedLink, validFor}
 use Rattle.family.specs.declared.carried.CarriedFamily.{CarriedFamily}
 use Rattle.family.specs.declared.carried.CarriedLink.{CarriedLink}
 use Rattle.family.specs.declared.carried.LinkCarried.the-variants as linkCarried
-use Rattle.table.specs.Tests.{goodInputs, goodResults, goodWork, goodNumbers, allInRange}
+use Rattle.table.specs.Tests.{goodInputs, goodResults, goodWork, goodNumbers, allInRange, startFits}
 use Rattle.table.specs.declared.verdicts.LentLengths.{LentLengths}
 
 module _ (r : ℕ) (t : Settings) (s : Shape) (I : Inputs) (L : LentLengths) where
@@ -41,6 +41,10 @@ module _ (r : ℕ) (t : Settings) (s : Shape) (I : Inputs) (L : LentLengths) whe
   abbrev pub PastCarried : CarriedFamily → CarriedLink → Type 0
   PastCarried f l = PastLink × ((carriedFamily (t .family) ≡ f) × (carriedLink (t .link) ≡ linkCarried.Carried l))
 
+  -- and that of 9
+  abbrev pub PastRange : CarriedFamily → CarriedLink → Type 0
+  PastRange f l = PastCarried f l × (allInRange (I .y) f ≡ true)
+
   -- when a refusal is given
   unfoldable pub GivenWhen : Refusal → Type 0
   GivenWhen OutOfRange = goodSizes t s ≡ false
@@ -51,10 +55,11 @@ module _ (r : ℕ) (t : Settings) (s : Shape) (I : Inputs) (L : LentLengths) whe
   GivenWhen LinkForFamily = PastNumbers × (validFor (t .link) (t .family) ≡ false)
   GivenWhen NotCarried = PastLink × (carriedLink (t .link) ≡ linkCarried.NotYet)
   GivenWhen ResponseRange = (f : CarriedFamily) × (l : CarriedLink) × (PastCarried f l × (allInRange (I .y) f ≡ false))
+  GivenWhen StartFit = (f : CarriedFamily) × (l : CarriedLink) × (PastRange f l × (startFits (t .start) (I .weights) f ≡ false))
 
   -- when a call is accepted with the formulas of f and l: every test is passed
   abbrev pub AcceptedWhen : CarriedFamily → CarriedLink → Type 0
-  AcceptedWhen f l = PastCarried f l × (allInRange (I .y) f ≡ true)
+  AcceptedWhen f l = PastRange f l × (startFits (t .start) (I .weights) f ≡ true)
 
   -- when it is accepted
   abbrev pub SomeAccepted : Type 0

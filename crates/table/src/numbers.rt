@@ -1,8 +1,9 @@
 // The tests of the numbers.
 use base::all_finite;
 use family::CarriedFamily;
+use model::Start;
 ghost use mathlib.Core.Path.{_≡_};
-ghost use Rattle.table.specs.Tests.{allFinite, finiteNumbers, allInRange};
+ghost use Rattle.table.specs.Tests.{allFinite, finiteNumbers, allInRange, noneBelow, startFits};
 
 // Whether every number of a list is finite.
 fn list_ok(xs: &[f64]) -> bool
@@ -53,4 +54,33 @@ pub fn responses_ok(family: CarriedFamily, y: &[f64]) -> bool
         i += 1;
     }
     true
+}
+
+// Whether no weight is below 0.
+fn weights_ok(weights: &[f64]) -> bool
+    ensures { λ r. ⌜ r ≡ noneBelow (now (weights .entry)) ⌝ }
+{
+    let mut i = 0;
+    while i < weights.len() {
+        if weights[i] < 0.0 {
+            return false;
+        }
+        i += 1;
+    }
+    true
+}
+
+// Whether the start goes with the family and the weights.
+pub fn start_ok(start: Start, family: CarriedFamily, weights: &[f64]) -> bool
+    ensures { λ r. ⌜ r ≡ startFits start (now (weights .entry)) family ⌝ }
+{
+    match start {
+        Start::Usual => true,
+        Start::Trials => match family {
+            CarriedFamily::Binomial => weights_ok(weights),
+            CarriedFamily::Poisson => false,
+            CarriedFamily::Gaussian => false,
+            CarriedFamily::Gamma => false,
+        },
+    }
 }

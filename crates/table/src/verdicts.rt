@@ -4,6 +4,7 @@ use crate::lengths::results_ok;
 use crate::lengths::work_ok;
 use crate::numbers::numbers_ok;
 use crate::numbers::responses_ok;
+use crate::numbers::start_ok;
 use family::CarriedFamily;
 use family::CarriedLink;
 use family::LinkCarried;
@@ -12,9 +13,12 @@ use model::Link;
 use model::Refusal;
 use model::Settings;
 use model::Shape;
+use model::Start;
 ghost use mathlib.Core.Path.{_≡_};
 ghost use Rattle.model.specs.Inputs.{inputs};
-ghost use Rattle.table.specs.Table.{carriedPair, rangeTested, tableOf};
+ghost use Rattle.model.specs.declared.ends.Refusal.the-variants.{ResponseRange, StartFit};
+ghost use Rattle.table.specs.Tests.{allInRange, startFits};
+ghost use Rattle.table.specs.Table.{carriedPair, tested, tableOf};
 
 // How long the lent results and the lent work slices are.
 pub struct LentLengths {
@@ -48,15 +52,30 @@ fn carried_pair(family: Family, link: Link) -> Verdict
     Verdict::Accepted(family::carried_family(family), l)
 }
 
-// The last line of the table: the range is that of a family whose formulas are carried.
+// The line before the last: the range is that of a family whose formulas are carried.
 fn range_tested(verdict: Verdict, y: &[f64]) -> Verdict
-    ensures { λ r. ⌜ r ≡ rangeTested (now (y .entry)) verdict ⌝ }
+    ensures { λ r. ⌜ r ≡ tested (allInRange (now (y .entry))) ResponseRange verdict ⌝ }
 {
     match verdict {
         Verdict::Refused(refusal) => Verdict::Refused(refusal),
         Verdict::Accepted(f, l) => {
             if !responses_ok(f, y) {
                 return Verdict::Refused(Refusal::ResponseRange);
+            }
+            Verdict::Accepted(f, l)
+        }
+    }
+}
+
+// The last line of the table: whether the start asked for goes with the family and the weights.
+fn start_tested(verdict: Verdict, start: Start, weights: &[f64]) -> Verdict
+    ensures { λ r. ⌜ r ≡ tested (startFits start (now (weights .entry))) StartFit verdict ⌝ }
+{
+    match verdict {
+        Verdict::Refused(refusal) => Verdict::Refused(refusal),
+        Verdict::Accepted(f, l) => {
+            if !start_ok(start, f, weights) {
+                return Verdict::Refused(Refusal::StartFit);
             }
             Verdict::Accepted(f, l)
         }
@@ -118,5 +137,7 @@ pub fn verdict_of(
     if !family::valid_for(link, family) {
         return Verdict::Refused(Refusal::LinkForFamily);
     }
-    range_tested(carried_pair(family, link), y)
+    let ranged = range_tested(carried_pair(family, link), y);
+    let start = settings.start;
+    start_tested(ranged, start, weights)
 }

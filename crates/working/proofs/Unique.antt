@@ -8,6 +8,7 @@ use Rattle.base.specs.List.{build, fillTo, fillAt}
 use Rattle.base.specs.Rows.{row, Wrote}
 use Rattle.base.proofs.Unique.{one-value}
 use Rattle.base.proofs.Rows.{wrote-unique}
+use Rattle.model.specs.declared.names.Start.{Start}
 use Rattle.family.specs.declared.carried.CarriedFamily.{CarriedFamily}
 use Rattle.family.specs.declared.carried.CarriedLink.{CarriedLink}
 use Rattle.family_lists.specs.Lists.{devAt}
@@ -36,8 +37,8 @@ pub raw-row-unique : (offset x : List Float) (p : ℕ) (beta : List Float) (n : 
 raw-row-unique offset x p beta n before s t d e = one-value d e
 
 -- `start_means`
-pub start-means-unique : (family : CarriedFamily) (y : List Float) (n : ℕ) (before s t : List Float) → s ≡ fillTo n (startMeanAt family y) before → t ≡ fillTo n (startMeanAt family y) before → s ≡ t
-start-means-unique family y n before s t d e = one-value d e
+pub start-means-unique : (start : Start) (family : CarriedFamily) (y weights : List Float) (n : ℕ) (before s t : List Float) → s ≡ fillTo n (startMeanAt start family y weights) before → t ≡ fillTo n (startMeanAt start family y weights) before → s ≡ t
+start-means-unique start family y weights n before s t d e = one-value d e
 
 -- `start_eta`
 pub start-eta-unique : (link : CarriedLink) (offset : List Float) (n muAt etaAt : ℕ) (before s t : List Float) → etaAt + n ≤ length before

@@ -4,22 +4,44 @@ use family::CarriedFamily;
 use family::CarriedLink;
 use family::initialize_mu;
 use family::link_fun;
+use family::trials_mean;
+use family_lists::weight_at;
+use model::Start;
 ghost use mathlib.Core.Path.{_≡_};
 ghost use Prim.Native.Nat.{_+_, _≤_};
 ghost use lib.ListN.{length};
 ghost use Rattle.base.specs.List.{build, fillTo};
 ghost use Rattle.base.specs.Rows.{row, Apart, Wrote};
-ghost use Rattle.rule.specs.Run.{startMeanAt, startEtaAt};
+ghost use Rattle.rule.specs.Run.{startMean, startMeanAt, startEtaAt};
 ghost use Rattle.working.specs.Optional.{Optional};
 
+// The mean that a response y with weight wt starts from. The family matters for the usual start alone.
+fn start_mean(start: Start, family: CarriedFamily, wt: f64, y: f64) -> f64
+    ensures { λ r. ⌜ r ≡ startMean start family wt y ⌝ }
+{
+    match start {
+        Start::Usual => initialize_mu(family, y),
+        Start::Trials => trials_mean(wt, y),
+    }
+}
+
 // The starting means into out.
-pub fn start_means(family: CarriedFamily, y: &[f64], n: usize, out: &mut [f64])
+pub fn start_means(
+    start: Start,
+    family: CarriedFamily,
+    y: &[f64],
+    weights: &[f64],
+    n: usize,
+    out: &mut [f64],
+)
     requires { ⌜ (n ≤ length (now y)) × (n ≤ length (now out)) ⌝ }
-    ensures { λ _. ⌜ now (out .exit) ≡ fillTo n (startMeanAt family (now (y .entry))) (now (out .entry)) ⌝ }
+    ensures { λ _. ⌜
+        now (out .exit) ≡ fillTo n (startMeanAt start family (now (y .entry)) (now (weights .entry))) (now (out .entry)) ⌝ }
 {
     let mut i = 0;
     while i < n {
-        out[i] = initialize_mu(family, y[i]);
+        let wt = weight_at(weights, i);
+        out[i] = start_mean(start, family, wt, y[i]);
         i += 1;
     }
 }

@@ -11,8 +11,8 @@ link-coded-requires c κs = search needs
 enum-known-link : tie.Need-enum-known-link
 enum-known-link c = search needs
 
-with-names-requires : tie.Need-with-names-requires
-with-names-requires c κs = search needs
+with-start-requires : tie.Need-with-start-requires
+with-start-requires c κs = search needs
 
 enum-told : tie.Need-enum-told
 enum-told c = search needs
@@ -22,11 +22,11 @@ without-name-requires c κs = search needs
 
 returns : tie.Need-returns
 unfolding withLink
-returns c = rw (sym (c .before .before .before .before .link-coded .ensures) ∙ c .before .before .link .given .1) (c .with-names .ensures)
+returns c = rw (sym (c .before .before .before .before .link-coded .ensures) ∙ c .before .before .link .given .1) (c .with-start .ensures)
 
 returns-2 : tie.Need-returns-2
 unfolding withLink
 returns-2 c = rw (sym (c .before .before .before .link-coded .ensures) ∙ c .before .enum-told .given .1) (c .without-name .ensures)
 
 pub with-link-spec : {M : Type 1} → statement M
-with-link-spec = tie.close (tie.spec link-coded-requires enum-known-link with-names-requires enum-told without-name-requires returns returns-2)
+with-link-spec = tie.close (tie.spec link-coded-requires enum-known-link with-start-requires enum-told without-name-requires returns returns-2)

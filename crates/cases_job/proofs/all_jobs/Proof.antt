@@ -1,14 +1,14 @@
--- `cases_job::all_jobs` ends: each turn counts one on towards 1000.
+-- `cases_job::all_jobs` ends: each turn counts one on towards 2000.
 use Prim.Native.Nat.{_≤_, _-_}
 use borrow.Author.Needs.{needs}
 use Rattle.cases_job.proofs.all_jobs.Statement.{statement}
 use Rattle.cases_job.proofs.all_jobs.Tie as tie
 
 abbrev Inv-loop : tie.InvT-loop
-Inv-loop i₀ i = i ≤ 1000
+Inv-loop i₀ i = i ≤ 2000
 
 abbrev μ-loop : tie.MeasureT-loop
-μ-loop i₀ i = 1000 - i
+μ-loop i₀ i = 2000 - i
 
 loop-holds : tie.Need-loop-holds Inv-loop μ-loop
 loop-holds c = search needs

@@ -1,5 +1,6 @@
 -- `report::put_answer` meets its contract: the number tells which text is written. Assumes nothing.
-use borrow.Author.Tests.{eq-eqb, ne-eqb, lt-ltb, le-ltb}
+use mathlib.Core.Path.{sym, _∙_}
+use borrow.Author.Tests.{eq-eqb, ne-eqb}
 use Rattle.report.specs.Report.{answerText}
 use borrow.Author.Needs.{needs}
 use Rattle.report.proofs.put_answer.Statement.{statement}
@@ -18,8 +19,11 @@ returns c =
     let start = if1 .before .before .before .before .before .before .before .before .before .before .before in
     rw (eq-eqb (start .args .answer .number) 0 (if1 .if1 .taken)) (c .before .before .put-fitted .ensures)
 
-refused-line-requires : tie.Need-refused-line-requires
-refused-line-requires c κs = search needs
+is-end-requires : tie.Need-is-end-requires
+is-end-requires c κs = search needs
+
+end-line-requires : tie.Need-end-line-requires
+end-line-requires c κs = search needs
 
 same-length-2 : tie.Need-same-length-2
 same-length-2 c = search needs
@@ -28,12 +32,14 @@ returns-2 : tie.Need-returns-2
 unfolding answerText
 returns-2 c =
     let if2 = c .before .before .before .before in
-    let if1 = if2 .before in
+    let is-end = if2 .before in
+    let if1 = is-end .before in
     let start = if1 .before .before .before .before .before .before .before .before .before .before .before in
-    let n = start .args .answer .number in rw (ne-eqb n 0 (if1 .if1 .left), lt-ltb n 10 (if2 .if2 .taken)) (c .before .before .refused-line .ensures)
+    let n = start .args .answer .number in
+    rw (ne-eqb n 0 (if1 .if1 .left), sym (is-end .is-end .ensures) ∙ if2 .if2 .taken) (c .before .before .end-line .ensures)
 
-end-line-requires : tie.Need-end-line-requires
-end-line-requires c κs = search needs
+refused-line-requires : tie.Need-refused-line-requires
+refused-line-requires c κs = search needs
 
 same-length-3 : tie.Need-same-length-3
 same-length-3 c = search needs
@@ -42,9 +48,11 @@ returns-3 : tie.Need-returns-3
 unfolding answerText
 returns-3 c =
     let if2 = c .before .before .before .before in
-    let if1 = if2 .before in
+    let is-end = if2 .before in
+    let if1 = is-end .before in
     let start = if1 .before .before .before .before .before .before .before .before .before .before .before in
-    let n = start .args .answer .number in rw (ne-eqb n 0 (if1 .if1 .left), le-ltb n 10 (if2 .if2 .left)) (c .before .before .end-line .ensures)
+    let n = start .args .answer .number in
+    rw (ne-eqb n 0 (if1 .if1 .left), sym (is-end .is-end .ensures) ∙ if2 .if2 .left) (c .before .before .refused-line .ensures)
 
 pub put-answer-spec : {M : Type 1} → statement M
 put-answer-spec =
@@ -53,9 +61,10 @@ put-answer-spec =
     put-fitted-requires
     same-length
     returns
-    refused-line-requires
+    is-end-requires
+    end-line-requires
     same-length-2
     returns-2
-    end-line-requires
+    refused-line-requires
     same-length-3
     returns-3)

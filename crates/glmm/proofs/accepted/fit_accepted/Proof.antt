@@ -93,19 +93,19 @@ same-length-10 : tie.Need-same-length-10
 same-length-10 c =
     let wipe-work = c .before .before .before .before .before .before .before in
     let fit-in = fit-in-of wipe-work in
-    wipe-work .wipe-work .kept .1 .1 .1 .0 ∙ fit-in .fit-in .kept .1 .1 .1 .1 .1 .1 .1 .1 .1 .1 .1 .1 .1 .1 .1 .1 .0
+    wipe-work .wipe-work .kept .1 .1 .1 .0 ∙ fit-in .fit-in .kept .1 .1 .1 .1 .1 .1 .1 .1 .1 .1 .1 .1 .1 .1 .1 .1 .1 .0
 
 same-length-11 : tie.Need-same-length-11
 same-length-11 c =
     let wipe-work = c .before .before .before .before .before .before .before in
     let fit-in = fit-in-of wipe-work in
-    wipe-work .wipe-work .kept .1 .1 .1 .1 .0 ∙ fit-in .fit-in .kept .1 .1 .1 .1 .1 .1 .1 .1 .1 .1 .1 .1 .1 .1 .1 .1 .1 .0
+    wipe-work .wipe-work .kept .1 .1 .1 .1 .0 ∙ fit-in .fit-in .kept .1 .1 .1 .1 .1 .1 .1 .1 .1 .1 .1 .1 .1 .1 .1 .1 .1 .1 .0
 
 same-length-12 : tie.Need-same-length-12
 same-length-12 c =
     let wipe-work = c .before .before .before .before .before .before .before in
     let fit-in = fit-in-of wipe-work in
-    wipe-work .wipe-work .kept .1 .1 .1 .1 .1 .0 ∙ fit-in .fit-in .kept .1 .1 .1 .1 .1 .1 .1 .1 .1 .1 .1 .1 .1 .1 .1 .1 .1 .1 .0
+    wipe-work .wipe-work .kept .1 .1 .1 .1 .1 .0 ∙ fit-in .fit-in .kept .1 .1 .1 .1 .1 .1 .1 .1 .1 .1 .1 .1 .1 .1 .1 .1 .1 .1 .1 .0
 
 returns : tie.Need-returns
 returns c =

@@ -1,123 +1,42 @@
--- `job::head_fault` meets its contract: each return is the first demand that fails. Assumes nothing.
-use mathlib.Core.Path.{ap}
-use native.Mathlib.Omega.{arith}
-use borrow.Author.Tests.{eq-eqb, ne-eqb, lt-ltb, le-ltb}
-use Rattle.job.specs.declared.head.Head.{Head}
-use Rattle.job.specs.Faults.{headFault, demand, _▹_}
-use Rattle.job.proofs.FaultLaws.{reach-yes, reach-no}
+-- `job::head_fault` meets its contract: the fault of the 48 bits comes first. Assumes nothing.
+use mathlib.Core.Bool.{true, false}
+use mathlib.Core.Path.{_≡_, sym, _∙_}
+use borrow.Author.Tests.{not-true, not-false}
+use borrow.Author.Needs.{needs}
+use Rattle.job.specs.Faults.{isSound, headFault}
+use Rattle.job.proofs.FaultLaws.{go, stop}
 use Rattle.job.proofs.faults.head_fault.Statement.{statement}
 use Rattle.job.proofs.faults.head_fault.Tie as tie
 
+common-fault-requires : tie.Need-common-fault-requires
+common-fault-requires c κs = search needs
+
+is-sound-requires : tie.Need-is-sound-requires
+is-sound-requires c κs = search needs
+
 returns : tie.Need-returns
-unfolding headFault _▹_
-returns c = rw (reach-no (c .before .args .s .now) 4 (omega arith))
+unfolding headFault
+returns c =
+    let f = c .before .before in
+    let e : isSound (f .common-fault .result) ≡ false = sym (c .before .is-sound .ensures) ∙ not-true _ (c .if1 .taken) in
+    f .common-fault .ensures ∙ sym (stop _ _ (rw (f .common-fault .ensures) at e))
+
+second-fault-requires : tie.Need-second-fault-requires
+second-fault-requires c κs = search needs
 
 returns-2 : tie.Need-returns-2
-unfolding headFault demand _▹_
+unfolding headFault
 returns-2 c =
-    let a = c .before .before .before in
-    let s = a .args .s .now in
-    rw (
-      reach-yes s 4 (omega arith),
-      ← ap (λ (h : Head). h .version) (a .pre .1),
-      ne-eqb _ 1 (c .if2 .taken),
-    )
-
-returns-3 : tie.Need-returns-3
-unfolding headFault demand _▹_
-returns-3 c =
-    let a = c .before .before .before .before in
-    let s = a .args .s .now in
-    rw (
-      reach-yes s 4 (omega arith),
-      ← ap (λ (h : Head). h .version) (a .pre .1),
-      eq-eqb _ 1 (c .before .if2 .left),
-      reach-no s 9 (omega arith),
-    )
-
-returns-4 : tie.Need-returns-4
-unfolding headFault demand _▹_
-returns-4 c =
-    let a = c .before .before .before .before .before .before in
-    let s = a .args .s .now in
-    rw (
-      reach-yes s 4 (omega arith),
-      ← ap (λ (h : Head). h .version) (a .pre .1),
-      eq-eqb _ 1 (c .before .before .before .if2 .left),
-      reach-yes s 9 (omega arith),
-      ← ap (λ (h : Head). h .link) (a .pre .1),
-      le-ltb _ 7 (c .if4 .taken),
-    )
-
-returns-5 : tie.Need-returns-5
-unfolding headFault demand _▹_
-returns-5 c =
-    let a = c .before .before .before .before .before .before .before in
-    let s = a .args .s .now in
-    rw (
-      reach-yes s 4 (omega arith),
-      ← ap (λ (h : Head). h .version) (a .pre .1),
-      eq-eqb _ 1 (c .before .before .before .before .if2 .left),
-      reach-yes s 9 (omega arith),
-      ← ap (λ (h : Head). h .link) (a .pre .1),
-      lt-ltb _ 7 (c .before .if4 .left),
-      reach-no s 48 (omega arith),
-    )
-
-returns-6 : tie.Need-returns-6
-unfolding headFault demand _▹_
-returns-6 c =
-    let a = c .before .before .before .before .before .before .before .before .before .before .before in
-    let s = a .args .s .now in
-    rw (
-      reach-yes s 4 (omega arith),
-      ← ap (λ (h : Head). h .version) (a .pre .1),
-      eq-eqb _ 1 (c .before .before .before .before .before .before .before .before .if2 .left),
-      reach-yes s 9 (omega arith),
-      ← ap (λ (h : Head). h .link) (a .pre .1),
-      lt-ltb _ 7 (c .before .before .before .before .before .if4 .left),
-      reach-yes s 48 (omega arith),
-      ← ap (λ (h : Head). h .limit) (a .pre .1),
-      lt-ltb 1000 _ (c .before .before .if6 .taken),
-      lt-ltb _ 1023 (c .if7 .taken),
-    )
-
-returns-7 : tie.Need-returns-7
-unfolding headFault demand _▹_
-returns-7 c =
-    let a = c .before .before .before .before .before .before .before .before .before .before .before in
-    let s = a .args .s .now in
-    rw (
-      reach-yes s 4 (omega arith),
-      ← ap (λ (h : Head). h .version) (a .pre .1),
-      eq-eqb _ 1 (c .before .before .before .before .before .before .before .before .if2 .left),
-      reach-yes s 9 (omega arith),
-      ← ap (λ (h : Head). h .link) (a .pre .1),
-      lt-ltb _ 7 (c .before .before .before .before .before .if4 .left),
-      reach-yes s 48 (omega arith),
-      ← ap (λ (h : Head). h .limit) (a .pre .1),
-      lt-ltb 1000 _ (c .before .before .if6 .taken),
-      le-ltb _ 1023 (c .if7 .left),
-    )
-
-returns-8 : tie.Need-returns-8
-unfolding headFault demand _▹_
-returns-8 c =
-    let a = c .before .before .before .before .before .before .before .before .before in
-    let s = a .args .s .now in
-    rw (
-      reach-yes s 4 (omega arith),
-      ← ap (λ (h : Head). h .version) (a .pre .1),
-      eq-eqb _ 1 (c .before .before .before .before .before .before .if2 .left),
-      reach-yes s 9 (omega arith),
-      ← ap (λ (h : Head). h .link) (a .pre .1),
-      lt-ltb _ 7 (c .before .before .before .if4 .left),
-      reach-yes s 48 (omega arith),
-      ← ap (λ (h : Head). h .limit) (a .pre .1),
-      le-ltb 1000 _ (c .if6 .left),
-    )
+    let f = c .before .before .before in
+    let e : isSound (f .common-fault .result) ≡ true = sym (c .before .before .is-sound .ensures) ∙ not-false _ (c .before .if1 .left) in
+    rw (go _ _ (rw (f .common-fault .ensures) at e)) (c .second-fault .ensures)
 
 pub head-fault-spec : {M : Type 1} → statement M
 head-fault-spec =
     tie.close
-    (tie.spec returns returns-2 returns-3 returns-4 returns-5 returns-6 returns-7 returns-8)
+    (tie.spec
+    common-fault-requires
+    is-sound-requires
+    returns
+    second-fault-requires
+    returns-2)

@@ -17,18 +17,22 @@ link-in-requires c κs = search needs
 limit-in-requires : tie.Need-limit-in-requires
 limit-in-requires c κs = search needs
 
+start-in-requires : tie.Need-start-in-requires
+start-in-requires c κs = search needs
+
 returns : tie.Need-returns
 unfolding headerOf jobOf settingsOf
 returns c =
-    let a = c .before .before .before .before in
+    let a = c .before .before .before .before .before in
     let s = a .args .s .now in
     rw (
       build-length (number s (thetaAt s)) (thetas s),
       build-length (number s (weightsAt s)) (weighted s * obs s),
       build-length (number s (offsetAt s)) (shifted s * obs s),
-      c .before .before .family-in .ensures,
-      c .before .link-in .ensures,
-      c .limit-in .ensures,
+      c .before .before .before .family-in .ensures,
+      c .before .before .link-in .ensures,
+      c .before .limit-in .ensures,
+      c .start-in .ensures,
       a .pre .0,
       a .pre .1,
       a .pre .2,
@@ -41,4 +45,5 @@ header-in-spec =
     family-in-requires
     link-in-requires
     limit-in-requires
+    start-in-requires
     returns)

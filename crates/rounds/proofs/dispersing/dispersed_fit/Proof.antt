@@ -4,6 +4,7 @@ use mathlib.Core.Path.{sym, _∙_}
 use native.Mathlib.Omega.{arith}
 use Rattle.stored.specs.Stored.{sparse}
 use Rattle.rule.specs.Given.{designOf, givenOf}
+use Rattle.rule.specs.Run.{startMeans}
 use Rattle.pirls.proofs.Fitted.{asked-kept}
 use Rattle.rounds.proofs.Going.{Going, begun, sums-fit, end-spent, end-settled, turn-on}
 use borrow.Author.Needs.{needs}
@@ -11,11 +12,12 @@ use Rattle.rounds.proofs.dispersing.dispersed_fit.Statement.{statement}
 use Rattle.rounds.proofs.dispersing.dispersed_fit.Tie as tie
 
 abbrev Inv-loop : tie.InvT-loop
-Inv-loop family link limit wish shape theta starts columns values offset x y weights n p q r₀ m₀ t₀ effective phi₀ account₀ k₀ r m t phi account k =
-    Going (givenOf family link y weights (designOf n p shape theta offset x (sparse starts columns values))) wish limit effective r₀ r m₀ m t₀ t phi account k
+Inv-loop family link limit wish start shape theta starts columns values offset x y weights n p q r₀ m₀ t₀ effective phi₀ account₀ k₀ r m t phi account k =
+    Going (givenOf family link y weights (designOf n p shape theta offset x (sparse starts columns values)))
+    (startMeans start (givenOf family link y weights (designOf n p shape theta offset x (sparse starts columns values)))) wish limit effective r₀ r m₀ m t₀ t phi account k
 
 abbrev μ-loop : tie.MeasureT-loop
-μ-loop family link limit wish shape theta starts columns values offset x y weights n p q r₀ m₀ t₀ effective phi₀ account₀ k₀ r m t phi account k = 240 - k
+μ-loop family link limit wish start shape theta starts columns values offset x y weights n p q r₀ m₀ t₀ effective phi₀ account₀ k₀ r m t phi account k = 240 - k
 
 effective-n-requires : tie.Need-effective-n-requires Inv-loop μ-loop
 effective-n-requires c κs = search needs
@@ -27,10 +29,11 @@ loop-holds : tie.Need-loop-holds Inv-loop μ-loop
 loop-holds c =
     let start = c .before .before .before .before .before .before .before .before .before .before .before .before .before in
     let args = start .args in
-    begun
-    (givenOf (args .family) (args .link) (args .y .now) (args .weights .now)
+    let given =
+    givenOf (args .family) (args .link) (args .y .now) (args .weights .now)
     (designOf (args .n) (args .p) (args .shape) (args .theta .now) (args .offset .now) (args .x .now)
-    (sparse (args .starts .now) (args .columns .now) (args .values .now)))) (args .wish) (args .limit) _ _ _ _ _ (c .none .ensures)
+    (sparse (args .starts .now) (args .columns .now) (args .values .now))) in
+    begun given (startMeans (args .start) given) (args .wish) (args .limit) _ _ _ _ _ (c .none .ensures)
 
 inner-at-requires : tie.Need-inner-at-requires Inv-loop μ-loop
 inner-at-requires c κs =
@@ -44,10 +47,11 @@ plus-requires c κs =
     let loop = inner-at .before .before .before .before .before in
     let start = loop .before .before .before .before .before .before .before .before .before .before .before .before .before .before in
     let args = start .args in
-    sums-fit
-    (givenOf (args .family) (args .link) (args .y .now) (args .weights .now)
+    let given =
+    givenOf (args .family) (args .link) (args .y .now) (args .weights .now)
     (designOf (args .n) (args .p) (args .shape) (args .theta .now) (args .offset .now) (args .x .now)
-    (sparse (args .starts .now) (args .columns .now) (args .values .now)))) (args .wish) (args .limit) _ _ _ _ _ _ _ _ _ _ _ _ _ (loop .loop .inv) _
+    (sparse (args .starts .now) (args .columns .now) (args .values .now))) in
+    sums-fit given (startMeans (args .start) given) (args .wish) (args .limit) _ _ _ _ _ _ _ _ _ _ _ _ _ (loop .loop .inv) _
     (inner-at .inner-at .ensures) (start .pre .0 .ready .good) (start .pre .1)
 
 round-after-requires : tie.Need-round-after-requires Inv-loop μ-loop
@@ -63,19 +67,19 @@ same-length : tie.Need-same-length Inv-loop μ-loop
 same-length c =
     let inner-at = c .before .before .before .before .before .before .before .before .before .before .before in
     let loop = inner-at .before .before .before .before .before in
-    inner-at .inner-at .kept .1 .1 .1 .1 .1 .1 .1 .1 .1 .1 .1 .1 .1 .1 .1 .1 .1 .0 ∙ loop .loop .inv .rows-only .len
+    inner-at .inner-at .kept .1 .1 .1 .1 .1 .1 .1 .1 .1 .1 .1 .1 .1 .1 .1 .1 .1 .1 .0 ∙ loop .loop .inv .rows-only .len
 
 same-length-2 : tie.Need-same-length-2 Inv-loop μ-loop
 same-length-2 c =
     let inner-at = c .before .before .before .before .before .before .before .before .before .before .before in
     let loop = inner-at .before .before .before .before .before in
-    inner-at .inner-at .kept .1 .1 .1 .1 .1 .1 .1 .1 .1 .1 .1 .1 .1 .1 .1 .1 .1 .1 .0 ∙ loop .loop .inv .matrices-only .len
+    inner-at .inner-at .kept .1 .1 .1 .1 .1 .1 .1 .1 .1 .1 .1 .1 .1 .1 .1 .1 .1 .1 .1 .0 ∙ loop .loop .inv .matrices-only .len
 
 same-length-3 : tie.Need-same-length-3 Inv-loop μ-loop
 same-length-3 c =
     let inner-at = c .before .before .before .before .before .before .before .before .before .before .before in
     let loop = inner-at .before .before .before .before .before in
-    inner-at .inner-at .kept .1 .1 .1 .1 .1 .1 .1 .1 .1 .1 .1 .1 .1 .1 .1 .1 .1 .1 .1 .0 ∙ loop .loop .inv .terms-only .len
+    inner-at .inner-at .kept .1 .1 .1 .1 .1 .1 .1 .1 .1 .1 .1 .1 .1 .1 .1 .1 .1 .1 .1 .1 .0 ∙ loop .loop .inv .terms-only .len
 
 returns : tie.Need-returns Inv-loop μ-loop
 returns c =
@@ -87,11 +91,12 @@ returns c =
     let effective-n = loop .before .before in
     let start = effective-n .before .before .before .before .before .before .before .before .before .before .before .before in
     let args = start .args in
-    rw (← (effective-n .effective-n .ensures))
-    (end-settled
-    (givenOf (args .family) (args .link) (args .y .now) (args .weights .now)
+    let given =
+    givenOf (args .family) (args .link) (args .y .now) (args .weights .now)
     (designOf (args .n) (args .p) (args .shape) (args .theta .now) (args .offset .now) (args .x .now)
-    (sparse (args .starts .now) (args .columns .now) (args .values .now)))) (args .wish) (args .limit) _ _ _ _ _ _ _ _ _ _ _ _ _ (loop .loop .inv) _
+    (sparse (args .starts .now) (args .columns .now) (args .values .now))) in
+    rw (← (effective-n .effective-n .ensures))
+    (end-settled given (startMeans (args .start) given) (args .wish) (args .limit) _ _ _ _ _ _ _ _ _ _ _ _ _ (loop .loop .inv) _
     (inner-at .inner-at .ensures) (loop-test .loop-test .taken) _ _ (sym (round-after .round-after .ensures) ∙ c .before .enum-told .given .1)
     (plus .plus .ensures) (c .fit-from .ensures))
 
@@ -117,10 +122,11 @@ loop-again c =
     let loop = loop-test .before in
     let start = loop .before .before .before .before .before .before .before .before .before .before .before .before .before .before in
     let args = start .args in
-    turn-on
-    (givenOf (args .family) (args .link) (args .y .now) (args .weights .now)
+    let given =
+    givenOf (args .family) (args .link) (args .y .now) (args .weights .now)
     (designOf (args .n) (args .p) (args .shape) (args .theta .now) (args .offset .now) (args .x .now)
-    (sparse (args .starts .now) (args .columns .now) (args .values .now)))) (args .wish) (args .limit) _ _ _ _ _ _ _ _ _ _ _ _ _ (loop .loop .inv) _
+    (sparse (args .starts .now) (args .columns .now) (args .values .now))) in
+    turn-on given (startMeans (args .start) given) (args .wish) (args .limit) _ _ _ _ _ _ _ _ _ _ _ _ _ (loop .loop .inv) _
     (inner-at .inner-at .ensures) (loop-test .loop-test .taken) _ _ (start .pre .0 .ready .good) (start .pre .1)
     (sym (round-after .round-after .ensures) ∙ c .before .round .given .1) (plus .plus .ensures)
 
@@ -136,10 +142,11 @@ plus-requires-2 c κs =
     let loop = inner-at2 .before .before .before .before .before in
     let start = loop .before .before .before .before .before .before .before .before .before .before .before .before .before .before in
     let args = start .args in
-    sums-fit
-    (givenOf (args .family) (args .link) (args .y .now) (args .weights .now)
+    let given =
+    givenOf (args .family) (args .link) (args .y .now) (args .weights .now)
     (designOf (args .n) (args .p) (args .shape) (args .theta .now) (args .offset .now) (args .x .now)
-    (sparse (args .starts .now) (args .columns .now) (args .values .now)))) (args .wish) (args .limit) _ _ _ _ _ _ _ _ _ _ _ _ _ (loop .loop .inv) _
+    (sparse (args .starts .now) (args .columns .now) (args .values .now))) in
+    sums-fit given (startMeans (args .start) given) (args .wish) (args .limit) _ _ _ _ _ _ _ _ _ _ _ _ _ (loop .loop .inv) _
     (inner-at2 .inner-at2 .ensures) (start .pre .0 .ready .good) (start .pre .1)
 
 fit-from-requires-2 : tie.Need-fit-from-requires-2 Inv-loop μ-loop
@@ -149,19 +156,19 @@ same-length-4 : tie.Need-same-length-4 Inv-loop μ-loop
 same-length-4 c =
     let inner-at2 = c .before .before .before .before .before .before .before .before in
     let loop = inner-at2 .before .before .before .before .before in
-    inner-at2 .inner-at2 .kept .1 .1 .1 .1 .1 .1 .1 .1 .1 .1 .1 .1 .1 .1 .1 .1 .1 .0 ∙ loop .loop .inv .rows-only .len
+    inner-at2 .inner-at2 .kept .1 .1 .1 .1 .1 .1 .1 .1 .1 .1 .1 .1 .1 .1 .1 .1 .1 .1 .0 ∙ loop .loop .inv .rows-only .len
 
 same-length-5 : tie.Need-same-length-5 Inv-loop μ-loop
 same-length-5 c =
     let inner-at2 = c .before .before .before .before .before .before .before .before in
     let loop = inner-at2 .before .before .before .before .before in
-    inner-at2 .inner-at2 .kept .1 .1 .1 .1 .1 .1 .1 .1 .1 .1 .1 .1 .1 .1 .1 .1 .1 .1 .0 ∙ loop .loop .inv .matrices-only .len
+    inner-at2 .inner-at2 .kept .1 .1 .1 .1 .1 .1 .1 .1 .1 .1 .1 .1 .1 .1 .1 .1 .1 .1 .1 .0 ∙ loop .loop .inv .matrices-only .len
 
 same-length-6 : tie.Need-same-length-6 Inv-loop μ-loop
 same-length-6 c =
     let inner-at2 = c .before .before .before .before .before .before .before .before in
     let loop = inner-at2 .before .before .before .before .before in
-    inner-at2 .inner-at2 .kept .1 .1 .1 .1 .1 .1 .1 .1 .1 .1 .1 .1 .1 .1 .1 .1 .1 .1 .1 .0 ∙ loop .loop .inv .terms-only .len
+    inner-at2 .inner-at2 .kept .1 .1 .1 .1 .1 .1 .1 .1 .1 .1 .1 .1 .1 .1 .1 .1 .1 .1 .1 .1 .0 ∙ loop .loop .inv .terms-only .len
 
 returns-2 : tie.Need-returns-2 Inv-loop μ-loop
 returns-2 c =
@@ -171,11 +178,12 @@ returns-2 c =
     let effective-n = loop .before .before in
     let start = effective-n .before .before .before .before .before .before .before .before .before .before .before .before in
     let args = start .args in
-    rw (← (effective-n .effective-n .ensures))
-    (end-spent
-    (givenOf (args .family) (args .link) (args .y .now) (args .weights .now)
+    let given =
+    givenOf (args .family) (args .link) (args .y .now) (args .weights .now)
     (designOf (args .n) (args .p) (args .shape) (args .theta .now) (args .offset .now) (args .x .now)
-    (sparse (args .starts .now) (args .columns .now) (args .values .now)))) (args .wish) (args .limit) _ _ _ _ _ _ _ _ _ _ _ _ _ (loop .loop .inv) _
+    (sparse (args .starts .now) (args .columns .now) (args .values .now))) in
+    rw (← (effective-n .effective-n .ensures))
+    (end-spent given (startMeans (args .start) given) (args .wish) (args .limit) _ _ _ _ _ _ _ _ _ _ _ _ _ (loop .loop .inv) _
     (inner-at2 .inner-at2 .ensures) _ _ (loop-test .loop-test .left) (c .before .plus2 .ensures) (c .fit-from2 .ensures))
 
 pub dispersed-fit-spec : {M : Type 1} → statement M

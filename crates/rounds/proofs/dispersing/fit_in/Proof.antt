@@ -2,6 +2,7 @@
 use mathlib.Core.Path.{sym, _∙_}
 use Rattle.stored.specs.Stored.{sparse}
 use Rattle.rule.specs.Given.{designOf, givenOf}
+use Rattle.rule.specs.Run.{startMeans}
 use Rattle.rounds.proofs.Ends.{free-left, fixed-left}
 use borrow.Author.Needs.{needs}
 use Rattle.rounds.proofs.dispersing.fit_in.Statement.{statement}
@@ -29,10 +30,11 @@ returns c =
     let uses-dispersion = if1 .before in
     let start = uses-dispersion .before .before .before .before .before .before .before .before .before .before .before .before in
     let args = start .args in
-    free-left
-    (givenOf (args .family) (args .link) (args .y .now) (args .weights .now)
+    let given =
+    givenOf (args .family) (args .link) (args .y .now) (args .weights .now)
     (designOf (args .n) (args .p) (args .shape) (args .theta .now) (args .offset .now) (args .x .now)
-    (sparse (args .starts .now) (args .columns .now) (args .values .now)))) (args .wish) (args .limit) _ _ _ _ _ _ _
+    (sparse (args .starts .now) (args .columns .now) (args .values .now))) in
+    free-left given (startMeans (args .start) given) (args .wish) (args .limit) _ _ _ _ _ _ _
     (sym (uses-dispersion .uses-dispersion .ensures) ∙ if1 .if1 .taken) (dispersed-fit .dispersed-fit .ensures)
 
 fixed-fit-requires : tie.Need-fixed-fit-requires
@@ -54,10 +56,11 @@ returns-2 c =
     let uses-dispersion = if1 .before in
     let start = uses-dispersion .before .before .before .before .before .before .before .before .before .before .before .before in
     let args = start .args in
-    fixed-left
-    (givenOf (args .family) (args .link) (args .y .now) (args .weights .now)
+    let given =
+    givenOf (args .family) (args .link) (args .y .now) (args .weights .now)
     (designOf (args .n) (args .p) (args .shape) (args .theta .now) (args .offset .now) (args .x .now)
-    (sparse (args .starts .now) (args .columns .now) (args .values .now)))) (args .wish) (args .limit) _ _ _ _ _ _ _
+    (sparse (args .starts .now) (args .columns .now) (args .values .now))) in
+    fixed-left given (startMeans (args .start) given) (args .wish) (args .limit) _ _ _ _ _ _ _
     (sym (uses-dispersion .uses-dispersion .ensures) ∙ if1 .if1 .left) (fixed-fit .fixed-fit .ensures)
 
 pub fit-in-spec : {M : Type 1} → statement M

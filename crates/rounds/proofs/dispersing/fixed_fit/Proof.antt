@@ -1,6 +1,7 @@
 -- `rounds::fixed_fit` meets its contract: one inner fit at phi 1 is the whole fit.
 use Rattle.stored.specs.Stored.{sparse}
 use Rattle.rule.specs.Given.{designOf, givenOf}
+use Rattle.rule.specs.Run.{startMeans}
 use Rattle.rounds.proofs.Ends.{fixed-ended}
 use borrow.Author.Needs.{needs}
 use Rattle.rounds.proofs.dispersing.fixed_fit.Statement.{statement}
@@ -26,10 +27,11 @@ returns c =
     let inner-at = c .before .before .before .before .before .before .before in
     let start = inner-at .before .before .before .before .before .before .before .before .before .before .before .before .before .before .before in
     let args = start .args in
-    fixed-ended
-    (givenOf (args .family) (args .link) (args .y .now) (args .weights .now)
+    let given =
+    givenOf (args .family) (args .link) (args .y .now) (args .weights .now)
     (designOf (args .n) (args .p) (args .shape) (args .theta .now) (args .offset .now) (args .x .now)
-    (sparse (args .starts .now) (args .columns .now) (args .values .now)))) (args .wish) (args .limit) _ _ _ _ _ _ _ (inner-at .inner-at .ensures) _
+    (sparse (args .starts .now) (args .columns .now) (args .values .now))) in
+    fixed-ended given (startMeans (args .start) given) (args .wish) (args .limit) _ _ _ _ _ _ _ (inner-at .inner-at .ensures) _
     (c .fit-from .ensures)
 
 pub fixed-fit-spec : {M : Type 1} → statement M

@@ -54,13 +54,14 @@ returns c =
     let mu-row = raw-row .before in
     let start = mu-row .before .before .before .before .before .before .before .before .before .before .before .before in
     let args = start .args in
-    started
-    (givenOf (args .family) (args .link) (args .y .now) (args .weights .now)
+    let given =
+    givenOf (args .family) (args .link) (args .y .now) (args .weights .now)
     (designOf (args .n) (args .p) (args .shape) (args .theta .now) (args .offset .now) (args .x .now)
-    (sparse (args .starts .now) (args .columns .now) (args .values .now)))) (args .wish) (args .phi) (args .limit) _ (args .r .now) _ _ _ _ _ _ _
+    (sparse (args .starts .now) (args .columns .now) (args .values .now))) in
+    started (args .start) given (args .wish) (args .phi) (args .limit) _ (args .r .now) _ _ _ _ _ _ _
     (mu-row .mu-row .ensures)
-    (filled-part _ (args .n) _ _ (args .r .now) (start-means .start-means .last .1 .1 .1 .0) (omega (arith, mu-row .mu-row .ensures, raw-row .raw-row .ensures))
-    (omega (arith, raw-row .raw-row .ensures, start .pre .0 .lent .rows-long)) (start-means .start-means .kept .1 .1 .1 .0)
+    (filled-part _ (args .n) _ _ (args .r .now) (start-means .start-means .last .1 .1 .1 .1 .1 .0) (omega (arith, mu-row .mu-row .ensures, raw-row .raw-row .ensures))
+    (omega (arith, raw-row .raw-row .ensures, start .pre .0 .lent .rows-long)) (start-means .start-means .kept .1 .1 .1 .1 .1 .0)
     (start-means .start-means .ensures)) (inner-answer .inner-answer .ensures)
 
 pub inner-at-spec : {M : Type 1} → statement M

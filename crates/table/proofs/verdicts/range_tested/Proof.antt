@@ -2,7 +2,7 @@
 use mathlib.Core.Path.{sym, _∙_}
 use borrow.Author.Needs.{needs}
 use borrow.Author.Tests.{not-true, not-false}
-use Rattle.table.proofs.Accepting.{out-of-range, in-range, range-after}
+use Rattle.table.proofs.Accepting.{test-fails, test-holds, earlier-stays}
 use Rattle.table.proofs.verdicts.range_tested.Statement.{statement}
 use Rattle.table.proofs.verdicts.range_tested.Tie as tie
 
@@ -18,15 +18,15 @@ responses-ok-requires c κs = search needs
 returns : tie.Need-returns
 returns c =
     let asked = c .before in
-    rw (asked .before .before .verdict2 .given .1) (sym (out-of-range _ _ _ (sym (asked .responses-ok .ensures) ∙ not-true _ (c .if1 .taken))))
+    rw (asked .before .before .verdict2 .given .1) (sym (test-fails _ _ _ _ (sym (asked .responses-ok .ensures) ∙ not-true _ (c .if1 .taken))))
 
 returns-2 : tie.Need-returns-2
-returns-2 c = rw (c .before .verdict .given .1) (sym (range-after _ _))
+returns-2 c = rw (c .before .verdict .given .1) (sym (earlier-stays _ _ _))
 
 returns-3 : tie.Need-returns-3
 returns-3 c =
     let asked = c .before in
-    rw (asked .before .before .verdict2 .given .1) (sym (in-range _ _ _ (sym (asked .responses-ok .ensures) ∙ not-false _ (c .if1 .left))))
+    rw (asked .before .before .verdict2 .given .1) (sym (test-holds _ _ _ _ (sym (asked .responses-ok .ensures) ∙ not-false _ (c .if1 .left))))
 
 pub range-tested-spec : {M : Type 1} → statement M
 range-tested-spec =

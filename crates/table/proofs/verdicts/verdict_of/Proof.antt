@@ -3,7 +3,7 @@ use mathlib.Core.Path.{sym, ap, _∙_}
 use native.Mathlib.Omega.{arith}
 use borrow.Author.Tests.{not-true, not-false}
 use Rattle.model.proofs.Sized.{sized}
-use Rattle.table.specs.Table.{rangeTested}
+use Rattle.table.specs.Table.{tested}
 use Rattle.table.proofs.Meant.{inputs-fit}
 use Rattle.table.proofs.Accepting.{line-1, line-2-inputs, line-2-results, line-7, line-6, line-3, line-4, last-lines}
 use Rattle.table.proofs.verdicts.verdict_of.Statement.{statement}
@@ -121,9 +121,15 @@ carried-pair-requires c κs = omega arith
 range-tested-requires : tie.Need-range-tested-requires
 range-tested-requires c κs = omega arith
 
+start-tested-requires : tie.Need-start-tested-requires
+start-tested-requires c κs = omega arith
+
 returns-8 : tie.Need-returns-8
 returns-8 c =
-    let if6 = c .before .before .before .before in
+    let carried-pair = c .before .before in
+    let if7 = carried-pair .before in
+    let valid-for = if7 .before in
+    let if6 = valid-for .before in
     let numbers-ok = if6 .before in
     let if5 = numbers-ok .before in
     let rows-ok = if5 .before in
@@ -135,13 +141,13 @@ returns-8 c =
     let inputs-ok = if2 .before in
     let if1 = inputs-ok .before in
     let sizes-ok = if1 .before in
-    let range-tested = c .range-tested .ensures ∙ ap (rangeTested _) (c .before .carried-pair .ensures) in
-    range-tested
+    let ranged = c .before .range-tested .ensures ∙ ap (tested _ _) (carried-pair .carried-pair .ensures) in
+    (c .start-tested .ensures ∙ ap (tested _ _) ranged)
     ∙ sym
     (last-lines _ _ _ _ _ (sym (sizes-ok .sizes-ok .ensures) ∙ not-false _ (if1 .if1 .left)) (sym (inputs-ok .inputs-ok .ensures) ∙ not-false _ (if2 .if2 .left))
     (sym (results-ok .results-ok .ensures) ∙ not-false _ (if3 .if3 .left)) (sym (work-ok .work-ok .ensures) ∙ not-false _ (if4 .if4 .left))
     (sym (rows-ok .rows-ok .ensures) ∙ not-false _ (if5 .if5 .left)) (sym (numbers-ok .numbers-ok .ensures) ∙ not-false _ (if6 .if6 .left))
-    (sym (c .before .before .before .valid-for .ensures) ∙ not-false _ (c .before .before .if7 .left)))
+    (sym (valid-for .valid-for .ensures) ∙ not-false _ (if7 .if7 .left)))
 
 pub verdict-of-spec : {M : Type 1} → statement M
 verdict-of-spec =
@@ -163,4 +169,5 @@ verdict-of-spec =
     returns-7
     carried-pair-requires
     range-tested-requires
+    start-tested-requires
     returns-8)

@@ -10,22 +10,25 @@ use Rattle.working.proofs.starting.start_means.Statement.{statement}
 use Rattle.working.proofs.starting.start_means.Tie as tie
 
 abbrev Inv-loop : tie.InvT-loop
-Inv-loop family y n out₀ i₀ out i = (i ≤ n) × (length out ≡ length out₀) × (out ≡ fillTo i (startMeanAt family y) out₀)
+Inv-loop start family y weights n out₀ i₀ out i = (i ≤ n) × (length out ≡ length out₀) × (out ≡ fillTo i (startMeanAt start family y weights) out₀)
 
 abbrev μ-loop : tie.MeasureT-loop
-μ-loop family y n out₀ i₀ out i = n - i
+μ-loop start family y weights n out₀ i₀ out i = n - i
 
 loop-holds : tie.Need-loop-holds Inv-loop μ-loop
 loop-holds c = (omega arith, omega arith, fill-none _ _)
 
-mul-initialize-mu : tie.Need-mul-initialize-mu Inv-loop μ-loop
-mul-initialize-mu c = omega arith
+weight-at-requires : tie.Need-weight-at-requires Inv-loop μ-loop
+weight-at-requires c κs = omega arith
 
-shared-slice-read-initialize-mu : tie.Need-shared-slice-read-initialize-mu Inv-loop μ-loop
-shared-slice-read-initialize-mu c = omega arith
+mul-start-mean : tie.Need-mul-start-mean Inv-loop μ-loop
+mul-start-mean c = omega arith
 
-initialize-mu-requires : tie.Need-initialize-mu-requires Inv-loop μ-loop
-initialize-mu-requires c κs = omega arith
+shared-slice-read-start-mean : tie.Need-shared-slice-read-start-mean Inv-loop μ-loop
+shared-slice-read-start-mean c = omega arith
+
+start-mean-requires : tie.Need-start-mean-requires Inv-loop μ-loop
+start-mean-requires c κs = omega arith
 
 mul-out : tie.Need-mul-out Inv-loop μ-loop
 mul-out c = omega arith
@@ -42,8 +45,8 @@ loop-less c = omega arith
 loop-again : tie.Need-loop-again Inv-loop μ-loop
 unfolding startMeanAt
 loop-again c =
-    let a = c .before .before .before .before .before .before .args in
-    (omega arith, simp length-set (omega arith), rw (c .initialize-mu .ensures) (fill-step (startMeanAt (a .family) (a .y .now)) _ _ _ (c .before .before .before .loop .inv .2)))
+    let a = c .before .before .before .before .before .before .before .before .args in
+    (omega arith, simp length-set (omega arith), rw (c .start-mean .ensures, c .before .before .weight-at .ensures) (fill-step (startMeanAt (a .start) (a .family) (a .y .now) (a .weights .now)) _ _ _ (c .before .before .before .before .loop .inv .2)))
 
 same-length : tie.Need-same-length Inv-loop μ-loop
 same-length c = omega arith
@@ -58,9 +61,10 @@ start-means-spec =
     Inv-loop
     μ-loop
     loop-holds
-    mul-initialize-mu
-    shared-slice-read-initialize-mu
-    initialize-mu-requires
+    weight-at-requires
+    mul-start-mean
+    shared-slice-read-start-mean
+    start-mean-requires
     mul-out
     slice-write-out
     add-i
