@@ -20,10 +20,10 @@ static struct { size_t n, p, q; } sizes;
 /* What the job says of its sizes; sizes that are not carried are told as 1, since such a job is refused whatever is lent. */
 static void read_sizes(size_t length)
 {
-    unsigned i, blocks = bits(length, 34, 4);
+    unsigned i, blocks = bits(length, 34, 4), first = bits(length, 0, 4) == 2 ? 56 : 48;
     sizes.n = bits(length, 16, 13), sizes.p = bits(length, 29, 5), sizes.q = 0;
     for (i = 0; i < blocks; i++)
-        sizes.q += (size_t)bits(length, 48 + 16 * i, 7) * bits(length, 55 + 16 * i, 4);
+        sizes.q += (size_t)bits(length, first + 16 * i, 7) * bits(length, first + 7 + 16 * i, 4);
     if (glmm_results_length(sizes.n, sizes.p, sizes.q) == 0)
         sizes.n = sizes.p = sizes.q = 1;
 }
