@@ -8,7 +8,7 @@ use Rattle.model.specs.Inputs.{Inputs}
 use Rattle.model.specs.Items.{tally}
 use Rattle.model.specs.declared.counts.Account.{Account}
 use Rattle.model.specs.declared.ends.Refusal.{Refusal}
-use Rattle.model.specs.declared.ends.Refusal.the-variants.{OutOfRange, Lengths, Work, SparseRows, NotFinite, LinkForFamily, NotCarried, ResponseRange, StartFit}
+use Rattle.model.specs.declared.ends.Refusal.the-variants.{OutOfRange, Responses, Lengths, Work, SparseRows, NotFinite, LinkForFamily, NotCarried, ResponseRange, StartFit}
 use Rattle.model.specs.declared.sizes.Shape.{Shape}
 use Rattle.model.specs.declared.sizes.Settings.{Settings}
 use Rattle.model.proofs.Answers.{refusal-range, end-range}
@@ -28,7 +28,7 @@ refusalOf (suc (suc (suc (suc zero)))) = LinkForFamily
 refusalOf (suc (suc (suc (suc (suc zero))))) = NotCarried
 refusalOf (suc (suc (suc (suc (suc (suc zero)))))) = SparseRows
 refusalOf (suc (suc (suc (suc (suc (suc (suc zero))))))) = Work
-refusalOf (suc (suc (suc (suc (suc (suc (suc (suc zero)))))))) = OutOfRange
+refusalOf (suc (suc (suc (suc (suc (suc (suc (suc zero)))))))) = Responses
 refusalOf (suc (suc (suc (suc (suc (suc (suc (suc (suc zero))))))))) = ResponseRange
 refusalOf (suc (suc (suc (suc (suc (suc (suc (suc (suc (suc n)))))))))) = StartFit
 refusalOf zero = OutOfRange
@@ -36,6 +36,7 @@ refusalOf (suc zero) = OutOfRange
 
 refusal-back : (x : Refusal) → refusalOf (refusalNumber x) ≡ x
 refusal-back OutOfRange = refl
+refusal-back Responses = refl
 refusal-back Lengths = refl
 refusal-back Work = refl
 refusal-back SparseRows = refl
