@@ -3,6 +3,7 @@ use mathlib.Core.Path.{_≡_, refl, sym, ap, _∙_}
 use mathlib.Core.Logic.{_↔_, _⊎_, inl, inr, ⊎-elim}
 use Prim.Native.Nat.{ℕ, zero, suc, _≤_}
 use native.Mathlib.Omega.{arith}
+use Rattle.base.proofs.Doubles.{ff}
 use Rattle.model.specs.Answer.{refusalNumber, unfittedAnswer, fittedAnswer}
 use Rattle.model.specs.Inputs.{Inputs}
 use Rattle.model.specs.Items.{tally}
@@ -92,3 +93,8 @@ module _ (t : Settings) (s : Shape) (I : Inputs) (L : Lent) where
         (decided 1 t s I (lengthsOf L)),
     accepted,
   )
+
+  -- a call of one response is never refused for the number of its responses
+  pub never-eight : callOf t s I L .answer .number ≡ 8 → ⊥
+  unfolding GivenWhen
+  never-eight e = ff (sym (refused-exactly Responses .0 e .1))
