@@ -42,6 +42,11 @@ def crates(name="fitjob"):
     return sorted(heights, key=lambda crate: (heights[crate], list(known).index(crate)))
 
 
+def programs():
+    """The crates that are programs of their own, not tests."""
+    return [name for name in listed() if (ROOT / "crates" / name / "src" / "main.rt").is_file() and not name.startswith("cases_")]
+
+
 def files(crate):
     """The sources of a crate, by their paths from the root."""
     for top, _, names in os.walk(ROOT / "crates" / crate):
