@@ -14,21 +14,20 @@ use Rattle.base.specs.Sparse.{goodRows}
 use Rattle.base.proofs.Doubles.{ff}
 use Rattle.model.specs.Inputs.{Inputs}
 use Rattle.model.specs.Settings.{goodSizes}
-use Rattle.model.specs.declared.ends.Refusal.the-variants.{StartFit, ResponseRange}
 use Rattle.model.specs.declared.sizes.Shape.{Shape}
 use Rattle.model.specs.declared.sizes.Settings.{Settings}
 use Rattle.model.proofs.Tests.{both}
 use Rattle.family.specs.Family.{inRange}
+use Rattle.family.specs.Carried.{carriedFamily}
 use Rattle.family.specs.declared.carried.CarriedFamily.{CarriedFamily}
 use Rattle.family.specs.declared.carried.CarriedLink.{CarriedLink}
 use Rattle.table.specs.Tests.{goodCount, goodInputs, goodResults, goodWork, goodNumbers, allInRange, startFits}
-use Rattle.table.specs.Table.{tested, tableOf}
+use Rattle.table.specs.Table.{tableOf}
 use Rattle.table.specs.Facts.{ResultsFit, WorkFits, AllFinite, AllInRange, Sound}
 use Rattle.table.specs.declared.verdicts.LentLengths.{LentLengths}
-use Rattle.table.specs.declared.verdicts.Verdict.{Verdict}
-use Rattle.table.specs.declared.verdicts.Verdict.the-variants.{Accepted, Refused}
-use Rattle.table.proofs.Accepting.{isAccepted, line-6, last-lines, test-holds, test-passed, accepted-sound}
-use Rattle.table.proofs.Exactly.{sizes-exactly, count-exactly, inputs-exactly, results-exactly, work-exactly, numbers-exactly, range-exactly}
+use Rattle.table.specs.declared.verdicts.Verdict.the-variants.{Accepted}
+use Rattle.table.proofs.Accepting.{isAccepted, line-6, past-lines, accepted-sound}
+use Rattle.table.proofs.Exactly.{sizes-exactly, count-exactly, inputs-exactly, results-exactly, work-exactly, numbers-exactly, range-exactly, start-exactly}
 use Rattle.call.specs.Call.{lengthsOf}
 use Rattle.jobfit.specs.Done.{zeros, lentFor}
 use Rattle.jobfit.proofs.Lent.{beta-lent}
@@ -74,12 +73,10 @@ module _ (r : ℕ) (t : Settings) (s : Shape) (I : Inputs) (L : LentLengths) (f 
       let n = found .numbers in
       let one : goodInputs 1 t s (withY y I) ≡ true = inputs-exactly 1 t s (withY y I) .1 (record { theta = g .theta; y = long ∙ sym (one-mul (t .n)); weights = g .weights; offset = g .offset; x = g .x; starts = g .starts; columns = g .columns; values = g .values }) in
       let numbers : goodNumbers (withY y I) ≡ true = numbers-exactly (withY y I) .1 (record { theta = n .theta; y = fin; weights = n .weights; offset = n .offset; x = n .x; values = n .values }) in
-      let w = test-passed (startFits (t .start) (I .weights)) StartFit _ f l (sym (last-lines r t s I L sizes-good count-good inputs-good results-good work-good rows-good numbers-good (found .valid)) ∙ e) in
-      let o = test-passed (allInRange (I .y)) ResponseRange _ f l (w .0) in
-      last-lines 1 t s (withY y I) M sizes-good (count-exactly 1 .1 (omega arith, omega arith)) one (results-exactly 1 t M .1 results) (work-exactly t M .1 work) rows-good numbers (found .valid)
-      ∙ ap (λ (v : Verdict). tested (startFits (t .start) (I .weights)) StartFit (tested (allInRange y) ResponseRange v)) (o .0)
-      ∙ ap (λ (v : Verdict). tested (startFits (t .start) (I .weights)) StartFit v) (test-holds (allInRange y) ResponseRange f l (range-exactly f y .1 ranged))
-      ∙ test-holds (startFits (t .start) (I .weights)) StartFit f l (w .1)
+      let inside : allInRange y (carriedFamily (t .family)) ≡ true = rw (found .family) (range-exactly f y .1 ranged) in
+      let start : startFits (t .start) (I .weights) (carriedFamily (t .family)) ≡ true = rw (found .family) (start-exactly (t .start) (I .weights) f .1 (found .started)) in
+      past-lines 1 t s (withY y I) M sizes-good (count-exactly 1 .1 (omega arith, omega arith)) one (results-exactly 1 t M .1 results) (work-exactly t M .1 work) rows-good numbers (found .valid) inside start
+      ∙ rw (found .family, found .link) refl
 
 -- ---- a call of r responses that is accepted
 module _ (r : ℕ) (t : Settings) (s : Shape) (I : Inputs) (B : Buffers) (f : CarriedFamily) (l : CarriedLink) (e : verdictFor r t s I B ≡ Accepted f l) where

@@ -41,7 +41,7 @@ unfolding countsOf
 counts-length a byte = refl
 
 -- ---- how many numbers a fitted call writes
-numbers-length : (n p q : ℕ) (a : Answer) (R : Results) → ResultsFit n p q R → length (numbersOf a R) ≡ resultsLength n p q
+pub numbers-length : (n p q : ℕ) (a : Answer) (R : Results) → ResultsFit n p q R → length (numbersOf a R) ≡ resultsLength n p q
 unfolding numbersOf
 numbers-length n p q a R f =
     let three : length (R .beta ++ (R .se ++ R .z)) ≡ 3 * p = length-append (R .beta) (R .se ++ R .z) ∙ rw (length-append (R .se) (R .z), f .beta, f .se, f .z) (omega arith) in
