@@ -3,6 +3,7 @@ import math, struct
 
 LONGEST = 65536
 MOST_RESPONSES = 64
+TABLE = [6, 3, 4, 5, 9, 27]  # what the table refuses a job with, in its order
 CARRIED = {(0, 0), (0, 2), (1, 3), (1, 4), (1, 6), (2, 4), (2, 3), (2, 5), (3, 5), (3, 4), (3, 3)}  # family and link of a call that can be fitted
 VALID = CARRIED | {(0, 1)}
 

@@ -136,7 +136,7 @@ def faults(about):
     yield "3-weights", {"weights": ["nan", *about["weights"][1:]]}, None
     yield "3-response", {}, "nan"
     yield "4", {"link": "sqrt"}, None
-    yield "5", {"link": "probit"}, None
+    yield "probit", {"link": "probit"}, None
     yield "9", {}, 1.5
     yield "27", {"version": 2, "start": "trials", "weights": [-1.0, *about["weights"][1:]]}, None
 
@@ -154,8 +154,10 @@ def two_faults():
 
 
 def placed():
-    """A response of 64 that is not finite or out of range, in each of some places, and the last number of all."""
+    """A response of 64 that is not finite or out of range, in each of some places; and one of each, in both orders."""
     job, good = job_bytes({**damage.TWO_BLOCKS, "limit": 2}), [0.25, 1.0, 0.5]
+    for one, two in (("nan", 1.5), (1.5, "inf")):
+        yield f"place-both-{one}", packed(job, [good, [0.25, one, 0.5], good, [0.25, two, 0.5]])
     for at in (0, 1, 31, 62, 63):
         for value in ("nan", "inf", 1.02, -5e-324):
             yield f"place-{at}-{value}", packed(job, [[0.25, 1.0, value] if i == at else good for i in range(64)])

@@ -2,9 +2,8 @@
 the classes of inputs with their answers that a comparison must have met."""
 import struct
 from classes import NAMES, STARTS, name_of, start_of
-from reader import MOST_RESPONSES, Refused, check_table, divided, in_range, parse
+from reader import MOST_RESPONSES, TABLE, Refused, check_table, divided, in_range, parse
 
-ORDER = [6, 3, 4, 5, 9, 27]  # what the design or a response can bring about, in the table's order
 READING = [1, 20, 21, 22, 23, 24, 25]  # what is told of the job before anything behind it is looked at
 
 
@@ -45,7 +44,7 @@ def together(data, texts):
     if len(behind) % step:
         return b"refused 2 at 0\n"
     told = [refusal(text) for text in texts[1:]]
-    first = next((number for number in ORDER if number in told), None)
+    first = next((number for number in TABLE if number in told), None)
     return b"refused %d at 0\n" % first if first else b"".join(b"response %d\n%s" % pair for pair in enumerate(texts[1:]))
 
 
@@ -53,10 +52,10 @@ def together(data, texts):
 
 ENDS = [0, 10, 11, 12, 13]
 COUNTS = ["1", "2", "3", "4", "5", "6", "63", "64", "64 of 512 numbers"]
-REFUSED = ["1", "2", "3", "4", "5", "6", "8", "9", "20", "21", "22", "23", "24", "25", "27"]
+REFUSED = list(map(str, sorted([*READING, 8, 2, *TABLE])))
 CAUSES = ["8: none", "8: odd bytes alone", "8: 65", "8: more than 65", "8: 65 and odd bytes", "2: odd bytes behind 1 to 63", "2: odd bytes behind 64",
-          *(f"{number}: in {place}" for number in (3, 9) for place in ("the first response alone", "the last response alone", "response 63 alone")), "3: in the design alone",
-          *(f"{first} before {number}" for first in (8, 2) for number in ORDER)]
+          *(f"{number}: in {place}" for number in (3, 9) for place in ("the first response alone", "the last response alone", "response 63 alone")), "3: in the design alone", "3: behind a response out of range",
+          *(f"{first} before {number}" for first in (8, 2) for number in TABLE)]
 BESIDE = [f"end {end} {way}" for end in ENDS[1:] for way in ("behind a fitted response", "before a fitted response", "throughout")]
 OWN = ["own y not finite", "own y out of range", "own y among the responses"]
 TITLES = {"response": [f"end {end}" for end in ENDS], "count": COUNTS, "beside": BESIDE, "own y": OWN, "start": STARTS, "fitted": NAMES, "refused": REFUSED, "cause": CAUSES}
@@ -74,6 +73,11 @@ def faulty(job, responses, number):
     """The places of the responses that are not finite, or for 9 out of range."""
     good = (lambda y: finite(y)) if number == 3 else (lambda y: in_range(job.family, y))
     return [i for i, ys in enumerate(responses) if not all(map(good, ys))]
+
+
+def outside(job, responses):
+    """The places of the responses that are finite and out of range."""
+    return [i for i in faulty(job, responses, 9) if i not in faulty(job, responses, 3)]
 
 
 def behind_of(job, behind):
@@ -106,6 +110,8 @@ def place_causes(number, job, responses):
     places = faulty(job, responses, number)
     if number == 3 and not places:
         yield "3: in the design alone"
+    if number == 3 and places and min(outside(job, responses), default=places[0]) < places[0]:
+        yield "3: behind a response out of range"
     if len(places) == 1 and len(responses) > 1:
         yield from (f"{number}: in {name}" for name, at in (("the first response alone", 0), ("the last response alone", len(responses) - 1), ("response 63 alone", 63)) if places == [at])
 
