@@ -33,61 +33,61 @@ pub record RoomIn (r : ℕ) (t : Settings) (B : Buffers) : Type 0 where
 
 module _ (t : Settings) (s : Shape) (I : Inputs) where
   -- the lists of response i
-  abbrev pub inputsAt : ℕ → Inputs
-  inputsAt i = withY (responseAt (t .n) i (I .y)) I
+  abbrev pub listsAt : ℕ → Inputs
+  listsAt i = withY (responseAt (t .n) i (I .y)) I
 
   -- its single call, with its own part of the buffers B
   abbrev pub doneAt : ℕ → Buffers → Done
-  doneAt i B = doneFor t s (inputsAt i) (B .rows) (B .matrices) (B .terms) (partOf (i * blockLength t) (blockLength t) (B .results))
+  doneAt i B = doneFor t s (listsAt i) (B .rows) (B .matrices) (B .terms) (partOf (i * blockLength t) (blockLength t) (B .results))
 
   -- ---- after one response
   module _ (i : ℕ) (B : Buffers) (results : i * blockLength t + blockLength t ≤ length (B .results)) (counts : i * countsLength + countsLength ≤ length (B .counts)) where
-    abbrev told : List ℕ
-    told = laid (countsOf (doneAt i B .answer) 0) (partOf (i * countsLength) countsLength (B .counts))
+    abbrev toldCounts : List ℕ
+    toldCounts = laid (countsOf (doneAt i B .answer) 0) (partOf (i * countsLength) countsLength (B .counts))
 
-    one-is : afterOne t s I i B ≡ buffers (doneAt i B .rows) (doneAt i B .matrices) (doneAt i B .terms) (placedIn (i * blockLength t) (blockLength t) (doneAt i B .results) (B .results)) (placedIn (i * countsLength) countsLength told (B .counts))
+    one-is : afterOne t s I i B ≡ buffers (doneAt i B .rows) (doneAt i B .matrices) (doneAt i B .terms) (placedIn (i * blockLength t) (blockLength t) (doneAt i B .results) (B .results)) (placedIn (i * countsLength) countsLength toldCounts (B .counts))
     unfolding afterOne backFrom toldBy lentTo
     one-is = refl
 
     block-long : length (doneAt i B .results) ≡ blockLength t
-    block-long = done-length t s (inputsAt i) (B .rows) (B .matrices) (B .terms) (partOf (i * blockLength t) (blockLength t) (B .results)) ∙ part-length (i * blockLength t) (blockLength t) (B .results) results
+    block-long = done-length t s (listsAt i) (B .rows) (B .matrices) (B .terms) (partOf (i * blockLength t) (blockLength t) (B .results)) ∙ part-length (i * blockLength t) (blockLength t) (B .results) results
 
-    told-long : length told ≡ countsLength
+    told-long : length toldCounts ≡ countsLength
     told-long =
         let room = part-length (i * countsLength) countsLength (B .counts) counts in
         laid-length (countsOf (doneAt i B .answer) 0) (partOf (i * countsLength) countsLength (B .counts)) (rw (counts-length (doneAt i B .answer) 0, room) (omega arith)) ∙ room
 
     one-lengths : SameLengths (afterOne t s I i B) B
     one-lengths =
-        let work = work-lengths t s (inputsAt i) (B .rows) (B .matrices) (B .terms) (partOf (i * blockLength t) (blockLength t) (B .results)) in
+        let work = work-lengths t s (listsAt i) (B .rows) (B .matrices) (B .terms) (partOf (i * blockLength t) (blockLength t) (B .results)) in
         rw one-is
         (record {
           rows = work .rows';
           matrices = work .matrices';
           terms = work .terms';
           results = placed-length (i * blockLength t) (blockLength t) (doneAt i B .results) (B .results) block-long results;
-          counts = placed-length (i * countsLength) countsLength told (B .counts) told-long counts;
+          counts = placed-length (i * countsLength) countsLength toldCounts (B .counts) told-long counts;
         })
 
     -- its own parts
     own-block : partOf (i * blockLength t) (blockLength t) (afterOne t s I i B .results) ≡ doneAt i B .results
     own-block = rw one-is (part-own (i * blockLength t) (blockLength t) (doneAt i B .results) (B .results) block-long results)
 
-    own-counts : partOf (i * countsLength) countsLength (afterOne t s I i B .counts) ≡ told
-    own-counts = rw one-is (part-own (i * countsLength) countsLength told (B .counts) told-long counts)
+    own-counts : partOf (i * countsLength) countsLength (afterOne t s I i B .counts) ≡ toldCounts
+    own-counts = rw one-is (part-own (i * countsLength) countsLength toldCounts (B .counts) told-long counts)
 
     -- the parts before and behind
     block-before : (a m : ℕ) → a + m ≤ i * blockLength t → partOf a m (afterOne t s I i B .results) ≡ partOf a m (B .results)
     block-before a m h = rw one-is (part-before (i * blockLength t) (blockLength t) (doneAt i B .results) (B .results) block-long results a m h)
 
     counts-before : (a m : ℕ) → a + m ≤ i * countsLength → partOf a m (afterOne t s I i B .counts) ≡ partOf a m (B .counts)
-    counts-before a m h = rw one-is (part-before (i * countsLength) countsLength told (B .counts) told-long counts a m h)
+    counts-before a m h = rw one-is (part-before (i * countsLength) countsLength toldCounts (B .counts) told-long counts a m h)
 
     block-behind : (a : ℕ) → i * blockLength t + blockLength t ≤ a → drop a (afterOne t s I i B .results) ≡ drop a (B .results)
     block-behind a h = rw one-is (rest-kept (i * blockLength t) (blockLength t) (doneAt i B .results) (B .results) block-long results a h)
 
     counts-behind : (a : ℕ) → i * countsLength + countsLength ≤ a → drop a (afterOne t s I i B .counts) ≡ drop a (B .counts)
-    counts-behind a h = rw one-is (rest-kept (i * countsLength) countsLength told (B .counts) told-long counts a h)
+    counts-behind a h = rw one-is (rest-kept (i * countsLength) countsLength toldCounts (B .counts) told-long counts a h)
 
   -- ---- after the first responses of r
   module _ (r : ℕ) (B : Buffers) (room : RoomIn r t B) where
@@ -174,7 +174,7 @@ module _ (t : Settings) (s : Shape) (I : Inputs) where
       free : (doneAt i turn .answer ≡ doneAt i B .answer) × (doneAt i turn .results ≡ doneAt i B .results)
       free =
           rw own-part
-          (done-work-free t s (inputsAt i) (B .rows) (B .matrices) (B .terms) (turn .rows) (turn .matrices) (turn .terms) (partOf (i * blockLength t) (blockLength t) (B .results)) (kept .rows) (kept .matrices) (kept .terms))
+          (done-work-free t s (listsAt i) (B .rows) (B .matrices) (B .terms) (turn .rows) (turn .matrices) (turn .terms) (partOf (i * blockLength t) (blockLength t) (B .results)) (kept .rows) (kept .matrices) (kept .terms))
 
       -- the block of response i: the results of its single call
       pub block-alone : partOf (i * blockLength t) (blockLength t) (afterTo t s I r B .results) ≡ doneAt i B .results

@@ -35,20 +35,20 @@ use Rattle.jobcall.specs.Told.{Buffers, buffers, Told, told, countsLength, coun
 use Rattle.many.specs.Many.{partOf, responseAt, withY, blockLength, lentTo, backFrom, singleOf, afterOne, afterTo, lengthsFor, verdictFor, manyBy, manyOf, jobWithY}
 use Rattle.many.proofs.Parts.{part-length, block-fits}
 use Rattle.many.proofs.Single.{done-rows, done-matrices, done-terms, done-unfitted}
-use Rattle.many.proofs.Alone.{SameLengths, RoomIn, inputsAt, doneAt, lengths-to, results-behind, counts-rest, block-alone, counts-alone}
+use Rattle.many.proofs.Alone.{SameLengths, RoomIn, listsAt, doneAt, lengths-to, results-behind, counts-rest, block-alone, counts-alone}
 use Rattle.many.proofs.Each.{all-sound, room-in, each-accepted}
 
 -- ---- any response of any call: demand 3, and document 02's P9
 module _ (t : Settings) (s : Shape) (I : Inputs) (B : Buffers) (i : ℕ) where
   pub many-capped : Capped (doneAt t s I i B .answer .account)
   unfolding doneFor doneOf
-  many-capped = call-capped t s (inputsAt t s I i) (lentFor t (B .rows) (B .matrices) (B .terms) (partOf (i * blockLength t) (blockLength t) (B .results)))
+  many-capped = call-capped t s (listsAt t s I i) (lentFor t (B .rows) (B .matrices) (B .terms) (partOf (i * blockLength t) (blockLength t) (B .results)))
 
   pub many-parts : AddsUp (doneAt t s I i B .answer .account) × Accepts (doneAt t s I i B .answer .account)
   unfolding doneFor doneOf
   many-parts =
       let L = lentFor t (B .rows) (B .matrices) (B .terms) (partOf (i * blockLength t) (blockLength t) (B .results)) in
-      (call-parts t s (inputsAt t s I i) L, call-accepted t s (inputsAt t s I i) L)
+      (call-parts t s (listsAt t s I i) L, call-accepted t s (listsAt t s I i) L)
 
 -- ---- a call that is accepted
 module _ (r : ℕ) (t : Settings) (s : Shape) (I : Inputs) (B : Buffers) (f : CarriedFamily) (l : CarriedLink) (e : verdictFor r t s I B ≡ Accepted f l) where
@@ -66,7 +66,7 @@ module _ (r : ℕ) (t : Settings) (s : Shape) (I : Inputs) (B : Buffers) (f : Ca
     block-long = part-length (i * blockLength t) (blockLength t) (B .results) (le-trans (block-fits i r (blockLength t) h) (room .results))
 
     -- its single call is accepted, with the buffers as they were lent
-    pub response-accepted : tableOf 1 t s (inputsAt t s I i) (lengthsOf (lentFor t (B .rows) (B .matrices) (B .terms) (partOf (i * blockLength t) (blockLength t) (B .results)))) ≡ Accepted f l
+    pub response-accepted : tableOf 1 t s (listsAt t s I i) (lengthsOf (lentFor t (B .rows) (B .matrices) (B .terms) (partOf (i * blockLength t) (blockLength t) (B .results)))) ≡ Accepted f l
     response-accepted = each-accepted r t s I B f l e i h (B .rows) (B .matrices) (B .terms) (partOf (i * blockLength t) (blockLength t) (B .results)) refl refl refl block-long
 
     -- so its number is 0 or one of 10 to 13
@@ -74,21 +74,21 @@ module _ (r : ℕ) (t : Settings) (s : Shape) (I : Inputs) (B : Buffers) (f : Ca
     unfolding doneFor doneOf
     response-number =
         let L = lentFor t (B .rows) (B .matrices) (B .terms) (partOf (i * blockLength t) (blockLength t) (B .results)) in
-        accepted-exactly t s (inputsAt t s I i) L .1 (f, l, accepted-when 1 t s (inputsAt t s I i) (lengthsOf L) f l .0 response-accepted)
+        accepted-exactly t s (listsAt t s I i) L .1 (f, l, accepted-when 1 t s (listsAt t s I i) (lengthsOf L) f l .0 response-accepted)
 
     -- the block and the counts are those of the single call with its own parts of the buffers
-    pub response-results : lentTo t i (afterTo t s I r B) .results ≡ singleOf t s (inputsAt t s I i) (lentTo t i B) .after .results
+    pub response-results : lentTo t i (afterTo t s I r B) .results ≡ singleOf t s (listsAt t s I i) (lentTo t i B) .after .results
     unfolding lentTo toldBy
     response-results = block-alone t s I r B room i h
 
-    pub response-counts : lentTo t i (afterTo t s I r B) .counts ≡ singleOf t s (inputsAt t s I i) (lentTo t i B) .after .counts
+    pub response-counts : lentTo t i (afterTo t s I r B) .counts ≡ singleOf t s (listsAt t s I i) (lentTo t i B) .after .counts
     unfolding lentTo toldBy
     response-counts = counts-alone t s I r B room i h
 
     -- a response that ends with 10 to 13 touches no result
     pub unfitted-block : (doneAt t s I i B .answer .number ≡ 0 → ⊥) → lentTo t i (afterTo t s I r B) .results ≡ lentTo t i B .results
     unfolding lentTo
-    unfitted-block z = block-alone t s I r B room i h ∙ done-unfitted t s (inputsAt t s I i) (B .rows) (B .matrices) (B .terms) (partOf (i * blockLength t) (blockLength t) (B .results)) z
+    unfitted-block z = block-alone t s I r B room i h ∙ done-unfitted t s (listsAt t s I i) (B .rows) (B .matrices) (B .terms) (partOf (i * blockLength t) (blockLength t) (B .results)) z
 
   -- behind the blocks and the counts of all responses nothing is touched
   pub rest-results : drop (r * blockLength t) (afterTo t s I r B .results) ≡ drop (r * blockLength t) (B .results)
@@ -105,22 +105,22 @@ module _ (r : ℕ) (t : Settings) (s : Shape) (I : Inputs) (B : Buffers) (f : Ca
     kept : SameLengths (afterTo t s I j B) B
     kept = lengths-to t s I r B room j (le-of-suc-le h)
 
-    turn-accepted : tableOf 1 t s (inputsAt t s I j) (lengthsOf (lentFor t (afterTo t s I j B .rows) (afterTo t s I j B .matrices) (afterTo t s I j B .terms) partAt)) ≡ Accepted f l
+    turn-accepted : tableOf 1 t s (listsAt t s I j) (lengthsOf (lentFor t (afterTo t s I j B .rows) (afterTo t s I j B .matrices) (afterTo t s I j B .terms) partAt)) ≡ Accepted f l
     turn-accepted =
         each-accepted r t s I B f l e j h (afterTo t s I j B .rows) (afterTo t s I j B .matrices) (afterTo t s I j B .terms) partAt (kept .rows) (kept .matrices) (kept .terms)
         (part-length (j * blockLength t) (blockLength t) (afterTo t s I j B .results) (rw (kept .results) (le-trans (block-fits j r (blockLength t) h) (room .results))))
 
     turn-rows : afterTo t s I (suc j) B .rows ≡ fillTo (rowsLength (t .n)) zeroAt (afterTo t s I j B .rows)
     unfolding afterTo afterOne backFrom toldBy lentTo
-    turn-rows = done-rows t s (inputsAt t s I j) (afterTo t s I j B .rows) (afterTo t s I j B .matrices) (afterTo t s I j B .terms) partAt f l turn-accepted
+    turn-rows = done-rows t s (listsAt t s I j) (afterTo t s I j B .rows) (afterTo t s I j B .matrices) (afterTo t s I j B .terms) partAt f l turn-accepted
 
     turn-matrices : afterTo t s I (suc j) B .matrices ≡ fillTo (matricesLength (t .p) (t .rows)) zeroAt (afterTo t s I j B .matrices)
     unfolding afterTo afterOne backFrom toldBy lentTo
-    turn-matrices = done-matrices t s (inputsAt t s I j) (afterTo t s I j B .rows) (afterTo t s I j B .matrices) (afterTo t s I j B .terms) partAt f l turn-accepted
+    turn-matrices = done-matrices t s (listsAt t s I j) (afterTo t s I j B .rows) (afterTo t s I j B .matrices) (afterTo t s I j B .terms) partAt f l turn-accepted
 
     turn-terms : afterTo t s I (suc j) B .terms ≡ fillTo termsLength zeroAt (afterTo t s I j B .terms)
     unfolding afterTo afterOne backFrom toldBy lentTo
-    turn-terms = done-terms t s (inputsAt t s I j) (afterTo t s I j B .rows) (afterTo t s I j B .matrices) (afterTo t s I j B .terms) partAt f l turn-accepted
+    turn-terms = done-terms t s (listsAt t s I j) (afterTo t s I j B .rows) (afterTo t s I j B .matrices) (afterTo t s I j B .terms) partAt f l turn-accepted
 
   -- wiping twice is wiping once
   wiped-rows : (j : ℕ) → suc j ≤ r → afterTo t s I (suc j) B .rows ≡ fillTo (rowsLength (t .n)) zeroAt (B .rows)

@@ -35,7 +35,7 @@ use Rattle.jobcall.specs.Told.{Buffers, countsLength}
 use Rattle.many.specs.Many.{partOf, responseAt, withY, blockLength, betaFor, lengthsFor, verdictFor}
 use Rattle.many.proofs.Parts.{part-length, all-in-part, block-fits}
 use Rattle.many.proofs.Single.{zeros-length}
-use Rattle.many.proofs.Alone.{RoomIn, inputsAt}
+use Rattle.many.proofs.Alone.{RoomIn, listsAt}
 
 -- ---- the same design with one other response
 module _ (r : ℕ) (t : Settings) (s : Shape) (I : Inputs) (L : LentLengths) (f : CarriedFamily) (l : CarriedLink) (e : tableOf r t s I L ≡ Accepted f l) where
@@ -131,7 +131,7 @@ module _ (r : ℕ) (t : Settings) (s : Shape) (I : Inputs) (B : Buffers) (f : Ca
           let g = all-sound .work-fits in
           record { rows = rw k (g .rows); matrices = rw m (g .matrices); terms = rw w (g .terms) }
 
-      pub each-accepted : tableOf 1 t s (inputsAt t s I i) (lengthsOf (lentFor t rows matrices terms block)) ≡ Accepted f l
+      pub each-accepted : tableOf 1 t s (listsAt t s I i) (lengthsOf (lentFor t rows matrices terms block)) ≡ Accepted f l
       each-accepted =
           one-accepted r t s I asked f l at-table (responseAt (t .n) i (I .y)) (lengthsOf (lentFor t rows matrices terms block))
           (part-length (i * t .n) (t .n) (I .y) inside)

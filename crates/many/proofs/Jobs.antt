@@ -16,7 +16,7 @@ use Rattle.job.specs.Job.{Job, sound, readOf}
 use Rattle.jobfit.specs.Done.{inputsOf}
 use Rattle.jobcall.specs.Told.{Buffers, Told, told, countsLength, returnedBy, toldBy, answered}
 use Rattle.many.specs.Many.{responseAt, lentTo, singleOf, afterTo, verdictFor, manyOf, jobWithY, manyAnswered, fitManyOf}
-use Rattle.many.proofs.Alone.{inputsAt}
+use Rattle.many.proofs.Alone.{listsAt}
 use Rattle.many.proofs.Calls.{many-accepted, response-results, response-counts}
 use Rattle.many.proofs.Refusals.{accepted-exactly}
 
@@ -49,7 +49,7 @@ module _ (s : List ℕ) (ys : List Float) (r : ℕ) (B : Buffers) (j : Job) (rea
   abbrev pub single : ℕ → Told
   single i = answered (sound (jobWithY (responseAt (j .settings .n) i ys) j)) (lentTo (j .settings) i B)
 
-  single-is : (i : ℕ) → single i ≡ singleOf (j .settings) (j .shape) (inputsAt (j .settings) (j .shape) given i) (lentTo (j .settings) i B)
+  single-is : (i : ℕ) → single i ≡ singleOf (j .settings) (j .shape) (listsAt (j .settings) (j .shape) given i) (lentTo (j .settings) i B)
   unfolding answered
   single-is i = refl
 

@@ -40,7 +40,7 @@ use Rattle.jobcall.specs.Told.{Buffers, buffers, Told, told, countsLength, coun
 use Rattle.many.specs.Many.{partOf, placedIn, responseAt, withY, blockLength, lentTo, backFrom, singleOf, afterOne, afterTo, betaFor, lengthsFor, verdictFor, refusedWith, manyBy, manyOf, jobWithY, manyAnswered, fitManyOf}
 use Rattle.many.proofs.Parts.{part-length, placed-same}
 use Rattle.many.proofs.Single.{zeros-length, counts-length, numbers-length}
-use Rattle.many.proofs.Alone.{RoomIn, inputsAt}
+use Rattle.many.proofs.Alone.{RoomIn, listsAt}
 use Rattle.many.proofs.Each.{all-sound, room-in}
 use Rattle.many.proofs.Calls.{many-accepted}
 

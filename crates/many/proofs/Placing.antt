@@ -26,6 +26,9 @@ use Rattle.many.specs.Room.{DesignFronts, manyFronts, Roomy}
 pub product-small : (r n c : ℕ) → r ≤ 64 → n ≤ c → r * n ≤ 64 * c
 product-small r n c h l = mul-le-mul {n₂ = 64} {m₂ = c} h l
 
+pub cells-small : (r p : ℕ) → r ≤ 64 → p ≤ 16 → r * p * p ≤ 16384
+cells-small r p h l = let m : r * p * p ≤ 1024 * 16 = mul-le-mul {n₂ = 1024} {m₂ = 16} (product-small r p 16 h l) l in omega (arith, m)
+
 block-few : (t : Settings) → SizesFew t → blockLength t ≤ 1906
 block-few t f = omega (arith, f .n, f .p, f .q, cells-few (t .p) (f .p))
 

@@ -44,38 +44,38 @@ use Rattle.many.specs.Many.{lengthsFor, verdictFor, refusedWith, manyBy,
 -- ---- by the table
 module _ (r : ℕ) (t : Settings) (s : Shape) (I : Inputs) (B : Buffers) where
   -- the lengths that the table is told
-  abbrev pub told : LentLengths
-  told = lengthsFor r t (length (B .rows)) (length (B .matrices)) (length (B .terms)) (length (B .results)) (length (B .counts))
+  abbrev pub asked : LentLengths
+  asked = lengthsFor r t (length (B .rows)) (length (B .matrices)) (length (B .terms)) (length (B .results)) (length (B .counts))
 
-  pub refused-many : (x : Refusal) → tableOf r t s I told ≡ Refused x → manyOf r t s I B ≡ refusedWith (refusalNumber x) 0 B
+  pub refused-many : (x : Refusal) → tableOf r t s I asked ≡ Refused x → manyOf r t s I B ≡ refusedWith (refusalNumber x) 0 B
   unfolding manyOf manyBy verdictFor
   refused-many x e = rw e refl
 
-  given-number : (x : Refusal) → GivenWhen r t s I told x → manyOf r t s I B .returned ≡ refusalNumber x
+  given-number : (x : Refusal) → GivenWhen r t s I asked x → manyOf r t s I B .returned ≡ refusalNumber x
   unfolding refusedWith
-  given-number x g = ap (λ (z : Told). z .returned) (refused-many x (refused-when r t s I told x .1 g))
+  given-number x g = ap (λ (z : Told). z .returned) (refused-many x (refused-when r t s I asked x .1 g))
 
-  accepted-number : SomeAccepted r t s I told → manyOf r t s I B .returned ≡ 0
+  accepted-number : SomeAccepted r t s I asked → manyOf r t s I B .returned ≡ 0
   unfolding manyOf manyBy verdictFor
-  accepted-number (f, l, g) = rw (accepted-when r t s I told f l .1 g) refl
+  accepted-number (f, l, g) = rw (accepted-when r t s I asked f l .1 g) refl
 
   -- every number of the table exactly when the table says
-  pub refused-exactly : (x : Refusal) → (manyOf r t s I B .returned ≡ refusalNumber x) ↔ GivenWhen r t s I told x
+  pub refused-exactly : (x : Refusal) → (manyOf r t s I B .returned ≡ refusalNumber x) ↔ GivenWhen r t s I asked x
   refused-exactly x = (
     λ e.
         ⊎-elim
-        (λ (d : (y : Refusal) × GivenWhen r t s I told y). let q : d .0 ≡ x = same-refusal (d .0) x (sym (given-number (d .0) (d .1)) ∙ e) in rw q at (d .1))
-        (λ (d : SomeAccepted r t s I told). absurd (refusal-some x (sym e ∙ accepted-number d)))
-        (decided r t s I told),
+        (λ (d : (y : Refusal) × GivenWhen r t s I asked y). let q : d .0 ≡ x = same-refusal (d .0) x (sym (given-number (d .0) (d .1)) ∙ e) in rw q at (d .1))
+        (λ (d : SomeAccepted r t s I asked). absurd (refusal-some x (sym e ∙ accepted-number d)))
+        (decided r t s I asked),
     given-number x,
   )
 
   -- 0 exactly where every test is passed
-  pub accepted-exactly : (manyOf r t s I B .returned ≡ 0) ↔ SomeAccepted r t s I told
+  pub accepted-exactly : (manyOf r t s I B .returned ≡ 0) ↔ SomeAccepted r t s I asked
   accepted-exactly = (
     λ e.
-        ⊎-elim (λ (d : (y : Refusal) × GivenWhen r t s I told y). absurd (refusal-some (d .0) (sym (given-number (d .0) (d .1)) ∙ e))) (λ (d : SomeAccepted r t s I told). d)
-        (decided r t s I told),
+        ⊎-elim (λ (d : (y : Refusal) × GivenWhen r t s I asked y). absurd (refusal-some (d .0) (sym (given-number (d .0) (d .1)) ∙ e))) (λ (d : SomeAccepted r t s I asked). d)
+        (decided r t s I asked),
     accepted-number,
   )
 
@@ -90,14 +90,14 @@ module _ (r : ℕ) (t : Settings) (s : Shape) (I : Inputs) (B : Buffers) where
   )
 
   -- one number that is not finite, in whichever response it stands, refuses the whole call with 3 where nothing before it does
-  pub three-anywhere : PastRows r t s I told → (k : ℕ) → k < length (I .y) → finite (I .y ! k) ≡ false → manyOf r t s I B ≡ refusedWith 3 0 B
+  pub three-anywhere : PastRows r t s I asked → (k : ℕ) → k < length (I .y) → finite (I .y ! k) ≡ false → manyOf r t s I B ≡ refusedWith 3 0 B
   unfolding GivenWhen
-  three-anywhere p k h q = refused-many NotFinite (refused-when r t s I told NotFinite .1 (p, sym (false-unless (λ z. ff (sym q ∙ numbers-exactly I .0 z .y k h)))))
+  three-anywhere p k h q = refused-many NotFinite (refused-when r t s I asked NotFinite .1 (p, sym (false-unless (λ z. ff (sym q ∙ numbers-exactly I .0 z .y k h)))))
 
   -- and one response out of its family's range with 9
-  pub nine-anywhere : PastLink r t s I told → (k : ℕ) → k < length (I .y) → inRange (carriedFamily (t .family)) (I .y ! k) ≡ false → manyOf r t s I B ≡ refusedWith 9 0 B
+  pub nine-anywhere : PastLink r t s I asked → (k : ℕ) → k < length (I .y) → inRange (carriedFamily (t .family)) (I .y ! k) ≡ false → manyOf r t s I B ≡ refusedWith 9 0 B
   unfolding GivenWhen
-  nine-anywhere p k h q = refused-many ResponseRange (refused-when r t s I told ResponseRange .1 (p, outside-exactly (carriedFamily (t .family)) (I .y) .1 (k, (h, q))))
+  nine-anywhere p k h q = refused-many ResponseRange (refused-when r t s I asked ResponseRange .1 (p, outside-exactly (carriedFamily (t .family)) (I .y) .1 (k, (h, q))))
 
 -- ---- what a refusal leaves
 -- all but the first counts
