@@ -30,11 +30,12 @@ use Rattle.many.specs.Room.{fewOf, DesignFronts, manyFronts}
 use Rattle.many.proofs.Asked.{few-verdict}
 
 -- ---- by the verdict, which is asked with products of 64 responses at most
-module _ (r : ℕ) (t : Settings) (s : Shape) (I : Inputs) (rows matrices terms results : List Float) (counts : List ℕ) (lent : LentLengths) (v : Verdict)
-    (asked : lent ≡ lengthsFor (fewOf r) t (length rows) (length matrices) (length terms) (length results) (length counts)) (said : v ≡ tableOf r t s I lent) where
+module _ (r : ℕ) (t : Settings) (s : Shape) (I : Inputs) (rows matrices terms results : List Float) (counts : List ℕ) (few : ℕ) (lent : LentLengths) (v : Verdict)
+    (most : few ≡ fewOf r) (asked : lent ≡ lengthsFor few t (length rows) (length matrices) (length terms) (length results) (length counts)) (said : v ≡ tableOf r t s I lent) where
   pub verdict-is : (w : Verdict) → v ≡ w → verdictFor r t s I (buffers rows matrices terms results counts) ≡ w
   unfolding verdictFor
-  verdict-is w e = sym (few-verdict r t s I (length rows) (length matrices) (length terms) (length results) (length counts)) ∙ rw (← asked) (sym said ∙ e)
+  verdict-is w e =
+      sym (few-verdict r t s I (length rows) (length matrices) (length terms) (length results) (length counts)) ∙ rw (← most, ← asked) (sym said ∙ e)
 
   pub refused-told : (x : Refusal) (number : ℕ) (after : List ℕ) → v ≡ Refused x → number ≡ refusalNumber x → after ≡ laid (countsOf (blankAnswer number noCounts) 0) counts
       → told number (buffers rows matrices terms results after) ≡ manyOf r t s I (buffers rows matrices terms results counts)

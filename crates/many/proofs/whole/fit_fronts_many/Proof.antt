@@ -1,0 +1,80 @@
+-- `many::fit_fronts_many` meets its contract: the verdict is that on all responses, and what is accepted has room for each. Assumes nothing.
+use mathlib.Core.Path.{refl}
+use Rattle.model.specs.Inputs.{inputs}
+use Rattle.table.specs.declared.verdicts.Verdict.the-variants.{Accepted}
+use Rattle.jobcall.specs.Told.{buffers}
+use Rattle.many.specs.Room.{manyFronts}
+use Rattle.many.proofs.Asked.{few-few, roomy-by}
+use Rattle.many.proofs.Telling.{verdict-is, refused-told, fitted-told}
+use borrow.Author.Needs.{needs}
+use Rattle.many.proofs.whole.fit_fronts_many.Statement.{statement}
+use Rattle.many.proofs.whole.fit_fronts_many.Tie as tie
+
+few-of-requires : tie.Need-few-of-requires
+few-of-requires c κs = search needs
+
+lengths-for-requires : tie.Need-lengths-for-requires
+lengths-for-requires c κs = (rw (c .few-of .ensures) (few-few _), c .before .before .before .before .before .before .before .before .before .before .before .before .before .before .before .pre .1 .sizes)
+
+verdict-fronts-requires : tie.Need-verdict-fronts-requires
+verdict-fronts-requires c κs = c .before .before .before .before .before .before .before .before .before .before .before .before .before .before .before .before .pre .1
+
+enum-known-verdict : tie.Need-enum-known-verdict
+enum-known-verdict c = search needs
+
+refusal-number-requires : tie.Need-refusal-number-requires
+refusal-number-requires c κs = search needs
+
+put-refusal-requires : tie.Need-put-refusal-requires
+put-refusal-requires c κs = c .before .before .before .before .before .before .before .before .before .before .before .before .before .before .before .before .before .before .before .before .before .before .pre .0
+
+enum-told : tie.Need-enum-told
+enum-told c = search needs
+
+fit-each-requires : tie.Need-fit-each-requires
+fit-each-requires c κs = let a = c .before .before .before .before .before .before .before .before .before .before .before .before .before .before .before .before .before .before .before .before .before .before .before .before .args in roomy-by (a .responses) (a .header) (a .shape) (inputs (a .theta .now) (a .y .now) (a .weights .now) (a .offset .now) (a .x .now) (a .starts .now) (a .columns .now) (a .values .now)) (buffers (a .rows .now) (a .matrices .now) (a .terms .now) (a .results .now) (a .counts .now)) _ _ (verdict-is (a .responses) (a .header .settings) (a .shape) (manyFronts (a .header) (inputs (a .theta .now) (a .y .now) (a .weights .now) (a .offset .now) (a .x .now) (a .starts .now) (a .columns .now) (a .values .now))) (a .rows .now) (a .matrices .now) (a .terms .now) (a .results .now) (a .counts .now) _ _ _ (c .before .before .before .before .before .before .before .before .before .few-of .ensures) (c .before .before .before .before .before .before .before .before .lengths-for .ensures) (c .before .before .before .before .before .before .before .verdict-fronts .ensures) _ (c .before .before .before .before .before .enum-told .given .1)) (c .before .before .before .before .before .before .before .before .before .before .before .before .before .before .before .before .before .before .before .before .before .before .before .before .pre .1)
+
+same-length : tie.Need-same-length
+same-length c = c .before .before .put-refusal .kept .1 .1 .0
+
+returns : tie.Need-returns
+returns c = let a = c .before .before .before .before .before .before .before .before .before .before .before .before .before .before .before .before .before .before .before .before .before .before .before .before .before .args in refused-told (a .responses) (a .header .settings) (a .shape) (manyFronts (a .header) (inputs (a .theta .now) (a .y .now) (a .weights .now) (a .offset .now) (a .x .now) (a .starts .now) (a .columns .now) (a .values .now))) (a .rows .now) (a .matrices .now) (a .terms .now) (a .results .now) (a .counts .now) _ _ _ (c .before .before .before .before .before .before .before .before .before .before .few-of .ensures) (c .before .before .before .before .before .before .before .before .before .lengths-for .ensures) (c .before .before .before .before .before .before .before .before .verdict-fronts .ensures) _ _ _ (c .before .before .before .before .before .before .verdict .given .1) (c .before .before .before .before .refusal-number .ensures) (c .before .before .put-refusal .ensures)
+
+same-length-2 : tie.Need-same-length-2
+same-length-2 c = c .before .before .before .before .before .before .before .before .before .before .fit-each .kept .1 .1 .1 .1 .1 .1 .1 .1 .1 .1 .1 .0
+
+same-length-3 : tie.Need-same-length-3
+same-length-3 c = c .before .before .before .before .before .before .before .before .before .before .fit-each .kept .1 .1 .1 .1 .1 .1 .1 .1 .1 .1 .1 .1 .0
+
+same-length-4 : tie.Need-same-length-4
+same-length-4 c = c .before .before .before .before .before .before .before .before .before .before .fit-each .kept .1 .1 .1 .1 .1 .1 .1 .1 .1 .1 .1 .1 .1 .0
+
+same-length-5 : tie.Need-same-length-5
+same-length-5 c = c .before .before .before .before .before .before .before .before .before .before .fit-each .kept .1 .1 .1 .1 .1 .1 .1 .1 .1 .1 .1 .1 .1 .1 .0
+
+same-length-6 : tie.Need-same-length-6
+same-length-6 c = c .before .before .before .before .before .before .before .before .before .before .fit-each .kept .1 .1 .1 .1 .1 .1 .1 .1 .1 .1 .1 .1 .1 .1 .1 .0
+
+returns-2 : tie.Need-returns-2
+returns-2 c = let a = c .before .before .before .before .before .before .before .before .before .before .before .before .before .before .before .before .before .before .before .before .before .before .before .before .before .before .before .before .before .before .before .before .before .before .before .args in fitted-told (a .responses) (a .header .settings) (a .shape) (manyFronts (a .header) (inputs (a .theta .now) (a .y .now) (a .weights .now) (a .offset .now) (a .x .now) (a .starts .now) (a .columns .now) (a .values .now))) (a .rows .now) (a .matrices .now) (a .terms .now) (a .results .now) (a .counts .now) _ _ _ (c .before .before .before .before .before .before .before .before .before .before .before .before .before .before .before .before .before .before .before .before .few-of .ensures) (c .before .before .before .before .before .before .before .before .before .before .before .before .before .before .before .before .before .before .before .lengths-for .ensures) (c .before .before .before .before .before .before .before .before .before .before .before .before .before .before .before .before .before .before .verdict-fronts .ensures) _ _ _ (c .before .before .before .before .before .before .before .before .before .before .before .before .before .before .before .before .enum-told .given .1) (c .before .before .before .before .before .before .before .before .before .before .fit-each .ensures)
+
+pub fit-fronts-many-spec : {M : Type 1} → statement M
+fit-fronts-many-spec =
+    tie.close
+    (tie.spec
+    few-of-requires
+    lengths-for-requires
+    verdict-fronts-requires
+    enum-known-verdict
+    refusal-number-requires
+    put-refusal-requires
+    enum-told
+    fit-each-requires
+    same-length
+    returns
+    same-length-2
+    same-length-3
+    same-length-4
+    same-length-5
+    same-length-6
+    returns-2)
