@@ -50,6 +50,12 @@ module _ (t : Settings) (s : Shape) (I : Inputs) (B : Buffers) (i : ℕ) where
       let L = lentFor t (B .rows) (B .matrices) (B .terms) (partOf (i * blockLength t) (blockLength t) (B .results)) in
       (call-parts t s (listsAt t s I i) L, call-accepted t s (listsAt t s I i) L)
 
+-- what an accepted call leaves in the work buffers: +0.0 in their named lengths, their rest as it was
+pub record WorkWiped (t : Settings) (B A : Buffers) : Type 0 where
+  pub rows : A .rows ≡ fillTo (rowsLength (t .n)) zeroAt (B .rows)
+  pub matrices : A .matrices ≡ fillTo (matricesLength (t .p) (t .rows)) zeroAt (B .matrices)
+  pub terms : A .terms ≡ fillTo termsLength zeroAt (B .terms)
+
 -- ---- a call that is accepted
 module _ (r : ℕ) (t : Settings) (s : Shape) (I : Inputs) (B : Buffers) (f : CarriedFamily) (l : CarriedLink) (e : verdictFor r t s I B ≡ Accepted f l) where
   -- it is the single calls, in order
@@ -74,7 +80,7 @@ module _ (r : ℕ) (t : Settings) (s : Shape) (I : Inputs) (B : Buffers) (f : Ca
     unfolding doneFor doneOf
     response-number =
         let L = lentFor t (B .rows) (B .matrices) (B .terms) (partOf (i * blockLength t) (blockLength t) (B .results)) in
-        accepted-exactly t s (listsAt t s I i) L .1 (f, l, accepted-when 1 t s (listsAt t s I i) (lengthsOf L) f l .0 response-accepted)
+        accepted-exactly t s (listsAt t s I i) L .1 (accepted-when 1 t s (listsAt t s I i) (lengthsOf L) f l .0 response-accepted .0)
 
     -- the block and the counts are those of the single call with its own parts of the buffers
     pub response-results : lentTo t i (afterTo t s I r B) .results ≡ singleOf t s (listsAt t s I i) (lentTo t i B) .after .results
@@ -97,7 +103,7 @@ module _ (r : ℕ) (t : Settings) (s : Shape) (I : Inputs) (B : Buffers) (f : Ca
   pub rest-counts : drop (r * countsLength) (afterTo t s I r B .counts) ≡ drop (r * countsLength) (B .counts)
   rest-counts = counts-rest t s I r B room r (r * countsLength) (le-refl r) (le-refl _)
 
-  -- ---- the work buffers: +0.0 in their named lengths, their rest as it was
+  -- ---- the work buffers
   module _ (j : ℕ) (h : j < r) where
     abbrev partAt : List Float
     partAt = partOf (j * blockLength t) (blockLength t) (afterTo t s I j B .results)
@@ -138,15 +144,9 @@ module _ (r : ℕ) (t : Settings) (s : Shape) (I : Inputs) (B : Buffers) (f : Ca
   wiped-terms zero h = turn-terms zero h
   wiped-terms (suc j) h = turn-terms (suc j) h ∙ (ap (fillTo termsLength zeroAt) (wiped-terms j (le-of-suc-le h)) ∙ fill-over termsLength zeroAt zeroAt (B .terms) (all-sound r t s I B f l e .work-fits .terms))
 
-  -- what an accepted call leaves in the work buffers
-  pub record WorkWiped (A : Buffers) : Type 0 where
-    pub rows : A .rows ≡ fillTo (rowsLength (t .n)) zeroAt (B .rows)
-    pub matrices : A .matrices ≡ fillTo (matricesLength (t .p) (t .rows)) zeroAt (B .matrices)
-    pub terms : A .terms ≡ fillTo termsLength zeroAt (B .terms)
-
-  pub many-work : WorkWiped (afterTo t s I r B)
+  pub many-work : WorkWiped t B (afterTo t s I r B)
   many-work = by r refl
     where
-      by : (k : ℕ) → r ≡ k → WorkWiped (afterTo t s I r B)
+      by : (k : ℕ) → r ≡ k → WorkWiped t B (afterTo t s I r B)
       by zero q = absurd (omega (arith, all-sound r t s I B f l e .responses .0))
       by (suc j) q = rw q (record { rows = wiped-rows j (rw q (le-refl _)); matrices = wiped-matrices j (rw q (le-refl _)); terms = wiped-terms j (rw q (le-refl _)) })

@@ -8,6 +8,7 @@ use lib.Dec.{leb}
 use lib.Ieee.{Float}
 use lib.ListN.{length}
 use Rattle.model.specs.Inputs.{Inputs}
+use Rattle.family.specs.Carried.{carriedFamily, carriedLink}
 use Rattle.family.specs.declared.carried.CarriedFamily.{CarriedFamily}
 use Rattle.family.specs.declared.carried.CarriedLink.{CarriedLink}
 use Rattle.table.specs.declared.verdicts.Verdict.the-variants.{Accepted}
@@ -38,8 +39,10 @@ module _ (s : List ℕ) (ys : List Float) (r : ℕ) (B : Buffers) (j : Job) (rea
   unfolding verdictFor
   verdict =
       let z : manyOf r (j .settings) (j .shape) given B .returned ≡ 0 = rw (← many-is) zero-told in
-      let a = accepted-exactly r (j .settings) (j .shape) given B .0 z in
-      (a .0, a .1, accepted-when r (j .settings) (j .shape) given _ (a .0) (a .1) .1 (a .2))
+      let p = accepted-exactly r (j .settings) (j .shape) given B .0 z in
+      let f = carriedFamily (j .settings .family) in
+      let l = carriedLink (j .settings .link) in
+      (f, l, accepted-when r (j .settings) (j .shape) given _ f l .1 (p, (refl, refl)))
 
   -- the buffers after the calls, one by one
   pub calls : fitManyOf s ys r B ≡ told 0 (afterTo (j .settings) (j .shape) given r B)

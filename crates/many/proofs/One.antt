@@ -101,7 +101,8 @@ module _ (t : Settings) (s : Shape) (I : Inputs) (B : Buffers) (counts : countsL
     own-y : withY (responseAt (t .n) 0 (I .y)) I ≡ I
     unfolding partOf
     own-y =
-        let all : length (I .y) ≤ t .n = rw (one-mul (t .n)) at (rw (all-sound 1 t s I B f l e .inputs-fit .y) (le-refl (1 * t .n))) in
+        let long-y : length (I .y) ≡ 1 * t .n = all-sound 1 t s I B f l e .inputs-fit .y in
+        let all : length (I .y) ≤ t .n = rw (long-y, one-mul (t .n)) (le-refl (t .n)) in
         let same : take (t .n) (drop (0 * t .n) (I .y)) ≡ I .y = rw (zero-mul (t .n)) (take-all (t .n) (I .y) all) in
         ap (λ (y : List Float). withY y I) same
 
@@ -149,11 +150,15 @@ module _ (t : Settings) (s : Shape) (I : Inputs) (B : Buffers) (counts : countsL
     unfolding afterTo afterOne backFrom toldBy lentTo
     after-one = placed-one (withY (responseAt (t .n) 0 (I .y)) I) (0 * blockLength t) own-y (zero-mul (blockLength t))
 
+    at-one : tableOf 1 t s I (lengthsOf (lentFor t (B .rows) (B .matrices) (B .terms) (B .results))) ≡ Accepted f l
+    unfolding verdictFor
+    at-one = rw (← lengths-one) e
+
     single-number : FitNumber (doneIn (B .results) .answer .number)
-    unfolding doneFor doneOf verdictFor
+    unfolding doneFor doneOf
     single-number =
         let L = lentFor t (B .rows) (B .matrices) (B .terms) (B .results) in
-        accepted-exactly t s I L .1 (f, l, accepted-when 1 t s I (lengthsOf L) f l .0 (rw (← lengths-one) e))
+        accepted-exactly t s I L .1 (accepted-when 1 t s I (lengthsOf L) f l .0 at-one .0)
 
     accepted-one : manyOf 1 t s I B ≡ singleOf t s I B
     unfolding toldBy

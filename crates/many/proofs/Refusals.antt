@@ -22,11 +22,11 @@ use Rattle.model.specs.declared.ends.Refusal.the-variants.{Responses, NotFinite
 use Rattle.model.specs.declared.sizes.Shape.{Shape}
 use Rattle.model.specs.declared.sizes.Settings.{Settings}
 use Rattle.model.proofs.Tests.{false-unless}
-use Rattle.family.specs.Carried.{carriedFamily}
+use Rattle.family.specs.Carried.{carriedFamily, carriedLink}
 use Rattle.family.specs.Family.{inRange}
 use Rattle.table.specs.Tests.{goodCount}
 use Rattle.table.specs.Table.{tableOf}
-use Rattle.table.specs.When.{PastRows, PastLink, GivenWhen, SomeAccepted}
+use Rattle.table.specs.When.{PastRows, PastLink, PastAll, GivenWhen}
 use Rattle.table.specs.declared.verdicts.LentLengths.{LentLengths}
 use Rattle.table.specs.declared.verdicts.Verdict.{Verdict}
 use Rattle.table.specs.declared.verdicts.Verdict.the-variants.{Accepted, Refused}
@@ -55,9 +55,9 @@ module _ (r : ℕ) (t : Settings) (s : Shape) (I : Inputs) (B : Buffers) where
   unfolding refusedWith
   given-number x g = ap (λ (z : Told). z .returned) (refused-many x (refused-when r t s I asked x .1 g))
 
-  accepted-number : SomeAccepted r t s I asked → manyOf r t s I B .returned ≡ 0
+  accepted-number : PastAll r t s I asked → manyOf r t s I B .returned ≡ 0
   unfolding manyOf manyBy verdictFor
-  accepted-number (f, l, g) = rw (accepted-when r t s I asked f l .1 g) refl
+  accepted-number p = rw (accepted-when r t s I asked (carriedFamily (t .family)) (carriedLink (t .link)) .1 (p, (refl, refl))) refl
 
   -- every number of the table exactly when the table says
   pub refused-exactly : (x : Refusal) → (manyOf r t s I B .returned ≡ refusalNumber x) ↔ GivenWhen r t s I asked x
@@ -65,16 +65,16 @@ module _ (r : ℕ) (t : Settings) (s : Shape) (I : Inputs) (B : Buffers) where
     λ e.
         ⊎-elim
         (λ (d : (y : Refusal) × GivenWhen r t s I asked y). let q : d .0 ≡ x = same-refusal (d .0) x (sym (given-number (d .0) (d .1)) ∙ e) in rw q at (d .1))
-        (λ (d : SomeAccepted r t s I asked). absurd (refusal-some x (sym e ∙ accepted-number d)))
+        (λ (d : PastAll r t s I asked). absurd (refusal-some x (sym e ∙ accepted-number d)))
         (decided r t s I asked),
     given-number x,
   )
 
   -- 0 exactly where every test is passed
-  pub accepted-exactly : (manyOf r t s I B .returned ≡ 0) ↔ SomeAccepted r t s I asked
+  pub accepted-exactly : (manyOf r t s I B .returned ≡ 0) ↔ PastAll r t s I asked
   accepted-exactly = (
     λ e.
-        ⊎-elim (λ (d : (y : Refusal) × GivenWhen r t s I asked y). absurd (refusal-some (d .0) (sym (given-number (d .0) (d .1)) ∙ e))) (λ (d : SomeAccepted r t s I asked). d)
+        ⊎-elim (λ (d : (y : Refusal) × GivenWhen r t s I asked y). absurd (refusal-some (d .0) (sym (given-number (d .0) (d .1)) ∙ e))) (λ (d : PastAll r t s I asked). d)
         (decided r t s I asked),
     accepted-number,
   )

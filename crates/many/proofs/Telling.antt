@@ -1,10 +1,10 @@
 -- What is told of a call of many responses: by the verdict, by the job's reading, and by the room for the counts. Assumes nothing.
 use mathlib.Core.Path.{_≡_, refl, sym, ap, _∙_}
 use mathlib.Core.List.{List}
-use Prim.Native.Nat.{ℕ, _≤_, _<_}
+use Prim.Native.Nat.{ℕ, _-_, _≤_, _<_}
 use borrow.Author.Tests.{le-leb, lt-leb}
 use lib.Ieee.{Float}
-use lib.ListN.{length, take}
+use lib.ListN.{length, take, drop}
 use Rattle.model.specs.Account.{noCounts}
 use Rattle.model.specs.Answer.{refusalNumber, blankAnswer}
 use Rattle.model.specs.Inputs.{Inputs, inputs}
@@ -23,7 +23,8 @@ use Rattle.reader.specs.declared.whole.Found.{Found}
 use Rattle.reader.specs.declared.whole.Header.{Header}
 use Rattle.jobfit.specs.Done.{inputsAt}
 use Rattle.jobfit.specs.Room.{Fronts, frontsOf}
-use Rattle.jobfit.proofs.Reading.{beside, ReadJob}
+use Rattle.jobfit.proofs.Lent.{front-is}
+use Rattle.jobfit.proofs.Reading.{ReadJob}
 use Rattle.jobcall.specs.Told.{Buffers, buffers, Told, told, countsLength, countsOf}
 use Rattle.many.specs.Many.{withY, afterTo, lengthsFor, verdictFor, refusedWith, manyBy, manyOf, manyAnswered, fitManyOf}
 use Rattle.many.specs.Room.{fewOf, DesignFronts, manyFronts}
@@ -55,8 +56,9 @@ unfolding manyAnswered refusedWith
 faulty-told s r ys rows matrices terms results counts after k b e q = rw (e, q) refl
 
 -- the lists of the design that was read stand in the fronts
-pub design-fronts : (h : Header) (theta own ys : List Float) (a : Inputs) → Fronts h (beside own a) → DesignFronts h (inputs theta ys (a .weights) (a .offset) (a .x) (a .starts) (a .columns) (a .values))
-design-fronts h theta own ys a f =
+pub design-fronts : (h : Header) (theta ys own y weights offset x : List Float) (starts columns : List ℕ) (values : List Float) → Fronts h (inputs own y weights offset x starts columns values)
+    → DesignFronts h (inputs theta ys weights offset x starts columns values)
+design-fronts h theta ys own y weights offset x starts columns values f =
     record {
       sizes = f .sizes;
       weights = f .weights;
@@ -67,13 +69,14 @@ design-fronts h theta own ys a f =
       values = f .values;
     }
 
--- a job that was read is called with all responses
-pub read-told : (s : List ℕ) (h : Header) (g : Found) (a : Inputs) → ReadJob s h g a → (theta : List Float) → theta ≡ take (h .thetas) (a .theta) → (r : ℕ) (ys : List Float) (B : Buffers) (x : Told)
-    → x ≡ manyOf r (h .settings) (g .shape) (manyFronts h (inputs theta ys (a .weights) (a .offset) (a .x) (a .starts) (a .columns) (a .values))) B
+-- a job that was read is called with all responses; its theta is the front of the slice that it was read into
+pub read-told : (s : List ℕ) (h : Header) (g : Found) (a : Inputs) → ReadJob s h g a → (r : ℕ) (ys : List Float) (B : Buffers) (x : Told)
+    → x ≡ manyOf r (h .settings) (g .shape) (manyFronts h (inputs (take (h .thetas - 0) (drop 0 (a .theta))) ys (a .weights) (a .offset) (a .x) (a .starts) (a .columns) (a .values))) B
     → x ≡ manyAnswered (readOf s) r ys B
 unfolding manyAnswered frontsOf
-read-told s h g a j theta e r ys B x d =
-    let q : theta ≡ jobOf s .theta = e ∙ j .own in
+read-told s h g a j r ys B x d =
+    let theta = take (h .thetas - 0) (drop 0 (a .theta)) in
+    let q : theta ≡ jobOf s .theta = front-is (h .thetas) (a .theta) ∙ j .own in
     let lists : manyFronts h (inputs theta ys (a .weights) (a .offset) (a .x) (a .starts) (a .columns) (a .values)) ≡ withY ys (inputsAt (jobOf s .theta) (jobOf s)) = ap (withY ys) (j .at theta) ∙ rw q refl in
     d ∙ rw (j .read, lists, j .settings, j .shape) refl
 

@@ -11,16 +11,27 @@ beta-for-requires : tie.Need-beta-for-requires
 beta-for-requires c κs = search needs
 
 mul-fixed : tie.Need-mul-fixed
-mul-fixed c = omega (arith, product-small (c .before .before .args .responses) (c .before .before .args .settings .p) 16 (c .before .before .pre .0) (c .before .before .pre .1 .p))
+mul-fixed c =
+    omega (
+      arith,
+      product-small (c .before .before .args .responses) (c .before .before .args .settings .p) 16 (c .before .before .pre .0)
+          (c .before .before .pre .1 .p),
+    )
 
 mul-effects : tie.Need-mul-effects
-mul-effects c = omega (arith, product-small (c .before .before .before .args .responses) (c .before .before .before .args .settings .rows) 32 (c .before .before .before .pre .0) (c .before .before .before .pre .1 .q))
+mul-effects c =
+    let start = c .before .before .before in
+    omega (arith, product-small (start .args .responses) (start .args .settings .rows) 32 (start .pre .0) (start .pre .1 .q))
 
 mul-observations : tie.Need-mul-observations
-mul-observations c = omega (arith, product-small (c .before .before .before .before .args .responses) (c .before .before .before .before .args .settings .n) 512 (c .before .before .before .before .pre .0) (c .before .before .before .before .pre .1 .n))
+mul-observations c =
+    let start = c .before .before .before .before in
+    omega (arith, product-small (start .args .responses) (start .args .settings .n) 512 (start .pre .0) (start .pre .1 .n))
 
 mul-v : tie.Need-mul-v
-mul-v c = omega (arith, cells-small (c .before .before .before .before .before .args .responses) (c .before .before .before .before .before .args .settings .p) (c .before .before .before .before .before .pre .0) (c .before .before .before .before .before .pre .1 .p))
+mul-v c =
+    let start = c .before .before .before .before .before in
+    omega (arith, cells-small (start .args .responses) (start .args .settings .p) (start .pre .0) (start .pre .1 .p))
 
 returns : tie.Need-returns
 unfolding lengthsFor

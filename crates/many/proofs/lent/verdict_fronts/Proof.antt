@@ -71,7 +71,13 @@ verdict-of-requires : tie.Need-verdict-of-requires
 verdict-of-requires c κs = search needs
 
 returns : tie.Need-returns
-returns c = let a = c .before .before .before .before .before .before .before .before .before .before .before .before .before .before .before .before .before .before .args in c .verdict-of .ensures ∙ ap (λ (I : Inputs). tableOf (a .responses) (a .header .settings) (a .shape) I (a .lent)) (fronts-many (a .header) (a .theta .now) (a .y .now) (a .weights .now) (a .offset .now) (a .x .now) (a .starts .now) (a .columns .now) (a .values .now))
+returns c =
+    let start = c .before .before .before .before .before .before .before .before
+    .before .before .before .before .before .before .before .before .before .before in
+    let a = start .args in
+    c .verdict-of .ensures
+    ∙ ap (λ (I : Inputs). tableOf (a .responses) (a .header .settings) (a .shape) I (a .lent))
+    (fronts-many (a .header) (a .theta .now) (a .y .now) (a .weights .now) (a .offset .now) (a .x .now) (a .starts .now) (a .columns .now) (a .values .now))
 
 pub verdict-fronts-spec : {M : Type 1} → statement M
 verdict-fronts-spec =

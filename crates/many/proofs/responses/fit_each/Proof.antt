@@ -13,16 +13,25 @@ use Rattle.many.proofs.responses.fit_each.Statement.{statement}
 use Rattle.many.proofs.responses.fit_each.Tie as tie
 
 abbrev Inv-loop : tie.InvT-loop
-Inv-loop responses header shape theta y weights offset x starts columns values rows₀ matrices₀ terms₀ results₀ counts₀ i₀ rows matrices terms results counts i = (i ≤ responses) × (length rows ≡ length rows₀) × (length matrices ≡ length matrices₀) × (length terms ≡ length terms₀) × (length results ≡ length results₀) × (length counts ≡ length counts₀) × (buffers rows matrices terms results counts ≡ afterTo (header .settings) shape (manyFronts header (inputs theta y weights offset x starts columns values)) i (buffers rows₀ matrices₀ terms₀ results₀ counts₀))
+Inv-loop responses header shape theta y weights offset x starts columns values rows₀ matrices₀ terms₀ results₀ counts₀ i₀ rows matrices terms results counts i =
+    (i ≤ responses) × (length rows ≡ length rows₀) × (length matrices ≡ length matrices₀) × (length terms ≡ length terms₀) × (length results ≡ length results₀)
+    × (length counts ≡ length counts₀)
+    × (buffers rows matrices terms results counts ≡ afterTo (header .settings) shape (manyFronts header (inputs theta y weights offset x starts columns values))
+    i (buffers rows₀ matrices₀ terms₀ results₀ counts₀))
 
 abbrev μ-loop : tie.MeasureT-loop
-μ-loop responses header shape theta y weights offset x starts columns values rows₀ matrices₀ terms₀ results₀ counts₀ i₀ rows matrices terms results counts i = responses - i
+μ-loop responses header shape theta y weights offset x starts columns values rows₀ matrices₀ terms₀ results₀ counts₀ i₀ rows matrices terms results counts i =
+    responses - i
 
 loop-holds : tie.Need-loop-holds Inv-loop μ-loop
 loop-holds c = (omega arith, refl, refl, refl, refl, refl, none-yet _ _ _ _)
 
 fit-response-requires : tie.Need-fit-response-requires Inv-loop μ-loop
-fit-response-requires c κs = (c .before .before .before .before .before .loop-test .taken, room-kept (c .before .before .before .before .before .before .before .before .before .before .before .before .before .before .before .before .before .before .before .before .pre) (c .before .before .before .before .before .before .loop .inv .4) (c .before .before .before .before .before .before .loop .inv .5))
+fit-response-requires c κs =
+    let loop-test = c .before .before .before .before .before in
+    let loop = loop-test .before in
+    let start = loop .before .before .before .before .before .before .before .before .before .before .before .before .before .before in
+    (loop-test .loop-test .taken, room-kept (start .pre) (loop .loop .inv .4) (loop .loop .inv .5))
 
 add-i : tie.Need-add-i Inv-loop μ-loop
 add-i c = search needs
@@ -31,7 +40,20 @@ loop-less : tie.Need-loop-less Inv-loop μ-loop
 loop-less c = search needs
 
 loop-again : tie.Need-loop-again Inv-loop μ-loop
-loop-again c = let k = c .before .before .before .before .before .before .before .before .before .before .fit-response .kept in let v = c .before .before .before .before .before .before .before .before .before .before .before .before .before .before .before .before .before .loop .inv in (omega (arith, c .before .before .before .before .before .before .before .before .before .before .before .before .before .before .before .before .loop-test .taken), k .1 .1 .1 .1 .1 .1 .1 .1 .1 .1 .1 .1 .0 ∙ v .1, k .1 .1 .1 .1 .1 .1 .1 .1 .1 .1 .1 .1 .1 .0 ∙ v .2, k .1 .1 .1 .1 .1 .1 .1 .1 .1 .1 .1 .1 .1 .1 .0 ∙ v .3, k .1 .1 .1 .1 .1 .1 .1 .1 .1 .1 .1 .1 .1 .1 .1 .0 ∙ v .4, k .1 .1 .1 .1 .1 .1 .1 .1 .1 .1 .1 .1 .1 .1 .1 .1 .0 ∙ v .5, next-one _ _ _ _ _ _ _ (v .6) (c .before .before .before .before .before .before .before .before .before .before .fit-response .ensures))
+loop-again c =
+    let fit-response = c .before .before .before .before .before .before .before .before .before .before in
+    let loop-test = fit-response .before .before .before .before .before .before in
+    let loop = loop-test .before in
+    let k = fit-response .fit-response .kept in
+    let v = loop .loop .inv in (
+      omega (arith, loop-test .loop-test .taken),
+      k .1 .1 .1 .1 .1 .1 .1 .1 .1 .1 .1 .1 .0 ∙ v .1,
+      k .1 .1 .1 .1 .1 .1 .1 .1 .1 .1 .1 .1 .1 .0 ∙ v .2,
+      k .1 .1 .1 .1 .1 .1 .1 .1 .1 .1 .1 .1 .1 .1 .0 ∙ v .3,
+      k .1 .1 .1 .1 .1 .1 .1 .1 .1 .1 .1 .1 .1 .1 .1 .0 ∙ v .4,
+      k .1 .1 .1 .1 .1 .1 .1 .1 .1 .1 .1 .1 .1 .1 .1 .1 .0 ∙ v .5,
+      next-one _ _ _ _ _ _ _ (v .6) (fit-response .fit-response .ensures),
+    )
 
 same-length : tie.Need-same-length Inv-loop μ-loop
 same-length c = c .before .loop .inv .1

@@ -36,22 +36,41 @@ read-many-requires : tie.Need-read-many-requires
 read-many-requires c κs = (c .before .before .before .before .before .before .before .before .before .before .before .before .before .if1 .left, fresh-room)
 
 same-length : tie.Need-same-length
-same-length c = c .before .before .before .before .before .before .before .before .before .before .before .before .before .before .before .before .before .before .read-many .kept .1 .1 .1 .1 .1 .1 .1 .1 .1 .1 .1 .0
+same-length c =
+    let read-many = c .before .before .before .before .before .before .before .before
+    .before .before .before .before .before .before .before .before .before .before in
+    read-many .read-many .kept .1 .1 .1 .1 .1 .1 .1 .1 .1 .1 .1 .0
 
 same-length-2 : tie.Need-same-length-2
-same-length-2 c = c .before .before .before .before .before .before .before .before .before .before .before .before .before .before .before .before .before .before .read-many .kept .1 .1 .1 .1 .1 .1 .1 .1 .1 .1 .1 .1 .0
+same-length-2 c =
+    let read-many = c .before .before .before .before .before .before .before .before
+    .before .before .before .before .before .before .before .before .before .before in
+    read-many .read-many .kept .1 .1 .1 .1 .1 .1 .1 .1 .1 .1 .1 .1 .0
 
 same-length-3 : tie.Need-same-length-3
-same-length-3 c = c .before .before .before .before .before .before .before .before .before .before .before .before .before .before .before .before .before .before .read-many .kept .1 .1 .1 .1 .1 .1 .1 .1 .1 .1 .1 .1 .1 .0
+same-length-3 c =
+    let read-many = c .before .before .before .before .before .before .before .before
+    .before .before .before .before .before .before .before .before .before .before in
+    read-many .read-many .kept .1 .1 .1 .1 .1 .1 .1 .1 .1 .1 .1 .1 .1 .0
 
 same-length-4 : tie.Need-same-length-4
-same-length-4 c = c .before .before .before .before .before .before .before .before .before .before .before .before .before .before .before .before .before .before .read-many .kept .1 .1 .1 .1 .1 .1 .1 .1 .1 .1 .1 .1 .1 .1 .0
+same-length-4 c =
+    let read-many = c .before .before .before .before .before .before .before .before
+    .before .before .before .before .before .before .before .before .before .before in
+    read-many .read-many .kept .1 .1 .1 .1 .1 .1 .1 .1 .1 .1 .1 .1 .1 .1 .0
 
 same-length-5 : tie.Need-same-length-5
-same-length-5 c = c .before .before .before .before .before .before .before .before .before .before .before .before .before .before .before .before .before .before .read-many .kept .1 .1 .1 .1 .1 .1 .1 .1 .1 .1 .1 .1 .1 .1 .1 .0
+same-length-5 c =
+    let read-many = c .before .before .before .before .before .before .before .before
+    .before .before .before .before .before .before .before .before .before .before in
+    read-many .read-many .kept .1 .1 .1 .1 .1 .1 .1 .1 .1 .1 .1 .1 .1 .1 .1 .0
 
 returns-2 : tie.Need-returns-2
-returns-2 c = long-told _ _ _ _ _ (c .before .before .before .before .before .before .before .before .before .before .before .before .before .before .before .before .before .before .before .before .before .before .before .before .before .before .before .before .before .before .before .before .if1 .left) (c .before .before .before .before .before .before .before .before .before .before .before .before .before .before .before .before .before .before .read-many .ensures)
+returns-2 c =
+    let read-many = c .before .before .before .before .before .before .before .before
+    .before .before .before .before .before .before .before .before .before .before in
+    let if1 = read-many .before .before .before .before .before .before .before .before .before .before .before .before .before .before in
+    long-told _ _ _ _ _ (if1 .if1 .left) (read-many .read-many .ensures)
 
 pub fit-many-spec : {M : Type 1} → statement M
 fit-many-spec =
