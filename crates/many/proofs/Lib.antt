@@ -11,3 +11,4 @@ pub mod Refusals
 pub mod One
 pub mod Jobs
 pub mod Unique
+pub mod Examples
