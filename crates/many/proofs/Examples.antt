@@ -6,12 +6,12 @@ use Rattle.many.specs.Many.{partOf, placedIn}
 use Rattle.many.specs.Room.{fewOf}
 
 -- five numbers in blocks of two: the second block
-second : partOf (1 * 2) 2 (10 ∷ 11 ∷ 12 ∷ 13 ∷ 14 ∷ []) ≡ 12 ∷ 13 ∷ []
+second : partOf {A = ℕ} (1 * 2) 2 (10 ∷ 11 ∷ 12 ∷ 13 ∷ 14 ∷ []) ≡ 12 ∷ 13 ∷ []
 unfolding partOf
 second = refl
 
 -- another in its place, with what stands before and behind it
-second-placed : placedIn (1 * 2) 2 (22 ∷ 23 ∷ []) (10 ∷ 11 ∷ 12 ∷ 13 ∷ 14 ∷ []) ≡ 10 ∷ 11 ∷ 22 ∷ 23 ∷ 14 ∷ []
+second-placed : placedIn {A = ℕ} (1 * 2) 2 (22 ∷ 23 ∷ []) (10 ∷ 11 ∷ 12 ∷ 13 ∷ 14 ∷ []) ≡ 10 ∷ 11 ∷ 22 ∷ 23 ∷ 14 ∷ []
 unfolding placedIn
 second-placed = refl
 
