@@ -5,7 +5,6 @@ use mathlib.Core.Logic.{⊎-elim}
 use Prim.Native.Nat.{ℕ, zero, suc, _+_, _*_, _≤_, _<_}
 use native.Mathlib.Nat.{not-suc-le-zero, le-refl, le-trans, le-of-suc-le, le-add-right, le-suc-iff, suc-mul}
 use native.Mathlib.Omega.{arith}
-use lib.Ieee.{Float}
 use lib.ListN.{length, take, drop}
 use Rattle.model.specs.Inputs.{Inputs}
 use Rattle.model.specs.declared.sizes.Shape.{Shape}
@@ -13,9 +12,9 @@ use Rattle.model.specs.declared.sizes.Settings.{Settings}
 use Rattle.job.specs.Lists.{laid}
 use Rattle.job.proofs.ListLaws.{laid-length}
 use Rattle.jobfit.specs.Done.{Done, doneFor}
-use Rattle.jobcall.specs.Told.{Buffers, buffers, Told, countsLength, countsOf, toldBy}
-use Rattle.many.specs.Many.{partOf, placedIn, responseAt, withY, blockLength, lentTo, backFrom, singleOf, afterOne, afterTo}
-use Rattle.many.proofs.Parts.{part-length, placed-length, part-own, part-before, part-after, rest-kept, block-fits}
+use Rattle.jobcall.specs.Told.{Buffers, buffers, countsLength, countsOf, toldBy}
+use Rattle.many.specs.Many.{partOf, placedIn, responseAt, withY, blockLength, lentTo, backFrom, afterOne, afterTo}
+use Rattle.many.proofs.Parts.{part-length, placed-length, part-own, part-before, rest-kept, block-fits}
 use Rattle.many.proofs.Single.{counts-length, done-length, work-lengths, done-work-free}
 
 -- every buffer is as long as it was

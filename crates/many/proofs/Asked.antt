@@ -1,18 +1,18 @@
 -- What the table is told and asked: the products are formed of 64 responses at most, and where there are more the table refuses before it looks at a length. Assumes nothing.
-use mathlib.Core.Path.{_≡_, refl, sym, ap, _∙_}
-use mathlib.Core.Bool.{Bool, true, false, cond, _&&_}
+use mathlib.Core.Path.{_≡_, refl, sym, _∙_}
+use mathlib.Core.Bool.{Bool, true, false, cond}
 use mathlib.Core.List.{List}
 use Prim.Native.Nat.{ℕ, _+_, _-_, _*_, _≤_, _<_}
 use native.Mathlib.Omega.{arith}
 use borrow.Author.Tests.{le-leb, lt-leb, leb-true, leb-false}
 use lib.Dec.{leb}
 use lib.Ieee.{Float}
-use lib.ListN.{length, take, drop}
+use lib.ListN.{take, drop}
 use Rattle.model.specs.Inputs.{Inputs, inputs}
 use Rattle.model.specs.Settings.{goodSizes}
 use Rattle.model.specs.declared.sizes.Shape.{Shape}
 use Rattle.model.specs.declared.sizes.Settings.{Settings}
-use Rattle.model.proofs.Tests.{joined, false-unless}
+use Rattle.model.proofs.Tests.{false-unless}
 use Rattle.table.specs.Tests.{goodCount}
 use Rattle.table.specs.Table.{tableOf}
 use Rattle.table.specs.declared.verdicts.LentLengths.{LentLengths}
@@ -22,13 +22,12 @@ use Rattle.table.proofs.Exactly.{count-exactly}
 use Rattle.family.specs.declared.carried.CarriedFamily.{CarriedFamily}
 use Rattle.family.specs.declared.carried.CarriedLink.{CarriedLink}
 use Rattle.reader.specs.declared.whole.Header.{Header}
-use Rattle.jobfit.specs.Room.{SizesFew, frontsOf}
+use Rattle.jobfit.specs.Room.{frontsOf}
 use Rattle.jobfit.proofs.Lent.{front-is}
 use Rattle.jobcall.specs.Told.{Buffers, countsLength}
-use Rattle.many.specs.Many.{withY, blockLength, betaFor, lengthsFor, verdictFor}
+use Rattle.many.specs.Many.{blockLength, betaFor, lengthsFor, verdictFor}
 use Rattle.many.specs.Room.{fewOf, DesignFronts, manyFronts, Roomy}
 use Rattle.many.proofs.Each.{all-sound, room-in}
-use Rattle.many.proofs.Alone.{RoomIn}
 
 -- ---- how much of beta
 module _ (r : ℕ) (t : Settings) (results counts block : ℕ) (e : block ≡ blockLength t) where

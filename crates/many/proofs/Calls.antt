@@ -1,15 +1,11 @@
 -- A call of many responses is the single calls one by one: what each response is told and given, what an accepted call leaves behind, and one response as `fit_job` fits it. Assumes nothing.
-use mathlib.Core.Path.{_≡_, refl, sym, ap, _∙_}
-use mathlib.Core.Bool.{Bool, true, false, cond, _&&_}
+use mathlib.Core.Path.{_≡_, refl, ap, _∙_}
 use mathlib.Core.List.{List}
-use Prim.Native.Nat.{ℕ, zero, suc, _+_, _*_, _≤_, _<_}
-use native.Mathlib.Nat.{le-refl, le-trans, le-of-suc-le, zero-mul, one-mul}
+use Prim.Native.Nat.{ℕ, zero, suc, _*_, _≤_, _<_}
+use native.Mathlib.Nat.{le-refl, le-trans, le-of-suc-le}
 use native.Mathlib.Omega.{arith}
-use borrow.Author.Tests.{le-leb, leb-true}
-use lib.Dec.{leb}
 use lib.Ieee.{Float}
-use lib.ListN.{length, take, drop}
-use lib.Seq.{take-all}
+use lib.ListN.{length, drop}
 use Rattle.base.specs.List.{zeroAt, fillTo}
 use Rattle.base.proofs.Fills.{fill-over}
 use Rattle.model.specs.Account.{AddsUp, Accepts, Capped}
@@ -22,17 +18,15 @@ use Rattle.layout.specs.WorkTerms.{termsLength}
 use Rattle.family.specs.declared.carried.CarriedFamily.{CarriedFamily}
 use Rattle.family.specs.declared.carried.CarriedLink.{CarriedLink}
 use Rattle.table.specs.Table.{tableOf}
-use Rattle.table.specs.declared.verdicts.Verdict.the-variants.{Accepted, Refused}
-use Rattle.job.specs.Lists.{laid}
-use Rattle.job.specs.Job.{Job, sound}
+use Rattle.table.specs.declared.verdicts.Verdict.the-variants.{Accepted}
 use Rattle.call.specs.Call.{FitNumber, lengthsOf}
 use Rattle.call.proofs.Capped.{call-capped}
 use Rattle.call.proofs.Parts.{call-parts, call-accepted}
 use Rattle.call.proofs.When.{accepted-exactly}
 use Rattle.table.proofs.When.{accepted-when}
-use Rattle.jobfit.specs.Done.{inputsOf, lentFor, Done, doneOf, doneFor}
-use Rattle.jobcall.specs.Told.{Buffers, buffers, Told, told, countsLength, countsOf, toldBy, answered}
-use Rattle.many.specs.Many.{partOf, responseAt, withY, blockLength, lentTo, backFrom, singleOf, afterOne, afterTo, lengthsFor, verdictFor, manyBy, manyOf, jobWithY}
+use Rattle.jobfit.specs.Done.{lentFor, doneOf, doneFor}
+use Rattle.jobcall.specs.Told.{Buffers, told, countsLength, toldBy}
+use Rattle.many.specs.Many.{partOf, blockLength, lentTo, backFrom, singleOf, afterOne, afterTo, lengthsFor, verdictFor, manyBy, manyOf}
 use Rattle.many.proofs.Parts.{part-length, block-fits}
 use Rattle.many.proofs.Single.{done-rows, done-matrices, done-terms, done-unfitted}
 use Rattle.many.proofs.Alone.{SameLengths, RoomIn, listsAt, doneAt, lengths-to, results-behind, counts-rest, block-alone, counts-alone}

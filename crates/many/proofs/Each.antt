@@ -3,7 +3,7 @@ use mathlib.Core.Path.{_≡_, refl, sym, ap, _∙_}
 use mathlib.Core.Bool.{Bool, true, false, cond, _&&_}
 use mathlib.Core.List.{List}
 use Prim.Native.Nat.{ℕ, _+_, _*_, _≤_, _<_}
-use native.Mathlib.Nat.{mul-pos, one-mul, le-trans}
+use native.Mathlib.Nat.{mul-pos, one-mul}
 use native.Mathlib.Omega.{arith}
 use borrow.Author.Tests.{leb-true}
 use lib.Dec.{leb}
@@ -29,10 +29,10 @@ use Rattle.table.specs.declared.verdicts.Verdict.the-variants.{Accepted}
 use Rattle.table.proofs.Accepting.{isAccepted, line-6, past-lines, accepted-sound}
 use Rattle.table.proofs.Exactly.{sizes-exactly, count-exactly, inputs-exactly, results-exactly, work-exactly, numbers-exactly, range-exactly, start-exactly}
 use Rattle.call.specs.Call.{lengthsOf}
-use Rattle.jobfit.specs.Done.{zeros, lentFor}
+use Rattle.jobfit.specs.Done.{lentFor}
 use Rattle.jobfit.proofs.Lent.{beta-lent}
 use Rattle.jobcall.specs.Told.{Buffers, countsLength}
-use Rattle.many.specs.Many.{partOf, responseAt, withY, blockLength, betaFor, lengthsFor, verdictFor}
+use Rattle.many.specs.Many.{responseAt, withY, blockLength, betaFor, lengthsFor, verdictFor}
 use Rattle.many.proofs.Parts.{part-length, all-in-part, block-fits}
 use Rattle.many.proofs.Single.{zeros-length}
 use Rattle.many.proofs.Alone.{RoomIn, listsAt}

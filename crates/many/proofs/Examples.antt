@@ -1,6 +1,6 @@
 -- Closed parts, which the checker computes: where a response stands, and what is put back where. Assumes nothing.
 use mathlib.Core.Path.{_≡_, refl}
-use mathlib.Core.List.{List, [], _∷_}
+use mathlib.Core.List.{[], _∷_}
 use Prim.Native.Nat.{ℕ, _*_}
 use Rattle.many.specs.Many.{partOf, placedIn}
 use Rattle.many.specs.Room.{fewOf}

@@ -1,8 +1,8 @@
 -- The call of a job with many responses: each of them is told and given what the single call of the job with this response in place of its own gives, with its own parts of the buffers. Assumes nothing.
-use mathlib.Core.Path.{_≡_, refl, sym, ap, _∙_}
+use mathlib.Core.Path.{_≡_, refl, _∙_}
 use mathlib.Core.Bool.{Bool, true, false}
 use mathlib.Core.List.{List}
-use Prim.Native.Nat.{ℕ, _≤_, _<_}
+use Prim.Native.Nat.{ℕ, _<_}
 use native.Mathlib.Omega.{arith}
 use lib.Dec.{leb}
 use lib.Ieee.{Float}
@@ -15,7 +15,7 @@ use Rattle.table.specs.declared.verdicts.Verdict.the-variants.{Accepted}
 use Rattle.table.proofs.When.{accepted-when}
 use Rattle.job.specs.Job.{Job, sound, readOf}
 use Rattle.jobfit.specs.Done.{inputsOf}
-use Rattle.jobcall.specs.Told.{Buffers, Told, told, countsLength, returnedBy, toldBy, answered}
+use Rattle.jobcall.specs.Told.{Buffers, Told, told, countsLength, answered}
 use Rattle.many.specs.Many.{responseAt, lentTo, singleOf, afterTo, verdictFor, manyOf, jobWithY, manyAnswered, fitManyOf}
 use Rattle.many.proofs.Alone.{listsAt}
 use Rattle.many.proofs.Calls.{many-accepted, response-results, response-counts}

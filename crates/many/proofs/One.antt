@@ -2,17 +2,15 @@
 use mathlib.Core.Path.{_≡_, refl, sym, ap, _∙_}
 use mathlib.Core.Bool.{Bool, true, false, cond, _&&_}
 use mathlib.Core.List.{List, _++_, append-assoc}
-use mathlib.Core.Logic.{_⊎_, ⊎-elim}
-use Prim.Native.Nat.{ℕ, zero, suc, _+_, _*_, _≤_, _<_}
+use mathlib.Core.Logic.{⊎-elim}
+use Prim.Native.Nat.{ℕ, _*_, _≤_}
 use native.Mathlib.Nat.{le-refl, zero-add, zero-mul, one-mul}
-use native.Mathlib.Omega.{arith}
 use borrow.Author.Tests.{le-leb, eqb-true, ne-eqb, leb-true}
 use lib.Dec.{leb, eqb}
 use lib.Ieee.{Float}
 use lib.ListN.{length, take, drop, take-append-drop}
 use lib.Seq.{take-all, drop-append-le, length-take-le}
-use Rattle.model.specs.Account.{noCounts}
-use Rattle.model.specs.Answer.{isEnd, refusalNumber, blankAnswer}
+use Rattle.model.specs.Answer.{refusalNumber}
 use Rattle.model.specs.Inputs.{Inputs}
 use Rattle.model.specs.declared.ends.Refusal.{Refusal}
 use Rattle.model.specs.declared.sizes.Shape.{Shape}
@@ -29,18 +27,17 @@ use Rattle.job.specs.declared.faults.Fault.{Fault}
 use Rattle.job.specs.declared.faults.Fault.the-variants.{Sound, At}
 use Rattle.job.specs.Faults.{faultOf}
 use Rattle.job.specs.Lists.{laid}
-use Rattle.job.specs.Job.{Job, Read, faulty, sound, jobOf, readBy, readOf}
+use Rattle.job.specs.Job.{Job, sound, jobOf, readBy, readOf}
 use Rattle.call.specs.Call.{FitNumber, lengthsOf, callOf}
 use Rattle.call.proofs.Leaves.{refused-left}
 use Rattle.call.proofs.When.{accepted-exactly}
-use Rattle.jobfit.specs.Done.{inputsOf, numbersOf, zeros, betaLength, lentFor, Done, done, resultsBy, doneOf, doneFor}
+use Rattle.jobfit.specs.Done.{inputsOf, numbersOf, zeros, betaLength, lentFor, Done, resultsBy, doneOf, doneFor}
 use Rattle.jobfit.proofs.Lent.{refusal-some, beta-lent}
 use Rattle.jobfit.proofs.Lengths.{results-fit}
-use Rattle.jobcall.specs.Told.{Buffers, buffers, Told, told, countsLength, countsOf, returnedBy, toldBy, answered, counted, fitJobOf}
+use Rattle.jobcall.specs.Told.{Buffers, buffers, told, countsLength, countsOf, returnedBy, toldBy, answered, counted, fitJobOf}
 use Rattle.many.specs.Many.{partOf, placedIn, responseAt, withY, blockLength, lentTo, backFrom, singleOf, afterOne, afterTo, betaFor, lengthsFor, verdictFor, refusedWith, manyBy, manyOf, jobWithY, manyAnswered, fitManyOf}
 use Rattle.many.proofs.Parts.{part-length, placed-same}
 use Rattle.many.proofs.Single.{zeros-length, counts-length, numbers-length}
-use Rattle.many.proofs.Alone.{RoomIn, listsAt}
 use Rattle.many.proofs.Each.{all-sound, room-in}
 use Rattle.many.proofs.Calls.{many-accepted}
 

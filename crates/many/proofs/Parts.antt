@@ -55,10 +55,6 @@ module _ {A : Type 0} where
         ∙ drop-drop (a - (at + k)) (at + k) v
         ∙ ap (λ (n : ℕ). drop n v) whole
 
-    pub part-after : (a m : ℕ) → at + k ≤ a → partOf a m (placedIn at k xs v) ≡ partOf a m v
-    unfolding partOf
-    part-after a m h = ap (take m) (rest-kept a h)
-
   -- a part put back as it was
   pub placed-same : (at k : ℕ) (v : List A) → placedIn at k (partOf at k v) v ≡ v
   unfolding partOf placedIn

@@ -1,7 +1,7 @@
 -- One response as the code lends it: its part of y, its block of the results and its counts; and one turn of the loop. Assumes nothing.
-use mathlib.Core.Path.{_≡_, refl, sym, ap, _∙_}
+use mathlib.Core.Path.{_≡_, refl, _∙_}
 use mathlib.Core.List.{List}
-use Prim.Native.Nat.{ℕ, suc, _+_, _-_, _*_, _≤_, _<_}
+use Prim.Native.Nat.{ℕ, _+_, _-_, _*_, _≤_}
 use native.Mathlib.Nat.{mul-le-mul, le-refl}
 use native.Mathlib.Numerals.{add-one}
 use native.Mathlib.Omega.{arith}
@@ -18,7 +18,7 @@ use Rattle.job.specs.Lists.{laid}
 use Rattle.jobfit.specs.Done.{done, doneFor}
 use Rattle.jobfit.specs.Room.{SizesFew, Fronts, frontsOf}
 use Rattle.jobfit.proofs.Lent.{cells-few}
-use Rattle.jobcall.specs.Told.{Buffers, buffers, countsLength, countsOf, toldBy}
+use Rattle.jobcall.specs.Told.{Buffers, buffers, countsOf, toldBy}
 use Rattle.many.specs.Many.{partOf, placedIn, responseAt, withY, blockLength, lentTo, backFrom, afterOne, afterTo}
 use Rattle.many.specs.Room.{DesignFronts, manyFronts, Roomy}
 

@@ -1,14 +1,12 @@
 -- When a call of many responses is refused, and that it then leaves everything but its first counts as it was lent. Assumes nothing.
 use mathlib.Core.Path.{_≡_, refl, sym, ap, _∙_}
 use mathlib.Core.Bool.{Bool, true, false}
-use mathlib.Core.List.{List, _++_}
-use mathlib.Core.Logic.{_↔_, _⊎_, inl, inr, ⊎-elim}
+use mathlib.Core.List.{List}
+use mathlib.Core.Logic.{_↔_, ⊎-elim}
 use Prim.Native.Nat.{ℕ, _≤_, _<_}
-use native.Mathlib.Omega.{arith}
 use lib.Dec.{leb}
 use lib.Ieee.{Float}
 use lib.ListN.{length, drop}
-use lib.Seq.{drop-at}
 use Rattle.base.specs.Number.{finite}
 use Rattle.base.specs.Sum.{_!_}
 use Rattle.base.proofs.Doubles.{ff}
@@ -24,7 +22,6 @@ use Rattle.model.specs.declared.sizes.Settings.{Settings}
 use Rattle.model.proofs.Tests.{false-unless}
 use Rattle.family.specs.Carried.{carriedFamily, carriedLink}
 use Rattle.family.specs.Family.{inRange}
-use Rattle.table.specs.Tests.{goodCount}
 use Rattle.table.specs.Table.{tableOf}
 use Rattle.table.specs.When.{PastRows, PastLink, PastAll, GivenWhen}
 use Rattle.table.specs.declared.verdicts.LentLengths.{LentLengths}

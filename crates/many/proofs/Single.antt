@@ -1,5 +1,5 @@
 -- A single call with its block: it keeps every length, what the work buffers hold does not matter to it, and without a fit its block is as lent. Assumes nothing.
-use mathlib.Core.Path.{_≡_, refl, sym, ap, _∙_}
+use mathlib.Core.Path.{_≡_, refl, _∙_}
 use mathlib.Core.Bool.{Bool, true, false}
 use mathlib.Core.List.{List, [], _∷_, _++_}
 use Prim.Native.Nat.{ℕ, _+_, _*_, _≤_}
@@ -23,10 +23,9 @@ use Rattle.table.specs.Table.{tableOf}
 use Rattle.table.specs.declared.verdicts.Verdict.{Verdict}
 use Rattle.table.specs.declared.verdicts.Verdict.the-variants.{Accepted, Refused}
 use Rattle.results.specs.Nine.{Results}
-use Rattle.job.specs.Lists.{laid}
 use Rattle.job.proofs.ListLaws.{laid-length}
 use Rattle.call.specs.Call.{Lent, Left, lengthsOf, fitLeft, callBy, callOf}
-use Rattle.call.proofs.Leaves.{WorkLeft, accepted-work}
+use Rattle.call.proofs.Leaves.{accepted-work}
 use Rattle.jobfit.specs.Done.{numbersOf, resultsLength, zeros, betaLength, lentFor, Done, resultsBy, doneOf, doneFor}
 use Rattle.jobfit.proofs.Lent.{some-lent, fitted-beta}
 use Rattle.jobfit.proofs.Lengths.{ResultsFit, results-fit}

@@ -18,7 +18,7 @@ use Rattle.table.specs.declared.verdicts.Verdict.the-variants.{Accepted, Refuse
 use Rattle.family.specs.declared.carried.CarriedFamily.{CarriedFamily}
 use Rattle.family.specs.declared.carried.CarriedLink.{CarriedLink}
 use Rattle.job.specs.Lists.{laid}
-use Rattle.job.specs.Job.{Read, faulty, jobOf, readOf}
+use Rattle.job.specs.Job.{faulty, jobOf, readOf}
 use Rattle.reader.specs.declared.whole.Found.{Found}
 use Rattle.reader.specs.declared.whole.Header.{Header}
 use Rattle.jobfit.specs.Done.{inputsAt}

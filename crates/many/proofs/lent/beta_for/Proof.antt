@@ -2,7 +2,6 @@
 use native.Mathlib.Omega.{arith}
 use Rattle.many.proofs.Placing.{product-small, block-small}
 use Rattle.many.proofs.Asked.{no-results, no-counts, all-room}
-use borrow.Author.Needs.{needs}
 use Rattle.many.proofs.lent.beta_for.Statement.{statement}
 use Rattle.many.proofs.lent.beta_for.Tie as tie
 

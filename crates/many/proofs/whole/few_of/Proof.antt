@@ -1,6 +1,5 @@
 -- `many::few_of` meets its contract: each arm returns what its test picks. Assumes nothing.
 use Rattle.many.proofs.Asked.{few-all, few-most}
-use borrow.Author.Needs.{needs}
 use Rattle.many.proofs.whole.few_of.Statement.{statement}
 use Rattle.many.proofs.whole.few_of.Tie as tie
 

@@ -1,7 +1,5 @@
 -- `many::fit_fronts_many` meets its contract: the verdict is that on all responses, and what is accepted has room for each. Assumes nothing.
-use mathlib.Core.Path.{refl}
 use Rattle.model.specs.Inputs.{inputs}
-use Rattle.table.specs.declared.verdicts.Verdict.the-variants.{Accepted}
 use Rattle.jobcall.specs.Told.{buffers}
 use Rattle.many.specs.Room.{manyFronts}
 use Rattle.many.proofs.Asked.{few-few, roomy-by}
