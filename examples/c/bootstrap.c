@@ -120,14 +120,16 @@ static int fit_grid(size_t count)
 {
     size_t step, lot, block = glmm_results_length(n, p, q);
     for (step = 0; step < STEPS; step++) {
+        uint64_t returned;
         set_theta(STEP * (double)step);
-        if (glmm_fit_many(job, length, responses, count * n, count, rows, GLMM_MOST_ROWS, matrices, GLMM_MOST_MATRICES, terms, GLMM_TERMS,
-                          results, LOTS * GLMM_MOST_RESULTS, counts, LOTS * GLMM_COUNTS) != 0) {
-            printf("refused with %u\n", (unsigned)counts[GLMM_NUMBER]);
+        returned = glmm_fit_many(job, length, responses, count * n, count, rows, GLMM_MOST_ROWS, matrices, GLMM_MOST_MATRICES, terms, GLMM_TERMS,
+                                 results, LOTS * GLMM_MOST_RESULTS, counts, LOTS * GLMM_COUNTS);
+        if (returned != 0) {
+            printf("refused with %u\n", (unsigned)returned);
             return 0;
         }
         for (lot = 0; lot < count; lot++)
-            deviances[lot][step] = counts[lot * GLMM_COUNTS + GLMM_NUMBER] == 0 ? results[lot * block] : 1e300;
+            deviances[lot][step] = GLMM_FITTED(returned, counts + lot * GLMM_COUNTS) ? results[lot * block] : 1e300;
     }
     return 1;
 }
