@@ -116,7 +116,7 @@ uint64_t glmm_fit_job_theta(const uint8_t *job, size_t job_length,
  *            GLMM_FITTED(returned, counts + i * GLMM_COUNTS)
  *
  * Returned: 0 where the call was accepted, whatever each response came to. Else all responses are refused together, and the first GLMM_COUNTS of counts
- * tell it as glmm_fit_job's do: a job that cannot be read, else the table's numbers, with 8 behind 1 and over all responses (1, 8, 2, 7, 6, 3, 4, 5, 9, 27).
+ * tell it as glmm_fit_job's do: a job that cannot be read, else the table's numbers, with 8 behind 1 and over all responses (1, 8, 2, 7, 6, 3, 4, 9, 27).
  * After a refusal everything else is as lent. */
 uint64_t glmm_fit_many(const uint8_t *job, size_t job_length,
                        const double *responses, size_t responses_length,

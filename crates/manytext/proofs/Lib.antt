@@ -2,6 +2,7 @@
 pub mod Back
 pub mod Reading
 pub mod Parts
+pub mod Written
 pub mod Fitting
 pub mod Printed
 pub mod Long

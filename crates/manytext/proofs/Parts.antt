@@ -67,7 +67,12 @@ pub numbers-part : (bytes : List ℕ) (n all : ℕ) → n ≡ (length bytes + 7)
 unfolding laid numbersIn
 numbers-part bytes n all e h =
     let w = length bytes / 8 in
-    let long : length (build (wordAt bytes) w) ≡ w = build-length (wordAt bytes) w in
-    let k : n - 0 ≡ length (build (wordAt bytes) w) + (n - w) = omega (arith, long) in
+    let xs = build (wordAt bytes) w in
+    let long : length xs ≡ w = build-length (wordAt bytes) w in
+    let k : n - 0 ≡ length xs + (n - w) = omega (arith, long) in
     let m : n - w ≡ (length bytes + 7) / 8 - w = omega arith in
-    rw (k, long, take-append-add (build (wordAt bytes) w) (drop w (zeros all)) (n - w), part-zeros w (n - w) all (omega arith), m) refl
+    ap (λ (q : ℕ). take q (xs ++ drop (length xs) (zeros all))) k
+    ∙ take-append-add xs (drop (length xs) (zeros all)) (n - w)
+    ∙ ap (λ (q : ℕ). xs ++ take (n - w) (drop q (zeros all))) long
+    ∙ ap (λ (l : List Float). xs ++ l) (part-zeros w (n - w) all (omega arith))
+    ∙ ap (λ (q : ℕ). xs ++ zeros q) m

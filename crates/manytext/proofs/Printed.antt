@@ -4,7 +4,7 @@ use mathlib.Core.Path.{_≡_, refl, sym, ap, _∙_}
 use mathlib.Core.Bool.{true}
 use mathlib.Core.List.{List, _++_}
 use Prim.Native.Nat.{ℕ, zero, suc, _*_, _/_, _≤_, _<_}
-use native.Mathlib.Nat.{le-refl, le-trans, le-of-suc-le, mul-le-mul}
+use native.Mathlib.Nat.{le-refl, le-trans}
 use native.Mathlib.Omega.{arith}
 use borrow.Author.Tests.{le-leb, ne-eqb}
 use lib.Dec.{leb}
@@ -25,7 +25,7 @@ use Rattle.job.specs.Lists.{joinTo}
 use Rattle.lines.specs.Lines.{responseLine}
 use Rattle.jobfit.specs.Done.{inputsOf, zeros, lentFor}
 use Rattle.jobfit.specs.Room.{SizesFew}
-use Rattle.jobfit.proofs.Lent.{cells-few, beta-lent, refusal-some}
+use Rattle.jobfit.proofs.Lent.{beta-lent, refusal-some}
 use Rattle.jobcall.specs.Told.{Buffers, Told, countsLength}
 use Rattle.many.specs.Many.{partOf, responseAt, jobWithY, blockLength, afterTo, verdictFor, refusedWith, manyBy, manyOf, manyAnswered, fitManyOf}
 use Rattle.many.proofs.Parts.{part-length, block-fits}
@@ -37,13 +37,11 @@ use Rattle.manytext.specs.Text.{responseText}
 use Rattle.manytext.specs.Pieces.{Fitted, workWith, piecesBy, fittedBy, fitAllOf, fitRead, fitParts, fitInputOf, partText, pieceText, joined, PartsFit, PiecesFit}
 use Rattle.manytext.specs.Output.{manyLent, responsePrinted, printedBy, printedOf, manyPrinted, manyOutputOf}
 use Rattle.manytext.proofs.Back.{single-text}
+use Rattle.manytext.proofs.Written.{blocks-few}
 
 -- ---- the program lends room for all responses
 few-sizes : (t : Settings) → Sizes (t .n) (t .p) (t .rows) → SizesFew t
 few-sizes t z = record { n = z .n-few; p = z .p-few; q = z .q-few }
-
-block-few : (t : Settings) → SizesFew t → blockLength t ≤ 1906
-block-few t f = omega (arith, f .n, f .p, f .q, cells-few (t .p) (f .p))
 
 results-long : length (manyLent .results) ≡ 121984
 unfolding manyLent
@@ -55,7 +53,7 @@ counts-long = length-replicate {A = ℕ} 896 0
 
 room-for : (r : ℕ) (t : Settings) → r ≤ 64 → SizesFew t → RoomIn r t manyLent
 room-for r t few f =
-    let blocks : r * blockLength t ≤ 64 * 1906 = mul-le-mul {n₂ = 64} {m₂ = 1906} few (block-few t f) in
+    let blocks = blocks-few r (blockLength t) t refl few f in
     record { results = omega (arith, results-long, blocks); counts = omega (arith, counts-long, few) }
 
 -- ---- the slices of a response are those of a job's own call
@@ -94,7 +92,7 @@ module _ (j : Job) (ys : List Float) (r : ℕ) where
 join-alike : (n : ℕ) (f g : ℕ → List ℕ) → ((i : ℕ) → i < n → f i ≡ g i) → joinTo n f ≡ joinTo n g
 unfolding joinTo
 join-alike zero f g h = refl
-join-alike (suc n) f g h = rw (join-alike n f g (λ i l. h i (le-of-suc-le l)), h n (le-refl _)) refl
+join-alike (suc n) f g h = rw (join-alike n f g (λ i l. h i (omega arith)), h n (le-refl _)) refl
 
 module _ (r : ℕ) (j : Job) (ys : List Float) where
   -- what the call leaves, as pieces
