@@ -34,7 +34,8 @@ use Rattle.many.proofs.Alone.{RoomIn, lengths-to, block-alone, counts-alone}
 use Rattle.output.specs.Output.{slicesFor, outputBy}
 use Rattle.manytext.specs.Input.{jobIn, restIn, numbersIn}
 use Rattle.manytext.specs.Text.{responseText}
-use Rattle.manytext.specs.Pieces.{Fitted, workWith, piecesBy, fittedBy, fitAllOf, fitRead, fitParts, fitInputOf, partText, pieceText, joined, PartsFit, PiecesFit}
+use Rattle.manytext.specs.declared.pieces.Pieces.{Pieces}
+use Rattle.manytext.specs.Pieces.{Fitted, fitted, piecesBy, fittedBy, fitAllOf, fitRead, fitParts, fitInputOf, partText, pieceText, joined, PartsFit, PiecesFit}
 use Rattle.manytext.specs.Output.{manyLent, responsePrinted, printedBy, printedOf, manyPrinted, manyOutputOf}
 use Rattle.manytext.proofs.Back.{single-text}
 use Rattle.manytext.proofs.Written.{blocks-few}
@@ -174,3 +175,7 @@ module _ (s : List ℕ) where
   pub pieces-fit : PiecesFit (fittedIn .pieces) (fittedIn .counts) (fittedIn .results)
   unfolding fitInputOf fitParts
   pieces-fit = done (jobIn s) (restIn s) (readOf (jobIn s)) refl .fits
+
+  -- so what the call leaves can be written piece by piece
+  pub left-fit : (p : Pieces) (R : List Float) (C : List ℕ) → fitted p R C ≡ fittedIn → PiecesFit p C R
+  left-fit p R C e = rw (ap (λ (x : Fitted). x .pieces) e, ap (λ (x : Fitted). x .counts) e, ap (λ (x : Fitted). x .results) e) pieces-fit
