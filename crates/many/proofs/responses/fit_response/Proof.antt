@@ -14,7 +14,7 @@ results-length-requires c κs =
 offset-requires : tie.Need-offset-requires
 offset-requires c κs =
     let start = c .before .before .before .before .before .before .before .before .before .before .before .before .before .before .before in (
-      start .pre .0,
+      omega (arith, start .pre .0),
       omega (arith, rows-small (start .args .responses) (start .args .header .settings .n) (start .pre .1 .few) (start .pre .1 .fronts .sizes .n)),
     )
 
