@@ -48,7 +48,7 @@ def packed(job, responses):
     return len(job).to_bytes(3, "big") + job + b"".join(number_bytes(y) for ys in responses for y in ys)
 
 
-def unlimited(job):
+def without_iterations(job):
     """The job with no iteration allowed; one whose limit is none stays as it is."""
     limit = int.from_bytes(job[4:6], "big") & NOT_GIVEN
     return job if 1001 <= limit < NOT_GIVEN or len(job) < 6 else job[:4] + bytes([job[4] & 0xFC, 0]) + job[6:]
@@ -97,7 +97,7 @@ def answered(run, job, responses):
     """What `fitmany` prints for all of them; `run` hands it bytes, and gives what it printed."""
     if len(responses) == 1:
         return run(packed(job, responses))
-    text = run(packed(unlimited(job), responses))
+    text = run(packed(without_iterations(job), responses))
     return text if text.startswith("refused ") else "".join(in_parts(run, job, responses))
 
 
