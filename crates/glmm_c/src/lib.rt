@@ -91,7 +91,16 @@ pub extern "C" fn glmm_fit_many(
         ≡ fitManyOf (now (job .entry)) (now (responses .entry)) count
         (buffers (now (rows .entry)) (now (matrices .entry)) (now (terms .entry)) (now (results .entry)) (now (counts .entry))) ⌝ }
 {
-    many::fit_many(job, responses, count, rows, matrices, terms, results, counts)
+    many::fit_many(
+        job,
+        responses,
+        count,
+        rows,
+        matrices,
+        terms,
+        results,
+        counts,
+    )
 }
 
 #[no_mangle]

@@ -112,13 +112,7 @@ fn fit_all(
 }
 
 // The call of a job with these numbers, of which so many stand in whole words.
-fn fit_read(
-    job: &[u8],
-    words: usize,
-    ys: &[f64],
-    results: &mut [f64],
-    counts: &mut [u64],
-) -> Pieces
+fn fit_read(job: &[u8], words: usize, ys: &[f64], results: &mut [f64], counts: &mut [u64]) -> Pieces
     ensures { λ r. ⌜
         fitted r (now (results .exit)) (now (counts .exit))
         ≡ fitRead (readOf (now (job .entry))) (now (job .entry)) words (now (ys .entry)) (now (results .entry)) (now (counts .entry)) ⌝ }

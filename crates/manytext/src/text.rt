@@ -86,13 +86,7 @@ fn put_part(
 }
 
 // Piece i: the line of a refusal, or a response.
-pub fn put_piece(
-    out: &mut [u8],
-    pieces: Pieces,
-    i: usize,
-    counts: &[u64],
-    results: &[f64],
-) -> usize
+pub fn put_piece(out: &mut [u8], pieces: Pieces, i: usize, counts: &[u64], results: &[f64]) -> usize
     requires { ⌜ (responseRoom ≤ length (now out)) × (i < piecesOf pieces) × PiecesFit pieces (now counts) (now results) ⌝ }
     ensures { λ r. ⌜ Written (pieceText pieces (now (counts .entry)) (now (results .entry)) i) (now (out .entry)) r (now (out .exit)) ⌝ }
 {
