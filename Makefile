@@ -1,7 +1,7 @@
 # The C library as a package, for x86-64.
 #
 #   make             libglmm.a, libglmm.so and glmm.pc below target/package/
-#   make install     these, include/glmm.h, NOTICE and the program fitjob, below PREFIX (/usr/local), and that below DESTDIR (nothing)
+#   make install     these, include/glmm.h, NOTICE and the programs (fitjob, fitmany), below PREFIX (/usr/local), and that below DESTDIR (nothing)
 #   make uninstall   removes what install wrote, with the same PREFIX and DESTDIR
 #   make check       installs into a temporary folder, and compiles and runs the examples against it (tools/test_install)
 #
@@ -32,6 +32,7 @@ MAJOR = $(firstword $(subst ., ,$(VERSION)))
 SONAME = libglmm.so.$(MAJOR)
 SHARED = libglmm.so.$(VERSION)
 FIND = $(PYTHON) tools/library.py find
+PROGRAMS = $(patsubst crates/%/src/main.rt,%,$(filter-out crates/cases_%,$(wildcard crates/*/src/main.rt)))
 # a file is only replaced where it is another one, so that nothing is linked anew without need
 REPLACE = if cmp -s $@.new $@; then rm $@.new; else mv $@.new $@; fi
 
@@ -78,7 +79,7 @@ $(MADE)/glmm.pc: always | $(MADE)
 	@printf '%s\n' "$$PC" > $@.new && $(REPLACE)
 
 install: all
-	@$(FIND) fitjob > $(MADE)/fitjob.place
+	@for name in $(PROGRAMS); do $(FIND) $$name > $(MADE)/$$name.place || exit 1; done
 	$(INSTALL) -d "$(DESTDIR)$(INCLUDEDIR)" "$(DESTDIR)$(LIBDIR)/pkgconfig" "$(DESTDIR)$(BINDIR)" "$(DESTDIR)$(DOCDIR)"
 	$(INSTALL) -m 644 include/glmm.h "$(DESTDIR)$(INCLUDEDIR)/glmm.h"
 	$(INSTALL) -m 644 $(MADE)/libglmm.a "$(DESTDIR)$(LIBDIR)/libglmm.a"
@@ -87,10 +88,11 @@ install: all
 	ln -sf $(SONAME) "$(DESTDIR)$(LIBDIR)/libglmm.so"
 	$(INSTALL) -m 644 $(MADE)/glmm.pc "$(DESTDIR)$(LIBDIR)/pkgconfig/glmm.pc"
 	$(INSTALL) -m 644 NOTICE "$(DESTDIR)$(DOCDIR)/NOTICE"
-	$(INSTALL) -m 755 "$$(cat $(MADE)/fitjob.place)" "$(DESTDIR)$(BINDIR)/fitjob"
+	for name in $(PROGRAMS); do $(INSTALL) -m 755 "$$(cat $(MADE)/$$name.place)" "$(DESTDIR)$(BINDIR)/$$name" || exit 1; done
 
 uninstall:
-	rm -f "$(DESTDIR)$(INCLUDEDIR)/glmm.h" "$(DESTDIR)$(BINDIR)/fitjob" "$(DESTDIR)$(DOCDIR)/NOTICE" "$(DESTDIR)$(LIBDIR)/pkgconfig/glmm.pc"
+	for name in $(PROGRAMS); do rm -f "$(DESTDIR)$(BINDIR)/$$name"; done
+	rm -f "$(DESTDIR)$(INCLUDEDIR)/glmm.h" "$(DESTDIR)$(DOCDIR)/NOTICE" "$(DESTDIR)$(LIBDIR)/pkgconfig/glmm.pc"
 	rm -f "$(DESTDIR)$(LIBDIR)/libglmm.a" "$(DESTDIR)$(LIBDIR)/libglmm.so" "$(DESTDIR)$(LIBDIR)/$(SONAME)" "$(DESTDIR)$(LIBDIR)/$(SHARED)"
 	-rmdir "$(DESTDIR)$(DOCDIR)" 2> /dev/null || true
 

@@ -1,6 +1,6 @@
 #!/usr/bin/env python3
 """usage: examples/make.py [FOLDER]
-Writes the texts of examples/ and their jobs, into this folder or another. The data are made up: each text tells its seed, and the truth that its responses were drawn from."""
+Writes the texts of examples/ and their jobs, and simulated.txt, into this folder or another. The data are made up: each text tells its seed, and the truth that its responses were drawn from."""
 import math, random, sys
 from pathlib import Path
 
@@ -76,6 +76,12 @@ theta: 0.4
 """
 
 
+SIMULATED = """\
+# Twelve lots simulated from the fit of wafers.txt, for ./fit --many: a row for each lot, weak cells / cells of each ring of each wafer, in the order of wafers.txt.
+# Made up by examples/make.py, seed {seed}: logit = -4.29 + 1.43 radius + a wafer's own, of spread 0.55.
+"""
+
+
 def chance(eta):
     return 1 / (1 + math.exp(-eta))
 
@@ -98,11 +104,14 @@ def skewed(r, mean, shape):
     return sum(-math.log(1 - r.random()) for _ in range(shape)) * mean / shape
 
 
+RINGS = ((0.2, 80), (0.5, 160), (0.8, 240), (0.95, 120))  # radius and cells
+
+
 def wafers(r):
     yield "wafer", "cells", "weak", "radius"
     for wafer in range(1, 13):
         own = 1.4 if wafer == 7 else 0.5 * bell(r)
-        for radius, cells in ((0.2, 80), (0.5, 160), (0.8, 240), (0.95, 120)):
+        for radius, cells in RINGS:
             yield f"W{wafer:02}", cells, hits(r, cells, chance(-4.6 + 1.5 * radius + own)), radius
 
 
@@ -142,6 +151,15 @@ def cells(r):
             yield f"W{wafer:02}", warm, f"{skewed(r, math.exp(1 + 0.5 * warm + own), 4):.2f}"
 
 
+def simulated(r):
+    for _ in range(12):
+        lot = []
+        for _ in range(12):
+            own = 0.55 * bell(r)
+            lot += [f"{hits(r, cells, chance(-4.29 + 1.43 * radius + own))}/{cells}" for radius, cells in RINGS]
+        yield lot
+
+
 def table(rows):
     rows = [list(map(str, row)) for row in rows]
     widths = [max(map(len, column)) for column in zip(*rows)]
@@ -154,6 +172,7 @@ def main():
         text = head.format(seed=seed) + "\n" + table(rows(random.Random(seed)))
         (folder / f"{rows.__name__}.txt").write_text(text)
         (folder / f"{rows.__name__}.job").write_bytes(Sheet(text).job())
+    (folder / "simulated.txt").write_text(SIMULATED.format(seed=7) + table(simulated(random.Random(7))))
 
 
 main()

@@ -29,7 +29,7 @@ extern "C" {
  *     if (GLMM_FITTED(glmm_fit_job(.., counts, GLMM_COUNTS), counts))
  *         use(results);
  *
- * `returned` is what glmm_fit_job or glmm_fit_job_theta returned, or the call itself; `counts` is what was lent to it. */
+ * `returned` is what glmm_fit_job, glmm_fit_job_theta or glmm_fit_many returned, or the call itself; `counts` is what was lent to it. */
 #define GLMM_FITTED(returned, counts) ((returned) == 0 && (counts)[GLMM_NUMBER] == 0)
 
 /* The same of an answer of glmm_fit_blocks. */
@@ -70,6 +70,9 @@ size_t glmm_results_length(size_t n, size_t p, size_t q);
 #define GLMM_TERMS 7000
 #define GLMM_MOST_RESULTS 1906
 
+/* How many responses glmm_fit_many takes in one call. */
+#define GLMM_MOST_MANY 64
+
 /* ---- the fit
  *
  * job        the bytes of a job, at most 65,536, of version 1 or 2 (tools/job makes one of a text); version 2 says how the starting means are made
@@ -100,6 +103,29 @@ uint64_t glmm_fit_job_theta(const uint8_t *job, size_t job_length,
                             double *terms, size_t terms_length,
                             double *results, size_t results_length,
                             uint64_t *counts, size_t counts_length);
+
+/* The same for each of `count` responses in place of the job's own, which is not looked at: one design, theta, weights, offset and settings, read once.
+ * What it leaves of each response is what glmm_fit_job leaves for the job with that response, and no response disturbs another.
+ *
+ * responses  count times n numbers, one response behind another (else 2)
+ * count      1 to GLMM_MOST_MANY (else 8)
+ * results    at least count times glmm_results_length(n, p, q) numbers (else 2): a block for each response, in the layout of glmm_fit_job's results, and
+ *            as lent where its number is not 0
+ * counts     at least count times GLMM_COUNTS numbers (else 2, where it has GLMM_COUNTS; a shorter one is left as lent, and 2 is returned before the job is
+ *            looked at): GLMM_COUNTS for each response. Response i was fitted where counts[i * GLMM_COUNTS + GLMM_NUMBER] is 0, or
+ *            GLMM_FITTED(returned, counts + i * GLMM_COUNTS)
+ *
+ * Returned: 0 where the call was accepted, whatever each response came to. Else all responses are refused together, and the first GLMM_COUNTS of counts
+ * tell it as glmm_fit_job's do: a job that cannot be read, else the table's numbers, with 8 behind 1 and over all responses (1, 8, 2, 7, 6, 3, 4, 9, 27).
+ * After a refusal everything else is as lent. */
+uint64_t glmm_fit_many(const uint8_t *job, size_t job_length,
+                       const double *responses, size_t responses_length,
+                       size_t count,
+                       double *rows, size_t rows_length,
+                       double *matrices, size_t matrices_length,
+                       double *terms, size_t terms_length,
+                       double *results, size_t results_length,
+                       uint64_t *counts, size_t counts_length);
 
 /* ---- the same fit with the numbers of a job in arrays of their own */
 

@@ -1,4 +1,4 @@
-//! What the program prints for one job.
+//! What the programs print, for one job and for many responses.
 use crate::account::{self, Account};
 use crate::glmm_math::{GlmmCoefficients, GlmmData};
 use crate::job::{self, Job};
@@ -23,7 +23,35 @@ pub fn answer(bytes: &[u8]) -> String {
     }
 }
 
+/// A line `response I` before what is printed of each response, which takes the place of the job's in the Rust's data (`with_response`).
+pub fn responses(input: &[u8]) -> String {
+    match job::read_many(input) {
+        Err(refusal) => format!("refused {} at {}\n", refusal.number, refusal.byte),
+        Ok((job, responses)) => {
+            let (theta, offset, n_agq, family, link) = (job.theta.clone(), job.offset.clone().map(Array1::from_vec), job.n_agq, job.family, job.link);
+            let design = data(job);
+            let each = responses.into_iter().enumerate().map(|(number, y)| {
+                let mut data = design.with_response(Array1::from_vec(y), family.build_with_link(link).unwrap());
+                let (fitted, account) = evaluated(&mut data, &theta, offset.as_ref(), n_agq);
+                format!("response {}\n{}", number, lines(fitted.as_ref(), account))
+            });
+            each.collect()
+        }
+    }
+}
+
 pub fn fit(job: Job) -> (Option<GlmmCoefficients>, Account) {
+    let (theta, offset, n_agq) = (job.theta.clone(), job.offset.clone().map(Array1::from_vec), job.n_agq);
+    evaluated(&mut data(job), &theta, offset.as_ref(), n_agq)
+}
+
+fn evaluated(data: &mut GlmmData, theta: &[f64], offset: Option<&Array1<f64>>, n_agq: usize) -> (Option<GlmmCoefficients>, Account) {
+    account::clear();
+    let fitted = data.evaluate(theta, offset, n_agq);
+    (fitted, account::read())
+}
+
+fn data(job: Job) -> GlmmData {
     let q = job.z_starts.len() - 1;
     let blocks = job.blocks.iter().map(|&(m, k)| ReBlock { m, k, theta_len: k * (k + 1) / 2 }).collect();
     let mut data = GlmmData::new_weighted(
@@ -36,10 +64,7 @@ pub fn fit(job: Job) -> (Option<GlmmCoefficients>, Account) {
         job.weights.map(Array1::from_vec),
     );
     data.set_control(FitControl { max_inner_iterations: job.limit, trials: job.trials });
-    let offset = job.offset.map(Array1::from_vec);
-    account::clear();
-    let fitted = data.evaluate(&job.theta, offset.as_ref(), job.n_agq);
-    (fitted, account::read())
+    data
 }
 
 /// Every result by its name, in the order in which they are printed.

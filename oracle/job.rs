@@ -1,4 +1,5 @@
-//! The reader of a job, written from document 01, 'The job and the program', and document 02 (P10: version 2), and the table of refusals as far as a job reaches it.
+//! The reader of a job, written from document 01, 'The job and the program', and document 02 (P10: version 2; P1: responses behind it), and the table of
+//! refusals as far as a job reaches it.
 use crate::family::{Family, Link};
 
 /// What a job holds once it is accepted.
@@ -95,7 +96,45 @@ fn good_sizes(n: usize, p: usize, blocks: &[(usize, usize)]) -> bool {
     1 <= n && n <= 512 && 1 <= p && p <= 16 && 1 <= blocks.len() && blocks.len() <= 8 && each && 1 <= q && q <= 32
 }
 
+/// A job that can be fitted.
 pub fn read(bytes: &[u8]) -> Result<Job, Refusal> {
+    let job = parse(bytes)?;
+    match table(&job, &[job.y.clone()]) {
+        0 => Ok(job),
+        number => refuse(number, 0),
+    }
+}
+
+/// A job and its responses, of an input that begins with the job's length in three bytes: 8 and 2 stand before the rest of the table, which is over all
+/// responses. The job's own are not looked at.
+pub fn read_many(input: &[u8]) -> Result<(Job, Vec<Vec<f64>>), Refusal> {
+    let length = input.iter().take(3).fold(0, |whole, &byte| 256 * whole + byte as usize);
+    let (front, behind) = split(input.get(3..).unwrap_or(&[]), length);
+    let job = parse(front)?;
+    let responses: Vec<Vec<f64>> = behind.chunks_exact(8 * job.n).map(doubles).collect();
+    if responses.is_empty() || responses.len() > 64 {
+        return refuse(8, 0);
+    }
+    if 8 * job.n * responses.len() != behind.len() {
+        return refuse(2, 0);
+    }
+    match table(&job, &responses) {
+        0 => Ok((job, responses)),
+        number => refuse(number, 0),
+    }
+}
+
+/// The first bytes, or all where there are fewer, and the others.
+fn split(bytes: &[u8], length: usize) -> (&[u8], &[u8]) {
+    bytes.split_at(length.min(bytes.len()))
+}
+
+fn doubles(bytes: &[u8]) -> Vec<f64> {
+    bytes.chunks_exact(8).map(|eight| f64::from_bits(eight.iter().fold(0, |whole, &byte| whole << 8 | byte as u64))).collect()
+}
+
+/// Every number of a job, before the table but for its number 1.
+fn parse(bytes: &[u8]) -> Result<Job, Refusal> {
     if bytes.len() > 65536 {
         return refuse(25, 65536);
     }
@@ -153,28 +192,23 @@ pub fn read(bytes: &[u8]) -> Result<Job, Refusal> {
     if bits.at < 8 * bytes.len() {
         return refuse(23, bits.at / 8);
     }
-    let job = Job { family, link, n_agq, n, p, limit, trials, blocks, theta, y, weights, offset, x, z_starts, z_columns, z_values };
-    match table(&job) {
-        0 => Ok(job),
-        number => refuse(number, 0),
-    }
+    Ok(Job { family, link, n_agq, n, p, limit, trials, blocks, theta, y, weights, offset, x, z_starts, z_columns, z_values })
 }
 
-/// The rest of the table, in its order; a job's lengths are right and its program lends enough.
-fn table(job: &Job) -> usize {
+/// The rest of the table, in its order, for the responses that are to be fitted; a job's lengths are right and its program lends enough.
+fn table(job: &Job, responses: &[Vec<f64>]) -> usize {
     if !rising_columns(job) {
         return 6;
     }
     let absent = Vec::new();
     let lists = [
         &job.theta,
-        &job.y,
         job.weights.as_ref().unwrap_or(&absent),
         job.offset.as_ref().unwrap_or(&absent),
         &job.x,
         &job.z_values,
     ];
-    if !lists.iter().all(|list| list.iter().all(|number| number.is_finite())) {
+    if !lists.into_iter().chain(responses).all(|list| list.iter().all(|number| number.is_finite())) {
         return 3;
     }
     if !job.link.valid_for(job.family) {
@@ -183,7 +217,7 @@ fn table(job: &Job) -> usize {
     if job.link == Link::Probit {
         return 5;
     }
-    if !job.y.iter().all(|&y| in_range(job.family, y)) {
+    if !responses.iter().flatten().all(|&y| in_range(job.family, y)) {
         return 9;
     }
     if job.trials && !(job.family == Family::Binomial && job.weights.iter().flatten().all(|&weight| !(weight < 0.0))) {

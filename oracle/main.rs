@@ -4,6 +4,8 @@
 //!
 //! oracle < job            what `fitjob` must print
 //! oracle many [FILE..]    the same for many jobs (their names on standard input, where none is given), each after a line `job FILE`
+//! oracle responses < input    what `fitmany` must print: the job's length in three bytes, the job, responses
+//! oracle responses FILE..     the same for many inputs, each after a line `job FILE`
 //! oracle vectors NAME     what the test program `cases_NAME` must print
 //! oracle bench FILE..     where it is built with `--cfg fits`: the times of these jobs' fits, the Rattle library's and the Rust's (bench.rs)
 #![allow(dead_code)]
@@ -50,11 +52,11 @@ fn put(text: &str) {
     io::stdout().write_all(text.as_bytes()).expect("standard output");
 }
 
-/// A job that makes the Rust panic is answered by the word alone.
-fn many(names: impl Iterator<Item = String>) {
+/// What the Rust says to each of many files; one that makes it panic is answered by the word alone.
+fn many(said: fn(&[u8]) -> String, names: impl Iterator<Item = String>) {
     for name in names {
         let bytes = std::fs::read(&name).unwrap_or_else(|fault| panic!("{}: {}", name, fault));
-        let text = std::panic::catch_unwind(|| answer::answer(&bytes)).unwrap_or_else(|_| "panicked\n".to_string());
+        let text = std::panic::catch_unwind(|| said(&bytes)).unwrap_or_else(|_| "panicked\n".to_string());
         put(&format!("job {}\n{}", name, text));
     }
 }
@@ -68,13 +70,19 @@ fn main() {
             io::stdin().take(65537).read_to_end(&mut bytes).expect("standard input");
             put(&answer::answer(&bytes));
         }
-        ["many"] => many(io::stdin().lock().lines().map(|line| line.expect("standard input"))),
-        ["many", ..] => many(arguments[1..].iter().cloned()),
+        ["many"] => many(answer::answer, io::stdin().lock().lines().map(|line| line.expect("standard input"))),
+        ["many", ..] => many(answer::answer, arguments[1..].iter().cloned()),
+        ["responses"] => {
+            let mut bytes = Vec::new();
+            io::stdin().read_to_end(&mut bytes).expect("standard input");
+            put(&answer::responses(&bytes));
+        }
+        ["responses", ..] => many(answer::responses, arguments[1..].iter().cloned()),
         #[cfg(fits)]
         ["bench", ..] => bench::run(&arguments[1..]),
         ["vectors", name] if vectors::put(name) => {}
         _ => {
-            eprintln!("usage: oracle < job | oracle many [FILE..] | oracle vectors {}", vectors::names());
+            eprintln!("usage: oracle < job | oracle many [FILE..] | oracle responses [FILE..] | oracle vectors {}", vectors::names());
             std::process::exit(2);
         }
     }

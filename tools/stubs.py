@@ -3,22 +3,24 @@ import hashlib, os, shutil, signal, subprocess, sys, time
 from pathlib import Path
 
 ROOT = Path(__file__).resolve().parent.parent
-CRATES = "base:\nother: base\nfitjob: base io\n"
+CRATES = "base:\nother: base\nfitjob: base io\nfitmany: base io\n"
 SOURCES = {"crates/base/src/lib.rt": "fn one() -> u64 { 1 }\n", "crates/base/specs/Lib.antt": "one = 1\n", "crates/fitjob/src/main.rt": "fn main() {}\n",
-           "crates/other/src/lib.rt": "fn two() -> u64 { 2 }\n"}
+           "crates/fitmany/src/main.rt": "fn main() {}\n", "crates/other/src/lib.rt": "fn two() -> u64 { 2 }\n"}
 BELOW = ["crates/base/specs/Lib.antt", "crates/base/src/lib.rt", "crates/fitjob/src/main.rt"]  # what fitjob is built from, by paths
-TIMES = "| crate | seconds | under way | edits |\n|---|---|---|---|\n| base | 600 | 1 | |\n| fitjob | 120 | 2 | |\n"
+TIMES = "| crate | seconds | under way | edits |\n|---|---|---|---|\n| base | 600 | 1 | |\n| fitjob | 120 | 2 | |\n| fitmany | 120 | 2 | |\n"
 
-# What rt does here: it proves two crates and builds the true program; where the file hold is, it waits for the file go, beside a process of its own; where the
+# What rt does here: it proves two crates and builds the true program, whatever its name; where the file hold is, it waits for the file go, beside a process of its own; where the
 # file broken is, it fails.
 RT = """case $1 in doc) echo {top}/kit/docs/START-HERE.md; exit;; version) echo a stub; exit;; esac
 echo $$ >> {top}/started
 if [ -e {top}/hold ]; then sleep 300 & echo $! >> {top}/started; while [ ! -e {top}/go ]; do sleep 0.05; done; kill $!; fi
 [ -e {top}/broken ] && echo 'rt: base is not proved' && exit 1
-echo 'rt: base proved (2 s)'; echo 'rt: fitjob proved (1 s)'; mkdir -p {top}/target/bin; cp {top}/true {top}/target/bin/fitjob
+echo 'rt: base proved (2 s)'; echo "rt: $2 proved (1 s)"; mkdir -p {top}/target/bin; cp {top}/true {top}/target/bin/$2
 """
-# The loader keeps the job and prints the answer that is laid down for it, or runs the program where there is none.
+# The loader keeps the job and prints the answer that is laid down for it, or runs the program where there is none; `fitmany` is the reading in Python here, which
+# keeps what it was handed one behind another, and takes its time where the file slow is.
 LOADER = """shift 2
+case $1 in */fitmany) [ -e {top}/slow ] && sleep 1.1; tee -a {top}/handed | {python} {root}/tools/reference responses; exit;; esac
 if [ -e {top}/answer ]; then cat > {top}/read; cat {top}/answer; else exec {loader} "$@"; fi
 """
 
@@ -35,7 +37,7 @@ class Tree:
             self.write(name, text)
         shutil.copy(true, self.top / "true")
         self.script("bin/rt", RT)
-        self.script("kit/toolchain/lib/ld-linux-x86-64.so.2", LOADER.replace("{loader}", loader))
+        self.script("kit/toolchain/lib/ld-linux-x86-64.so.2", LOADER.replace("{loader}", loader).replace("{root}", str(ROOT)).replace("{python}", sys.executable))
         self.script("kit/bin/qemu-x86_64", 'exec "$@"\n')
         self.script("emulated/qemu-x86_64", ': > {top}/emulated/used\nexec "$@"\n')
         (self.top / "bare").mkdir()

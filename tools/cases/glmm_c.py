@@ -62,7 +62,7 @@ def refusal(data, theta, lent):
     if any(lent[name] < wanted[name] for name in ("rows", "matrices", "terms")):
         return 7, 0, wanted
     try:
-        check_table(read)
+        check_table(read, [read.y])
     except Refused as fault:
         return *fault.args, wanted
     return None, 0, wanted

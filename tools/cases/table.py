@@ -1,7 +1,7 @@
 #!/usr/bin/env python3
 """usage: table.py > crates/cases_table/stdout
        table.py --stdin > crates/cases_table/stdin
-What `cases_table` must print, and the calls that it is fed: document 01's table of refusals in Python with document 02's P6, asked the same calls. Stops unless every number of
+What `cases_table` must print, and the calls that it is fed: document 01's table of refusals in Python with document 02's P1, P6 and P10, asked the same calls. Stops unless every number of
 the table is given."""
 import math, struct, sys
 
@@ -17,7 +17,7 @@ seen = set()
 
 
 def call(**changes):
-    c = dict(family="poisson", link="log", limit=None, n=3, p=2, rows=2, entries=3, blocks=[(2, 1)], theta=[1.0], y=[1.0, 2.0, 3.0], weights=[], offset=[], start="usual",
+    c = dict(responses=1, family="poisson", link="log", limit=None, n=3, p=2, rows=2, entries=3, blocks=[(2, 1)], theta=[1.0], y=[1.0, 2.0, 3.0], weights=[], offset=[], start="usual",
              x=[1.0, 0.5, 1.0, 0.25, 1.0, 0.125], starts=[0, 2, 3], columns=[0, 2, 1], values=[1.0] * 3, beta=2, se=2, z=2, u=2, b=2, mu=3, eta=3, residual=3, v=4,
              work_rows=48, work_matrices=84, work_terms=7000)
     assert set(changes) <= set(c)
@@ -31,9 +31,9 @@ def sizes(c):
 
 
 def lengths(c):
-    n, p, q = c["n"], c["p"], c["rows"]
-    wanted = dict(zip(RESULTS, [p, p, p, q, q, n, n, n, p * p]))
-    inputs = dict(theta=sum(k * (k + 1) // 2 for _, k in c["blocks"]), y=n, x=n * p, starts=q + 1, columns=c["entries"], values=c["entries"])
+    r, n, p, q = c["responses"], c["n"], c["p"], c["rows"]
+    wanted = dict(zip(RESULTS, [r * k for k in [p, p, p, q, q, n, n, n, p * p]]))
+    inputs = dict(theta=sum(k * (k + 1) // 2 for _, k in c["blocks"]), y=r * n, x=n * p, starts=q + 1, columns=c["entries"], values=c["entries"])
     return (all(c[k] == w for k, w in wanted.items()) and all(len(c[k]) == w for k, w in inputs.items()) and len(c["weights"]) in (0, n) and len(c["offset"]) in (0, n))
 
 
@@ -63,7 +63,7 @@ def started(c):
     return c["start"] == "usual" or c["family"] == "binomial" and not any(w < 0 for w in c["weights"])
 
 
-TABLE = [(1, sizes), (2, lengths), (7, work), (6, sparse), (3, numbers), (4, lambda c: c["link"] in VALID[c["family"]]), (5, lambda c: c["link"] != "probit"), (9, ranges),
+TABLE = [(1, sizes), (8, lambda c: 1 <= c["responses"] <= 64), (2, lengths), (7, work), (6, sparse), (3, numbers), (4, lambda c: c["link"] in VALID[c["family"]]), (5, lambda c: c["link"] != "probit"), (9, ranges),
          (27, started)]
 
 
@@ -84,7 +84,7 @@ def fed(word, c):
     data += struct.pack(">8Q", *laid(8, dict(zip([0, 4], lists[5:7])))) + struct.pack(">25d", *laid(25, dict(zip([0, 2, 6, 10, 14, 21], [*lists[:5], lists[7]]))))
     settings = [FAMILIES.index(c["family"]), LINKS.index(c["link"]), 2 * BIG - 1 if c["limit"] is None else c["limit"], c["n"], c["p"], c["rows"], c["entries"], STARTS.index(c["start"])]
     lent = [c[k] for k in [*RESULTS, "work_rows", "work_matrices", "work_terms"]]
-    return data + struct.pack(">30Q", *settings, *c["blocks"][0], *map(len, lists), *lent)
+    return data + struct.pack(">31Q", c["responses"], *settings, *c["blocks"][0], *map(len, lists), *lent)
 
 
 def ask(word, **changes):
@@ -124,6 +124,15 @@ def main():
         ask("starts and columns", starts=starts, columns=columns)
     for theta, y, weight, offset, x, value in [(1.0,) * 6, (NAN, 1, 1, 1, 1, 1), (1, INF, 1, 1, 1, 1), (1, 1, -INF, 1, 1, 1), (1, 1, 1, NAN, 1, 1), (1, 1, 1, 1, NAN, 1), (1, 1, 1, 1, 1, INF)]:
         ask("numbers", theta=[theta], y=[1.0, 2.0, y], weights=[1.0, weight, 1.0], offset=[offset, 0.0, 0.0], x=[1.0] * 5 + [x], values=[1.0, value, 1.0])
+    small = dict(n=1, p=1, rows=1, entries=1, blocks=[(1, 1)], x=[1.0], starts=[0, 1], columns=[0], values=[1.0], work_rows=16, work_matrices=33)
+    for r in [0, 1, 2, 4, 63, 64, 65, BIG, 2 * BIG - 1]:
+        ask("responses", responses=r)
+        ask("responses", responses=r, n=513)
+        ask("responses", **small, responses=r, y=[1.0] * min(r, 4), **dict.fromkeys(RESULTS, r))
+    for y in [[1.0, 2.0, 3.0], [1.0, 2.0, NAN, 3.0], [INF, 2.0, 1.0, 3.0], [1.0, 2.0, 3.0, -INF], [1.0, 2.0, 3.0, -1.0], [1.0, 2.0, -1.0, NAN]]:
+        ask("responses", **small, responses=4, y=y, **dict.fromkeys(RESULTS, 4))
+    for name in RESULTS:
+        ask("responses", **small, responses=4, y=[1.0] * 4, **dict.fromkeys(RESULTS, 4) | {name: 1})
     for family in FAMILIES:
         for link in LINKS:
             ask("pair", family=family, link=link, y=[0.25, 0.5, 1.0])
@@ -142,7 +151,7 @@ def main():
         ask("faults", family="gamma", link="probit", n=n, beta=beta, work_terms=terms, columns=[0, column, 1], y=[1.0, y, 3.0])
     for fault in [dict(n=513), dict(beta=1), dict(work_terms=6999), dict(columns=[0, 3, 1]), dict(x=[NAN] * 6), dict(link="sqrt"), dict(link="probit"), dict(link="logit")]:
         ask("faults", **{"family": "binomial", "link": "logit", "y": [0.5, 1.5, -1.0]} | fault)
-    assert "--stdin" in sys.argv or seen == {1, 2, 3, 4, 5, 6, 7, 9, 27}
+    assert "--stdin" in sys.argv or seen == {1, 2, 3, 4, 5, 6, 7, 8, 9, 27}
 
 
 if __name__ == "__main__":

@@ -1,4 +1,4 @@
-"""`fitjob` and the C archives: which are released, whether the built one is of the sources as they are, and how a program is run.
+"""`fitjob`, `fitmany` and the C archives: which are released, whether the built one is of the sources as they are, and how a program is run.
 
 docs/RELEASE.md gives each released file its sha256 and the sum of its sources: the sha256 of what `sha256sum` prints of every .rt and .antt file of its crate and
 of all crates below that, in the order of their paths, and then of these crates' lines of crates.txt, in their order there. No git and no toolchain is needed for it."""
@@ -6,8 +6,7 @@ import hashlib, os, platform, re, shutil, subprocess
 from pathlib import Path
 
 ROOT = Path(__file__).resolve().parents[2]
-PROGRAM = ROOT / "target" / "bin" / "fitjob"
-SUM = ROOT / "target" / "fitjob.sum"
+MADE = ROOT / "target"
 RELEASE = ROOT / "release"
 PAGE = ROOT / "docs" / "RELEASE.md"
 LOADER = "ld-linux-x86-64.so.2"
@@ -41,6 +40,11 @@ def crates(name="fitjob"):
     if name in known:
         height(name)
     return sorted(heights, key=lambda crate: (heights[crate], list(known).index(crate)))
+
+
+def programs():
+    """The crates that are programs of their own, not tests."""
+    return [name for name in listed() if (ROOT / "crates" / name / "src" / "main.rt").is_file() and not name.startswith("cases_")]
 
 
 def files(crate):
@@ -100,19 +104,29 @@ def released(name):
     return None if release_fault(name) else RELEASE / name
 
 
-def fresh():
+def place(name="fitjob"):
+    """Where a check leaves a program."""
+    return MADE / "bin" / name
+
+
+def note(name):
+    """Where it is noted what the program there was built from."""
+    return MADE / f"{name}.sum"
+
+
+def fresh(name="fitjob"):
     """Whether the program in target/ was built from the sources as they are."""
-    return PROGRAM.is_file() and SUM.is_file() and SUM.read_text().split() == [sources(), sha256(PROGRAM)]
+    return place(name).is_file() and note(name).is_file() and note(name).read_text().split() == [sources(name), sha256(place(name))]
 
 
-def settled(made):
+def settled(made, name="fitjob"):
     """Notes that the program in target/ was built from the sources of this sum."""
-    SUM.write_text(f"{made} {sha256(PROGRAM)}\n")
+    note(name).write_text(f"{made} {sha256(place(name))}\n")
 
 
-def usable():
+def usable(name="fitjob"):
     """The program to be run: the fresh one in target/, else the released one, else None."""
-    return PROGRAM if fresh() else released("fitjob")
+    return place(name) if fresh(name) else released(name)
 
 
 def kit_words():
@@ -143,7 +157,7 @@ def run_words(file):
     return before and [*before, str(file)]
 
 
-def command():
-    """The words that run `fitjob`: the fresh one of target/, else the released one, else what the last check left in target/; None where there is none."""
-    file = usable() or (PROGRAM if PROGRAM.is_file() else None)
+def command(name="fitjob"):
+    """The words that run a program: the fresh one of target/, else the released one, else what the last check left in target/; None where there is none."""
+    file = usable(name) or (place(name) if place(name).is_file() else None)
     return file and run_words(file)

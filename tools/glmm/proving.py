@@ -1,4 +1,4 @@
-"""`fitjob` proved and built by the Rattle toolchain (rt): one run at a time, with the time to be expected, how far it is, and nothing left behind when it is ended."""
+"""`fitjob` or `fitmany` proved and built by the Rattle toolchain (rt): one run at a time, with the time to be expected, how far it is, and nothing left behind when it is ended."""
 import collections, contextlib, fcntl, os, re, shutil, signal, subprocess, sys, time
 import program
 
@@ -47,8 +47,8 @@ def unproved(crates):
 class Progress:
     """The crates that are left, and what is told of them."""
 
-    def __init__(self):
-        self.left, seconds = program.crates(), expected()
+    def __init__(self, name):
+        self.left, seconds = program.crates(name), expected()
         self.total, self.began, self.done = len(self.left), time.monotonic(), 0
         self.work = {crate: seconds.get(crate, UNKNOWN) for crate in unproved(self.left)}  # the seconds of what is to be proved
 
@@ -113,8 +113,8 @@ def running(words):
 @contextlib.contextmanager
 def alone():
     """One run builds at a time; another waits."""
-    program.SUM.parent.mkdir(exist_ok=True)
-    with open(program.SUM.with_suffix(".lock"), "w") as lock:
+    program.MADE.mkdir(exist_ok=True)
+    with open(program.MADE / "fit.lock", "w") as lock:
         try:
             fcntl.flock(lock, fcntl.LOCK_EX | fcntl.LOCK_NB)
         except BlockingIOError:
@@ -123,53 +123,53 @@ def alone():
         yield
 
 
-def prove(cause):
-    """`rt check fitjob`, telling how far it is."""
+def prove(name, cause):
+    """`rt check` of a program, telling how far it is."""
     if not shutil.which("rt"):
-        raise Failed(f"{cause}, and the Rattle toolchain (rt), which proves and builds fitjob, is missing")
-    made, progress, last = program.sources(), Progress(), collections.deque(maxlen=12)
-    say(f"{cause}: proving and building fitjob and what it stands on, {progress.total} crates, {len(progress.work)} of them new: "
+        raise Failed(f"{cause}, and the Rattle toolchain (rt), which proves and builds {name}, is missing")
+    made, progress, last = program.sources(name), Progress(name), collections.deque(maxlen=12)
+    say(f"{cause}: proving and building {name} and what it stands on, {progress.total} crates, {len(progress.work)} of them new: "
         f"{about(progress.rest())} on two free cores")
     try:
-        with running(["rt", "check", "fitjob"]) as work:
+        with running(["rt", "check", name]) as work:
             for line in work.stdout:
                 last.append(line)
                 progress.take(line)
     finally:
         progress.close()
-    if work.returncode != 0 or not program.PROGRAM.is_file():
-        raise Failed("fitjob could not be proved and built; rt said last:\n" + "".join(last).rstrip())
-    program.settled(made)
+    if work.returncode != 0 or not program.place(name).is_file():
+        raise Failed(f"{name} could not be proved and built; rt said last:\n" + "".join(last).rstrip())
+    program.settled(made, name)
 
 
-def ready():
+def ready(name="fitjob"):
     """The program that is to be run; it is proved and built first where there is none of the sources as they are."""
-    found = program.usable()
+    found = program.usable(name)
     if not found:
         with alone():
-            if not program.fresh():
-                prove(program.release_fault("fitjob"))
-    return found or program.PROGRAM
+            if not program.fresh(name):
+                prove(name, program.release_fault(name))
+    return found or program.place(name)
 
 
-def differs():
+def differs(name):
     """What the page and this toolchain say of each other, where the bytes are not the release's."""
     here = subprocess.run(["rt", "version"], capture_output=True, text=True).stdout.strip()
-    return f"target/bin/fitjob has other bytes than the release, from the same sources; docs/RELEASE.md was made with {program.page_says('toolchain')}, here is {here}"
+    return f"target/bin/{name} has other bytes than the release, from the same sources; docs/RELEASE.md was made with {program.page_says('toolchain')}, here is {here}"
 
 
-def compared():
+def compared(name="fitjob"):
     """Proves and builds, and says whether the bytes are those of release/; whether there is nothing amiss."""
     with alone():
-        prove("as asked")
-    _, sha, made = program.page_rows().get("fitjob", (0, "", ""))
-    found, fault = program.sha256(program.PROGRAM), program.release_fault("fitjob")
+        prove(name, "as asked")
+    _, sha, made = program.page_rows().get(name, (0, "", ""))
+    found, fault, same = program.sha256(program.place(name)), program.release_fault(name), made == program.sources(name)
     if found == sha and not fault:
-        say(f"proved; target/bin/fitjob and release/fitjob have the same bytes, sha256 {sha}")
-    elif made != program.sources():
+        say(f"proved; target/bin/{name} and release/{name} have the same bytes, sha256 {sha}")
+    elif not same:
         say(f"proved and built, sha256 {found}; not compared with the release: {fault}")
     elif found == sha:
-        say(f"proved; target/bin/fitjob has the sha256 of docs/RELEASE.md, {sha}, but {fault}")
+        say(f"proved; target/bin/{name} has the sha256 of docs/RELEASE.md, {sha}, but {fault}")
     else:
-        say(differs())
-    return made != program.sources() or found == sha and not fault
+        say(differs(name))
+    return not same or found == sha and not fault

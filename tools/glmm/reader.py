@@ -1,7 +1,9 @@
-"""Documents 01 and 02's reading of a job (P10: version 2): every number, or the first fault with its byte."""
+"""Documents 01 and 02's reading of a job (P10: version 2) and of many responses behind one (P1): every number, or the first fault with its byte."""
 import math, struct
 
 LONGEST = 65536
+MOST_RESPONSES = 64
+TABLE = [6, 3, 4, 5, 9, 27]  # what the table refuses a job with, in its order
 CARRIED = {(0, 0), (0, 2), (1, 3), (1, 4), (1, 6), (2, 4), (2, 3), (2, 5), (3, 5), (3, 4), (3, 3)}  # family and link of a call that can be fitted
 VALID = CARRIED | {(0, 1)}
 
@@ -101,20 +103,20 @@ def start_fits(job):
     return job.start == 0 or job.family == 0 and not any(w < 0.0 for w in job.weights or [])
 
 
-def check_table(job):
-    """Refusals 6, 3, 4, 5, 9 and 27; 1 was tested before, and 2 and 7 cannot come from a job."""
+def check_table(job, responses):
+    """Refusals 6, 3, 4, 5, 9 and 27 over all the responses; 1 was tested before, and 7 cannot come from a job."""
     for row in job.zt:
         columns = [column for column, _ in row]
         if any(c >= job.n for c in columns) or any(c >= d for c, d in zip(columns, columns[1:])):
             raise Refused(6, 0)
-    numbers = [*job.theta, *job.y, *(job.weights or []), *(job.offset or []), *(v for row in job.x for v in row), *(v for row in job.zt for _, v in row)]
+    numbers = [*job.theta, *(y for ys in responses for y in ys), *(job.weights or []), *(job.offset or []), *(v for row in job.x for v in row), *(v for row in job.zt for _, v in row)]
     if not all(map(math.isfinite, numbers)):
         raise Refused(3, 0)
     if (job.family, job.link) not in VALID:
         raise Refused(4, 0)
     if (job.family, job.link) not in CARRIED:
         raise Refused(5, 0)
-    if not all(in_range(job.family, y) for y in job.y):
+    if not all(in_range(job.family, y) for ys in responses for y in ys):
         raise Refused(9, 0)
     if not start_fits(job):
         raise Refused(27, 0)
@@ -137,5 +139,30 @@ def parse(data):
 
 def read(data):
     job = parse(data)
-    check_table(job)
+    check_table(job, [job.y])
     return job
+
+
+def divided(data):
+    """The job and the bytes behind it of an input that begins with the job's length in three bytes; each as far as the input goes."""
+    size = int.from_bytes(data[:3], "big")
+    return data[3:3 + size], data[3 + size:]
+
+
+def check_count(job, behind):
+    """Refusals 8 and 2: the whole responses are 1 to 64, and no bytes are left over behind them."""
+    if not 1 <= len(behind) // (8 * job.n) <= MOST_RESPONSES:
+        raise Refused(8, 0)
+    if len(behind) % (8 * job.n):
+        raise Refused(2, 0)
+
+
+def read_many(data):
+    """The job and its responses (document 02, P1). The job's own y is not looked at."""
+    front, behind = divided(data)
+    job = parse(front)
+    check_count(job, behind)
+    numbers = Bits(behind)
+    responses = [numbers.doubles(job.n) for _ in range(len(behind) // (8 * job.n))]
+    check_table(job, responses)
+    return job, responses

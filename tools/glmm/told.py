@@ -282,19 +282,29 @@ def understood(lines, data, file=None, sheet=None):
         raise Unreadable("an end, for a job that can't be read")
     if job:
         answer.check(job)
-    if job and sheet is None and file not in (None, "", "-"):
-        sheet, told = sheet_beside(file, job, data)
-        if told:
-            remark(told)
-    return answer, job, sheet
+    return answer, job, sheet_for(job, data, file, sheet)
+
+
+def sheet_for(job, data, file, sheet):
+    """The text that names a job's parts: the one that is given, else the one beside `file`."""
+    if job is None or sheet is not None or file in (None, "", "-"):
+        return sheet
+    sheet, told = sheet_beside(file, job, data)
+    if told:
+        remark(told)
+    return sheet
+
+
+def put_lines(lines):
+    """Prints lines; a sign that standard output has no code for is written as its number."""
+    coded = getattr(sys.stdout, "encoding", None) or "utf-8"
+    print("\n".join(lines).encode(coded, "backslashreplace").decode(coded))
 
 
 def tell(lines, data, file=None, rows=False, sheet=None):
     """Prints the table of what was printed for the job `data`; names come from `sheet`, else from the text beside `file`, where there is one."""
     answer, job, sheet = understood(lines, data, file, sheet)
-    told = "\n".join(table(answer, job, sheet, rows))
-    coded = getattr(sys.stdout, "encoding", None) or "utf-8"
-    print(told.encode(coded, "backslashreplace").decode(coded))
+    put_lines(table(answer, job, sheet, rows))
 
 
 # ---- JSON

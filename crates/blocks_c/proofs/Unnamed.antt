@@ -85,4 +85,4 @@ module _ (c : CodedSettings) (bs : List Block) (I : Inputs) (L : Lent) where
     pub unnamed-four : goodSizes (settingsOf c) (shapeOf bs) ≡ true → goodInputs 1 (settingsOf c) (shapeOf bs) I ≡ true → goodResults 1 (settingsOf c) (lengthsOf L) ≡ true
         → goodWork (settingsOf c) (lengthsOf L) ≡ true → goodRows (I .starts) (I .columns) (settingsOf c .rows) (settingsOf c .n) ≡ true → goodNumbers I ≡ true → Refuses LinkForFamily
     unnamed-four = rw (settings c e) (λ sizes lent results work rows numbers.
-        refuses LinkForFamily (line-4 1 (unnamed c) (shapeOf bs) I (lengthsOf L) sizes lent results work rows numbers (not-valid c)))
+        refuses LinkForFamily (line-4 1 (unnamed c) (shapeOf bs) I (lengthsOf L) sizes refl lent results work rows numbers (not-valid c)))

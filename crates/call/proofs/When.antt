@@ -3,12 +3,13 @@ use mathlib.Core.Path.{_≡_, refl, sym, ap, _∙_}
 use mathlib.Core.Logic.{_↔_, _⊎_, inl, inr, ⊎-elim}
 use Prim.Native.Nat.{ℕ, zero, suc, _≤_}
 use native.Mathlib.Omega.{arith}
+use Rattle.base.proofs.Doubles.{ff}
 use Rattle.model.specs.Answer.{refusalNumber, unfittedAnswer, fittedAnswer}
 use Rattle.model.specs.Inputs.{Inputs}
 use Rattle.model.specs.Items.{tally}
 use Rattle.model.specs.declared.counts.Account.{Account}
 use Rattle.model.specs.declared.ends.Refusal.{Refusal}
-use Rattle.model.specs.declared.ends.Refusal.the-variants.{OutOfRange, Lengths, Work, SparseRows, NotFinite, LinkForFamily, NotCarried, ResponseRange, StartFit}
+use Rattle.model.specs.declared.ends.Refusal.the-variants.{OutOfRange, Responses, Lengths, Work, SparseRows, NotFinite, LinkForFamily, NotCarried, ResponseRange, StartFit}
 use Rattle.model.specs.declared.sizes.Shape.{Shape}
 use Rattle.model.specs.declared.sizes.Settings.{Settings}
 use Rattle.model.proofs.Answers.{refusal-range, end-range}
@@ -28,7 +29,7 @@ refusalOf (suc (suc (suc (suc zero)))) = LinkForFamily
 refusalOf (suc (suc (suc (suc (suc zero))))) = NotCarried
 refusalOf (suc (suc (suc (suc (suc (suc zero)))))) = SparseRows
 refusalOf (suc (suc (suc (suc (suc (suc (suc zero))))))) = Work
-refusalOf (suc (suc (suc (suc (suc (suc (suc (suc zero)))))))) = OutOfRange
+refusalOf (suc (suc (suc (suc (suc (suc (suc (suc zero)))))))) = Responses
 refusalOf (suc (suc (suc (suc (suc (suc (suc (suc (suc zero))))))))) = ResponseRange
 refusalOf (suc (suc (suc (suc (suc (suc (suc (suc (suc (suc n)))))))))) = StartFit
 refusalOf zero = OutOfRange
@@ -36,6 +37,7 @@ refusalOf (suc zero) = OutOfRange
 
 refusal-back : (x : Refusal) → refusalOf (refusalNumber x) ≡ x
 refusal-back OutOfRange = refl
+refusal-back Responses = refl
 refusal-back Lengths = refl
 refusal-back Work = refl
 refusal-back SparseRows = refl
@@ -91,3 +93,8 @@ module _ (t : Settings) (s : Shape) (I : Inputs) (L : Lent) where
         (decided 1 t s I (lengthsOf L)),
     accepted,
   )
+
+  -- a call of one response is never refused for the number of its responses
+  pub never-eight : callOf t s I L .answer .number ≡ 8 → ⊥
+  unfolding GivenWhen
+  never-eight e = ff (sym (refused-exactly Responses .0 e .1))

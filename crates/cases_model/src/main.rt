@@ -176,13 +176,14 @@ fn put_answer(answer: Answer) {
 fn next_refusal() -> Refusal {
     match fed::count() {
         0 => Refusal::OutOfRange,
-        1 => Refusal::Lengths,
-        2 => Refusal::Work,
-        3 => Refusal::SparseRows,
-        4 => Refusal::NotFinite,
-        5 => Refusal::LinkForFamily,
-        6 => Refusal::NotCarried,
-        7 => Refusal::ResponseRange,
+        1 => Refusal::Responses,
+        2 => Refusal::Lengths,
+        3 => Refusal::Work,
+        4 => Refusal::SparseRows,
+        5 => Refusal::NotFinite,
+        6 => Refusal::LinkForFamily,
+        7 => Refusal::NotCarried,
+        8 => Refusal::ResponseRange,
         _ => Refusal::StartFit,
     }
 }

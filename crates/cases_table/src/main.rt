@@ -74,6 +74,7 @@ fn next_lent() -> LentLengths {
 // The lists are parts of what was read.
 fn ask(ns: &[usize], xs: &[f64]) {
     put_verdict(table::verdict_of(
+        fed::count(),
         next_settings(),
         next_shape(),
         fed::part(xs, 0),

@@ -60,6 +60,7 @@ pub fn fit(
         terms: terms.len(),
     };
     let verdict = verdict_of(
+        1,
         settings,
         shape,
         theta,

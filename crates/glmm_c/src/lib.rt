@@ -9,6 +9,7 @@ ghost use Rattle.log_gamma.specs.LogGamma.{lnGammaOf};
 ghost use Rattle.root.specs.Sqrt.{sqrtOf};
 ghost use Rattle.layout.specs.WorkTerms.{termsLength};
 ghost use Rattle.jobcall.specs.Told.{buffers, told, fitJobOf, fitJobThetaOf};
+ghost use Rattle.many.specs.Many.{fitManyOf};
 ghost use Rattle.lengths.specs.Asked.{rowsAsked, matricesAsked};
 ghost use Rattle.jobcall.specs.Results.{resultsAsked};
 
@@ -72,6 +73,34 @@ pub extern "C" fn glmm_fit_job_theta(
         (buffers (now (rows .entry)) (now (matrices .entry)) (now (terms .entry)) (now (results .entry)) (now (counts .entry))) ⌝ }
 {
     jobcall::fit_job_theta(job, theta, rows, matrices, terms, results, counts)
+}
+
+#[no_mangle]
+pub extern "C" fn glmm_fit_many(
+    job: &[u8],
+    responses: &[f64],
+    count: usize,
+    rows: &mut [f64],
+    matrices: &mut [f64],
+    terms: &mut [f64],
+    results: &mut [f64],
+    counts: &mut [u64],
+) -> u64
+    ensures { λ r. ⌜
+        told r (buffers (now (rows .exit)) (now (matrices .exit)) (now (terms .exit)) (now (results .exit)) (now (counts .exit)))
+        ≡ fitManyOf (now (job .entry)) (now (responses .entry)) count
+        (buffers (now (rows .entry)) (now (matrices .entry)) (now (terms .entry)) (now (results .entry)) (now (counts .entry))) ⌝ }
+{
+    many::fit_many(
+        job,
+        responses,
+        count,
+        rows,
+        matrices,
+        terms,
+        results,
+        counts,
+    )
 }
 
 #[no_mangle]

@@ -1,4 +1,4 @@
--- The lines that the program prints, as lists of bytes, and what a buffer holds that one is written into. Document 01, "The job and the program", its second paragraph; document 02, P5 and P9. Assumes nothing.
+-- The lines that the program prints, as lists of bytes, and what a buffer holds that one is written into. Document 01, "The job and the program", its second paragraph; document 02, P5, P9 and P1. Assumes nothing.
 use mathlib.Core.Path.{_≡_}
 use mathlib.Core.Bool.{Bool, true, false}
 use mathlib.Core.List.{List, [], _∷_, _++_}
@@ -78,6 +78,10 @@ endLine a = lineOf (endPairs a)
 -- "`refused R at B`"
 unfoldable pub refusedLine : ℕ → ℕ → List ℕ
 refusedLine r b = lineOf (pair (114 ∷ 101 ∷ 102 ∷ 117 ∷ 115 ∷ 101 ∷ 100 ∷ []) r ∷ pair (97 ∷ 116 ∷ []) b ∷ [])
+
+-- "a line `response I`": the line over what is printed of response i, from 0 on
+unfoldable pub responseLine : ℕ → List ℕ
+responseLine i = lineOf (pair (114 ∷ 101 ∷ 115 ∷ 112 ∷ 111 ∷ 110 ∷ 115 ∷ 101 ∷ []) i ∷ [])
 
 -- a value line: name, index and the digits of the double; NaN has the one pattern 7FF8000000000000
 unfoldable pub valueLine : List ℕ → ℕ → Float → List ℕ

@@ -5,7 +5,7 @@ ghost use mathlib.Core.List.{[]};
 ghost use Prim.Native.Nat.{_+_, _≤_, _<_};
 ghost use lib.ListN.{length, drop};
 ghost use Rattle.lines.specs.Decimals.{decimals, trimmed, decimalOf};
-ghost use Rattle.lines.specs.Lines.{pairsText, flagOf, accountPairs, tailPairs, tailMost, endLine, refusedLine, valueLine, Appended, Paired, Written};
+ghost use Rattle.lines.specs.Lines.{pairsText, flagOf, accountPairs, tailPairs, tailMost, endLine, refusedLine, responseLine, valueLine, Appended, Paired, Written};
 
 // The twenty digits of n, the highest first.
 fn twenty(n: u64) -> [u8; 20]
@@ -125,6 +125,15 @@ pub fn refused_line(out: &mut [u8], number: u64, byte: usize) -> usize
     let told = put_pair(out, 0, b"refused", number);
     let placed = put_pair(out, told, b" at", byte as u64);
     put_bytes(out, placed, b"\n")
+}
+
+// The line over what is printed of response i.
+pub fn response_line(out: &mut [u8], i: usize) -> usize
+    requires { ⌜ 256 ≤ length (now out) ⌝ }
+    ensures { λ r. ⌜ Written (responseLine i) (now (out .entry)) r (now (out .exit)) ⌝ }
+{
+    let told = put_pair(out, 0, b"response", i as u64);
+    put_bytes(out, told, b"\n")
 }
 
 // The line of a value: its name, its index and the sixteen digits of its pattern.

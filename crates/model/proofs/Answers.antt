@@ -10,11 +10,12 @@ use Rattle.model.specs.declared.ends.Answer.{Answer}
 use Rattle.model.specs.declared.ends.End.{End}
 use Rattle.model.specs.declared.ends.End.the-variants.{SystemPivot, NormalPivot, NoStep, NoStop}
 use Rattle.model.specs.declared.ends.Refusal.{Refusal}
-use Rattle.model.specs.declared.ends.Refusal.the-variants.{OutOfRange, Lengths, Work, SparseRows, NotFinite, LinkForFamily, NotCarried, ResponseRange, StartFit}
+use Rattle.model.specs.declared.ends.Refusal.the-variants.{OutOfRange, Responses, Lengths, Work, SparseRows, NotFinite, LinkForFamily, NotCarried, ResponseRange, StartFit}
 
 -- refusals are 1 to 9 and 27
 pub refusal-range : (r : Refusal) → (1 ≤ refusalNumber r) × ((refusalNumber r ≤ 9) ⊎ (refusalNumber r ≡ 27))
 refusal-range OutOfRange = (omega arith, inl (omega arith))
+refusal-range Responses = (omega arith, inl (omega arith))
 refusal-range Lengths = (omega arith, inl (omega arith))
 refusal-range Work = (omega arith, inl (omega arith))
 refusal-range SparseRows = (omega arith, inl (omega arith))
@@ -34,6 +35,7 @@ end-range NoStop = (omega arith, omega arith)
 -- the tests that tell ends from refusals: no refusal is an end, and every end is one
 pub refusal-no-end : (r : Refusal) → isEnd (refusalNumber r) ≡ false
 refusal-no-end OutOfRange = refl
+refusal-no-end Responses = refl
 refusal-no-end Lengths = refl
 refusal-no-end Work = refl
 refusal-no-end SparseRows = refl

@@ -1,4 +1,4 @@
--- How a call can end, and the record that it answers. Document 01, "Numbers of an answer"; document 02, P5, P6 and P10. Assumes nothing.
+-- How a call can end, and the record that it answers. Document 01, "Numbers of an answer"; document 02, P1, P5, P6 and P10. Assumes nothing.
 use mathlib.Core.Path.{_≡_}
 use mathlib.Core.Bool.{Bool, true, false}
 use Prim.Native.Nat.{ℕ}
@@ -11,7 +11,7 @@ use Rattle.model.specs.declared.ends.Answer.{Answer}
 use Rattle.model.specs.declared.ends.End.{End}
 use Rattle.model.specs.declared.ends.End.the-variants.{SystemPivot, NormalPivot, NoStep, NoStop}
 use Rattle.model.specs.declared.ends.Refusal.{Refusal}
-use Rattle.model.specs.declared.ends.Refusal.the-variants.{OutOfRange, Lengths, Work, SparseRows, NotFinite, LinkForFamily, NotCarried, ResponseRange, StartFit}
+use Rattle.model.specs.declared.ends.Refusal.the-variants.{OutOfRange, Responses, Lengths, Work, SparseRows, NotFinite, LinkForFamily, NotCarried, ResponseRange, StartFit}
 
 -- the number under which each end without a result is told
 abbrev pub endNumber : End → ℕ
@@ -23,6 +23,7 @@ endNumber NoStop = 13
 -- the number under which each refusal is told; the lines stand in the order in which they are tested
 abbrev pub refusalNumber : Refusal → ℕ
 refusalNumber OutOfRange = 1
+refusalNumber Responses = 8
 refusalNumber Lengths = 2
 refusalNumber Work = 7
 refusalNumber SparseRows = 6

@@ -19,6 +19,8 @@ pub enum End {
 pub enum Refusal {
     // The sizes are not all in range, or Z' has not one row for each effect.
     OutOfRange,
+    // The number of responses is not one of 1 to 64.
+    Responses,
     // Some lent slice is not as long as the sizes ask.
     Lengths,
     // Some work slice has too little room.
@@ -68,6 +70,7 @@ pub fn refusal_number(refusal: Refusal) -> usize
 {
     match refusal {
         Refusal::OutOfRange => 1,
+        Refusal::Responses => 8,
         Refusal::Lengths => 2,
         Refusal::Work => 7,
         Refusal::SparseRows => 6,

@@ -9,7 +9,7 @@ use Rattle.model.specs.declared.ends.Answer.{Answer}
 use Rattle.model.specs.declared.ends.End.{End}
 use Rattle.model.specs.declared.ends.End.the-variants.{SystemPivot, NormalPivot, NoStep, NoStop}
 use Rattle.model.specs.declared.ends.Refusal.{Refusal}
-use Rattle.model.specs.declared.ends.Refusal.the-variants.{OutOfRange, Lengths, Work, SparseRows, NotFinite, LinkForFamily, NotCarried, ResponseRange, StartFit}
+use Rattle.model.specs.declared.ends.Refusal.the-variants.{OutOfRange, Responses, Lengths, Work, SparseRows, NotFinite, LinkForFamily, NotCarried, ResponseRange, StartFit}
 use Rattle.family.specs.declared.carried.CarriedFamily.{CarriedFamily}
 use Rattle.family.specs.declared.carried.CarriedLink.{CarriedLink}
 use Rattle.results.specs.Nine.{Results, resultsOf}
@@ -40,6 +40,7 @@ sound-called s e = rw e
 refused-text : (r : Refusal) (R : Results) → answerText (blankAnswer (refusalNumber r) noCounts) R ≡ refusedLine (refusalNumber r) 0
 unfolding answerText
 refused-text OutOfRange R = refl
+refused-text Responses R = refl
 refused-text Lengths R = refl
 refused-text Work R = refl
 refused-text SparseRows R = refl

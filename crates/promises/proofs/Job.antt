@@ -16,6 +16,7 @@ use Rattle.log_gamma.specs.LogGamma.{lnGammaOf}
 use Rattle.root.specs.Sqrt.{sqrtOf}
 use Rattle.layout.specs.WorkTerms.{termsLength}
 use Rattle.jobcall.specs.Told.{buffers, told, fitJobOf, fitJobThetaOf}
+use Rattle.many.specs.Many.{fitManyOf}
 use Rattle.lengths.specs.Asked.{rowsAsked, matricesAsked}
 use Rattle.jobcall.specs.Results.{resultsAsked}
 use Rattle.glmm_c.proofs.glmm_exp as exp
@@ -30,6 +31,7 @@ use Rattle.glmm_c.proofs.glmm_terms_length as terms-length
 use Rattle.glmm_c.proofs.glmm_results_length as results-length
 use Rattle.glmm_c.proofs.glmm_fit_job as fit-job
 use Rattle.glmm_c.proofs.glmm_fit_job_theta as fit-job-theta
+use Rattle.glmm_c.proofs.glmm_fit_many as fit-many
 use Rattle.promises.specs.Promise.{Fact, promise}
 
 -- what is returned and left of the five buffers, for a job with its own theta
@@ -41,6 +43,11 @@ fitJob κs (job, (rows, (matrices, (terms, (results, (counts, _)))))) r (_, (row
 abbrev fitJobTheta : Fact fit-job-theta.ended
 fitJobTheta κs (job, (theta, (rows, (matrices, (terms, (results, (counts, _))))))) r (_, (_, (rows′, (matrices′, (terms′, (results′, (counts′, _))))))) =
     told r (buffers (now rows′) (now matrices′) (now terms′) (now results′) (now counts′)) ≡ fitJobThetaOf (now job) (now theta) (buffers (now rows) (now matrices) (now terms) (now results) (now counts))
+
+-- for so many responses beside a job
+abbrev fitMany : Fact fit-many.ended
+fitMany κs (job, (responses, (count, (rows, (matrices, (terms, (results, (counts, _)))))))) r (_, (_, (_, (rows′, (matrices′, (terms′, (results′, (counts′, _)))))))) =
+    told r (buffers (now rows′) (now matrices′) (now terms′) (now results′) (now counts′)) ≡ fitManyOf (now job) (now responses) count (buffers (now rows) (now matrices) (now terms) (now results) (now counts))
 
 module _ {M : Type 1} (𝓤 : URA M) (H : Heap 𝓤) (A : Atoms 𝓤) (mem : Memory → SProp 𝓤) (run : Routine → Fun 𝓤) where
   pub rows-length-promised : rows-length.clauses 𝓤 H A mem run ≡ promise 𝓤 rows-length.ended (λ κs a r e. r ≡ rowsAsked (a .0))
@@ -60,6 +67,9 @@ module _ {M : Type 1} (𝓤 : URA M) (H : Heap 𝓤) (A : Atoms 𝓤) (mem : Mem
 
   pub fit-job-theta-promised : fit-job-theta.clauses 𝓤 H A mem run ≡ promise 𝓤 fit-job-theta.ended fitJobTheta
   fit-job-theta-promised = refl
+
+  pub fit-many-promised : fit-many.clauses 𝓤 H A mem run ≡ promise 𝓤 fit-many.ended fitMany
+  fit-many-promised = refl
 
   pub exp-promised : exp.clauses 𝓤 H A mem run ≡ promise 𝓤 exp.ended (λ κs a r e. r ≡ expOf (a .0))
   exp-promised = refl

@@ -140,7 +140,7 @@ unfolding answerText
 unfitted-text a R S e = rw e refl
 
 module _ (t : Settings) (l : Left) (before after : List Float) (fits : l .answer .number ≡ 0 → ResultsFit (t .n) (t .p) (t .rows) (l .lent .results)) where
-  left-text : after ≡ resultsBy l before → answerText (l .answer) (listsOf (t .n) (t .p) (t .rows) after) ≡ leftText l
+  pub left-text : after ≡ resultsBy l before → answerText (l .answer) (listsOf (t .n) (t .p) (t .rows) after) ≡ leftText l
   unfolding resultsBy
   left-text e = by (eqb (l .answer .number) 0) refl
     where

@@ -2,5 +2,6 @@
 mod flat;
 mod whole;
 
+pub use flat::put_flat;
 pub use whole::respond;
 pub use whole::respond_long;

@@ -14,7 +14,7 @@ use Rattle.model.specs.declared.names.Start.the-variants.{Usual}
 use Rattle.model.specs.declared.sizes.Shape.{Shape}
 use Rattle.model.specs.declared.sizes.Settings.{Settings}
 use Rattle.model.specs.declared.ends.Refusal.{Refusal}
-use Rattle.model.specs.declared.ends.Refusal.the-variants.{OutOfRange, Lengths, Work, SparseRows, NotFinite, LinkForFamily, NotCarried, ResponseRange, StartFit}
+use Rattle.model.specs.declared.ends.Refusal.the-variants.{OutOfRange, Responses, Lengths, Work, SparseRows, NotFinite, LinkForFamily, NotCarried, ResponseRange, StartFit}
 use Rattle.model.proofs.Sized.{sized}
 use Rattle.model.proofs.Tests.{both}
 use Rattle.family.specs.Carried.{carriedFamily, carriedLink, validFor}
@@ -22,14 +22,14 @@ use Rattle.family.specs.declared.carried.CarriedFamily.{CarriedFamily}
 use Rattle.family.specs.declared.carried.CarriedLink.{CarriedLink}
 use Rattle.family.specs.declared.carried.LinkCarried.{LinkCarried}
 use Rattle.family.specs.declared.carried.LinkCarried.the-variants as linkCarried
-use Rattle.table.specs.Tests.{goodInputs, goodResults, goodWork, goodNumbers, allInRange, startFits}
+use Rattle.table.specs.Tests.{goodCount, goodInputs, goodResults, goodWork, goodNumbers, allInRange, startFits}
 use Rattle.model.specs.Inputs.{Inputs}
 use Rattle.table.specs.Table.{refuseUnless, withLink, carriedPair, tested, tableOf}
 use Rattle.table.specs.Facts.{Sound}
 use Rattle.table.specs.declared.verdicts.LentLengths.{LentLengths}
 use Rattle.table.specs.declared.verdicts.Verdict.{Verdict}
 use Rattle.table.specs.declared.verdicts.Verdict.the-variants.{Accepted, Refused}
-use Rattle.table.proofs.Meant.{inputs-fit, results-fit, work-fits, numbers-finite, list-in-range, start-fits}
+use Rattle.table.proofs.Meant.{count-fits, inputs-fit, results-fit, work-fits, numbers-finite, list-in-range, start-fits}
 
 -- ---- the lines, from the first to the last
 module _ (r : ℕ) (t : Settings) (s : Shape) (I : Inputs) (L : LentLengths) where
@@ -38,38 +38,43 @@ module _ (r : ℕ) (t : Settings) (s : Shape) (I : Inputs) (L : LentLengths) whe
   line-1 a = rw a refl
 
   module _ (sizes : goodSizes t s ≡ true) where
-    pub line-2-inputs : goodInputs r t s I ≡ false → tableOf r t s I L ≡ Refused Lengths
+    pub line-8 : goodCount r ≡ false → tableOf r t s I L ≡ Refused Responses
     unfolding tableOf refuseUnless
-    line-2-inputs a = rw (sizes, a) refl
+    line-8 a = rw (sizes, a) refl
 
-    module _ (lent : goodInputs r t s I ≡ true) where
-      pub line-2-results : goodResults r t L ≡ false → tableOf r t s I L ≡ Refused Lengths
+    module _ (count : goodCount r ≡ true) where
+      pub line-2-inputs : goodInputs r t s I ≡ false → tableOf r t s I L ≡ Refused Lengths
       unfolding tableOf refuseUnless
-      line-2-results a = rw (sizes, lent, a) refl
+      line-2-inputs a = rw (sizes, count, a) refl
 
-      module _ (results : goodResults r t L ≡ true) where
-        pub line-7 : goodWork t L ≡ false → tableOf r t s I L ≡ Refused Work
+      module _ (lent : goodInputs r t s I ≡ true) where
+        pub line-2-results : goodResults r t L ≡ false → tableOf r t s I L ≡ Refused Lengths
         unfolding tableOf refuseUnless
-        line-7 a = rw (sizes, lent, results, a) refl
+        line-2-results a = rw (sizes, count, lent, a) refl
 
-        module _ (work : goodWork t L ≡ true) where
-          pub line-6 : goodRows (I .starts) (I .columns) (t .rows) (t .n) ≡ false → tableOf r t s I L ≡ Refused SparseRows
+        module _ (results : goodResults r t L ≡ true) where
+          pub line-7 : goodWork t L ≡ false → tableOf r t s I L ≡ Refused Work
           unfolding tableOf refuseUnless
-          line-6 a = rw (sizes, lent, results, work, a) refl
+          line-7 a = rw (sizes, count, lent, results, a) refl
 
-          module _ (rows : goodRows (I .starts) (I .columns) (t .rows) (t .n) ≡ true) where
-            pub line-3 : goodNumbers I ≡ false → tableOf r t s I L ≡ Refused NotFinite
+          module _ (work : goodWork t L ≡ true) where
+            pub line-6 : goodRows (I .starts) (I .columns) (t .rows) (t .n) ≡ false → tableOf r t s I L ≡ Refused SparseRows
             unfolding tableOf refuseUnless
-            line-3 a = rw (sizes, lent, results, work, rows, a) refl
+            line-6 a = rw (sizes, count, lent, results, work, a) refl
 
-            module _ (numbers : goodNumbers I ≡ true) where
-              pub line-4 : validFor (t .link) (t .family) ≡ false → tableOf r t s I L ≡ Refused LinkForFamily
+            module _ (rows : goodRows (I .starts) (I .columns) (t .rows) (t .n) ≡ true) where
+              pub line-3 : goodNumbers I ≡ false → tableOf r t s I L ≡ Refused NotFinite
               unfolding tableOf refuseUnless
-              line-4 a = rw (sizes, lent, results, work, rows, numbers, a) refl
+              line-3 a = rw (sizes, count, lent, results, work, rows, a) refl
 
-              pub last-lines : validFor (t .link) (t .family) ≡ true → tableOf r t s I L ≡ tested (startFits (t .start) (I .weights)) StartFit (tested (allInRange (I .y)) ResponseRange (carriedPair (t .family) (t .link)))
-              unfolding tableOf refuseUnless
-              last-lines a = rw (sizes, lent, results, work, rows, numbers, a) refl
+              module _ (numbers : goodNumbers I ≡ true) where
+                pub line-4 : validFor (t .link) (t .family) ≡ false → tableOf r t s I L ≡ Refused LinkForFamily
+                unfolding tableOf refuseUnless
+                line-4 a = rw (sizes, count, lent, results, work, rows, numbers, a) refl
+
+                pub last-lines : validFor (t .link) (t .family) ≡ true → tableOf r t s I L ≡ tested (startFits (t .start) (I .weights)) StartFit (tested (allInRange (I .y)) ResponseRange (carriedPair (t .family) (t .link)))
+                unfolding tableOf refuseUnless
+                last-lines a = rw (sizes, count, lent, results, work, rows, numbers, a) refl
 
 -- ---- number 5
 module _ (family : Family) (link : Link) where
@@ -140,7 +145,8 @@ pub accepted-sound : (r : ℕ) (t : Settings) (s : Shape) (I : Inputs) (L : Lent
 unfolding tableOf carriedPair
 accepted-sound r t s I L f l e =
     let a = passed (goodSizes t s) OutOfRange _ f l e in
-    let b = passed (goodInputs r t s I && goodResults r t L) Lengths _ f l (a .1) in
+    let j = passed (goodCount r) Responses _ f l (a .1) in
+    let b = passed (goodInputs r t s I && goodResults r t L) Lengths _ f l (j .1) in
     let c = passed (goodWork t L) Work _ f l (b .1) in
     let d = passed (goodRows (I .starts) (I .columns) (t .rows) (t .n)) SparseRows _ f l (c .1) in
     let g = passed (goodNumbers I) NotFinite _ f l (d .1) in
@@ -152,6 +158,7 @@ accepted-sound r t s I L f l e =
     let n = inputs-fit r t s I (m .0) in
     record {
       sized = sized t s (a .0);
+      responses = count-fits r (j .0);
       inputs-fit = n;
       results-fit = results-fit r t L (m .1);
       work-fits = work-fits t L (c .0);

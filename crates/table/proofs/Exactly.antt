@@ -3,7 +3,7 @@ use mathlib.Core.Path.{_≡_, refl, sym, ap, _∙_}
 use mathlib.Core.List.{List}
 use mathlib.Core.Logic.{_↔_, _⊎_, inl, inr, ⊎-elim}
 use mathlib.Core.Bool.{Bool, true, false, not}
-use Prim.Native.Nat.{ℕ, zero, suc, _+_, _-_, _*_, _<_}
+use Prim.Native.Nat.{ℕ, zero, suc, _+_, _-_, _*_, _≤_, _<_}
 use native.Mathlib.Omega.{arith}
 use borrow.Author.Tests.{le-leb, lt-ltb, eq-eqb, ne-eqb, eqb-true}
 use lib.Dec.{eqb}
@@ -27,15 +27,19 @@ use Rattle.layout.specs.WorkTerms.{termsLength}
 use Rattle.family.specs.Family.{inRange}
 use Rattle.family.specs.declared.carried.CarriedFamily.{CarriedFamily}
 use Rattle.family.specs.declared.carried.CarriedFamily.the-variants.{Binomial, Poisson, Gaussian, Gamma}
-use Rattle.table.specs.Tests.{goodInputs, goodResults, goodWork, allFinite, finiteNumbers, goodNumbers, inRangeAt, allInRange, notBelowAt, noneBelow, startFits}
+use Rattle.table.specs.Tests.{goodCount, goodInputs, goodResults, goodWork, allFinite, finiteNumbers, goodNumbers, inRangeAt, allInRange, notBelowAt, noneBelow, startFits}
 use Rattle.table.specs.Facts.{InputsFit, ResultsFit, WorkFits, RowsFit, AllFinite, AllInRange, NoneBelow, StartFits, NumbersFinite}
 use Rattle.table.specs.declared.verdicts.LentLengths.{LentLengths}
-use Rattle.table.proofs.Meant.{or-absent, inputs-fit, inputs-when, results-fit, results-when, work-fits, work-when, numbers-finite, list-in-range, isTrials, isBinomial, start-fits}
+use Rattle.table.proofs.Meant.{or-absent, count-fits, inputs-fit, inputs-when, results-fit, results-when, work-fits, work-when, numbers-finite, list-in-range, isTrials, isBinomial, start-fits}
 
 -- ---- number 1
 pub sizes-exactly : (t : Settings) (s : Shape) → (goodSizes t s ≡ true) ↔ Sized t s
 sizes-exactly t s =
     (sized t s, λ z. sym (sized-when t s (z .sizes .n-some, z .sizes .n-few) (z .sizes .p-some, z .sizes .p-few) (z .shape) (z .effects) (z .entries-few)) ∙ z .limit)
+
+-- ---- number 8
+pub count-exactly : (r : ℕ) → (goodCount r ≡ true) ↔ ((1 ≤ r) × (r ≤ 64))
+count-exactly r = (count-fits r, λ z. joined (le-leb 1 r (z .0)) (le-leb r 64 (z .1)))
 
 -- ---- number 2
 pub inputs-exactly : (r : ℕ) (t : Settings) (s : Shape) (I : Inputs) → (goodInputs r t s I ≡ true) ↔ InputsFit r t s I

@@ -23,7 +23,7 @@ use Rattle.family.specs.declared.carried.CarriedFamily.the-variants.{Binomial, 
 use Rattle.layout.specs.WorkRows.{rowsLength}
 use Rattle.layout.specs.WorkMatrices.{matricesLength}
 use Rattle.layout.specs.WorkTerms.{termsLength}
-use Rattle.table.specs.Tests.{absentOr, goodInputs, goodResults, goodWork, allFinite, finiteNumbers, goodNumbers, inRangeAt, allInRange, notBelowAt, noneBelow, startFits}
+use Rattle.table.specs.Tests.{goodCount, absentOr, goodInputs, goodResults, goodWork, allFinite, finiteNumbers, goodNumbers, inRangeAt, allInRange, notBelowAt, noneBelow, startFits}
 use Rattle.model.specs.Inputs.{Inputs}
 use Rattle.table.specs.Facts.{AbsentOr, InputsFit, ResultsFit, WorkFits, AllFinite, AllInRange, NoneBelow, StartFits, NumbersFinite}
 use Rattle.table.specs.declared.verdicts.LentLengths.{LentLengths}
@@ -46,6 +46,12 @@ or-absent n l o =
     or-right : (a b : Bool) → b ≡ true → a || b ≡ true
     or-right true b e = refl
     or-right false b e = e
+
+-- ---- number 8
+pub count-fits : (r : ℕ) → goodCount r ≡ true → (1 ≤ r) × (r ≤ 64)
+count-fits r e =
+    let a : (leb 1 r ≡ true) × (leb r 64 ≡ true) = both e in
+    (leb-true _ _ (a .0), leb-true _ _ (a .1))
 
 -- ---- number 2
 pub inputs-fit : (r : ℕ) (t : Settings) (s : Shape) (I : Inputs) → goodInputs r t s I ≡ true → InputsFit r t s I

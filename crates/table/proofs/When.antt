@@ -12,16 +12,16 @@ use Rattle.model.specs.declared.names.Link.the-variants.{Probit}
 use Rattle.model.specs.declared.sizes.Shape.{Shape}
 use Rattle.model.specs.declared.sizes.Settings.{Settings}
 use Rattle.model.specs.declared.ends.Refusal.{Refusal}
-use Rattle.model.specs.declared.ends.Refusal.the-variants.{OutOfRange, Lengths, Work, SparseRows, NotFinite, LinkForFamily, NotCarried, ResponseRange, StartFit}
+use Rattle.model.specs.declared.ends.Refusal.the-variants.{OutOfRange, Responses, Lengths, Work, SparseRows, NotFinite, LinkForFamily, NotCarried, ResponseRange, StartFit}
 use Rattle.family.specs.Carried.{carriedFamily, carriedLink, validFor}
 use Rattle.family.specs.declared.carried.CarriedFamily.{CarriedFamily}
 use Rattle.family.specs.declared.carried.CarriedLink.{CarriedLink}
 use Rattle.family.specs.declared.carried.LinkCarried.{LinkCarried}
 use Rattle.family.specs.declared.carried.LinkCarried.the-variants as linkCarried
 use Rattle.family.proofs.ValidPairs.{only-probit, probit-for-binomial}
-use Rattle.table.specs.Tests.{goodInputs, goodResults, goodWork, goodNumbers, allInRange, startFits}
+use Rattle.table.specs.Tests.{goodCount, goodInputs, goodResults, goodWork, goodNumbers, allInRange, startFits}
 use Rattle.table.specs.Table.{refuseUnless, carriedPair, tested, tableOf}
-use Rattle.table.specs.When.{PastLink, PastCarried, PastRange, GivenWhen, AcceptedWhen, SomeAccepted}
+use Rattle.table.specs.When.{PastCount, PastLink, PastCarried, PastRange, GivenWhen, AcceptedWhen, SomeAccepted}
 use Rattle.table.specs.declared.verdicts.LentLengths.{LentLengths}
 use Rattle.table.specs.declared.verdicts.Verdict.{Verdict}
 use Rattle.table.specs.declared.verdicts.Verdict.the-variants.{Accepted, Refused}
@@ -48,7 +48,7 @@ module _ (r : ℕ) (t : Settings) (s : Shape) (I : Inputs) (L : LentLengths) whe
 
   past-all : PastLink r t s I L → tableOf r t s I L ≡ started (ranged (carriedPair (t .family) (t .link)))
   unfolding tableOf refuseUnless
-  past-all p = rw (p .0 .0 .0 .0 .0, p .0 .0 .0 .0 .1, p .0 .0 .0 .1, p .0 .0 .1, p .0 .1, p .1) refl
+  past-all p = rw (p .0 .0 .0 .0 .0 .0, p .0 .0 .0 .0 .0 .1, p .0 .0 .0 .0 .1, p .0 .0 .0 .1, p .0 .0 .1, p .0 .1, p .1) refl
 
   past-carried : (f : CarriedFamily) (l : CarriedLink) → PastCarried r t s I L f l → tableOf r t s I L ≡ started (ranged (Accepted f l))
   past-carried f l p = past-all (p .0) ∙ ap (λ (v : Verdict). started (ranged v)) (both-carried (t .family) (t .link) f l (p .1 .0) (p .1 .1))
@@ -59,11 +59,12 @@ module _ (r : ℕ) (t : Settings) (s : Shape) (I : Inputs) (L : LentLengths) whe
   given : (x : Refusal) → GivenWhen r t s I L x → tableOf r t s I L ≡ Refused x
   unfolding GivenWhen tableOf refuseUnless
   given OutOfRange a = rw a refl
-  given Lengths a = rw (a .0, a .1) refl
-  given Work a = rw (a .0 .0, a .0 .1, a .1) refl
-  given SparseRows a = rw (a .0 .0 .0, a .0 .0 .1, a .0 .1, a .1) refl
-  given NotFinite a = rw (a .0 .0 .0 .0, a .0 .0 .0 .1, a .0 .0 .1, a .0 .1, a .1) refl
-  given LinkForFamily a = rw (a .0 .0 .0 .0 .0, a .0 .0 .0 .0 .1, a .0 .0 .0 .1, a .0 .0 .1, a .0 .1, a .1) refl
+  given Responses a = rw (a .0, a .1) refl
+  given Lengths a = rw (a .0 .0, a .0 .1, a .1) refl
+  given Work a = rw (a .0 .0 .0, a .0 .0 .1, a .0 .1, a .1) refl
+  given SparseRows a = rw (a .0 .0 .0 .0, a .0 .0 .0 .1, a .0 .0 .1, a .0 .1, a .1) refl
+  given NotFinite a = rw (a .0 .0 .0 .0 .0, a .0 .0 .0 .0 .1, a .0 .0 .0 .1, a .0 .0 .1, a .0 .1, a .1) refl
+  given LinkForFamily a = rw (a .0 .0 .0 .0 .0 .0, a .0 .0 .0 .0 .0 .1, a .0 .0 .0 .0 .1, a .0 .0 .0 .1, a .0 .0 .1, a .0 .1, a .1) refl
   given NotCarried a =
       past-all (a .0) ∙ ap (λ (v : Verdict). started (ranged v)) (no-link (t .family) (t .link) (a .1)) ∙ ap started (earlier-stays (allInRange (I .y)) ResponseRange NotCarried)
       ∙ earlier-stays (startFits (t .start) (I .weights)) StartFit NotCarried
@@ -93,7 +94,8 @@ module _ (r : ℕ) (t : Settings) (s : Shape) (I : Inputs) (L : LentLengths) whe
   unfolding GivenWhen
   decided =
       by-said (goodSizes t s)
-      (λ a. by-said (goodInputs r t s I && goodResults r t L)
+      (λ z. by-said (goodCount r)
+      (λ k. let a : PastCount r t s I L = (z, k) in by-said (goodInputs r t s I && goodResults r t L)
       (λ b. by-said (goodWork t L)
       (λ c. by-said (goodRows (I .starts) (I .columns) (t .rows) (t .n))
       (λ d. by-said (goodNumbers I)
@@ -104,6 +106,7 @@ module _ (r : ℕ) (t : Settings) (s : Shape) (I : Inputs) (L : LentLengths) whe
       (λ x. inl (SparseRows, (((a, b), c), x))))
       (λ x. inl (Work, ((a, b), x))))
       (λ x. inl (Lengths, (a, x))))
+      (λ x. inl (Responses, (z, x))))
       (λ x. inl (OutOfRange, x))
 
   -- ---- so exactly when

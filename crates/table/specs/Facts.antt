@@ -1,4 +1,4 @@
--- What the tests of the table mean, as facts, and what an accepted call of one response has. Assumes nothing.
+-- What the tests of the table mean, as facts, and what an accepted call of r responses has. Assumes nothing.
 use mathlib.Core.Path.{_≡_}
 use mathlib.Core.List.{List}
 use mathlib.Core.Logic.{_⊎_}
@@ -94,6 +94,7 @@ pub record NumbersFinite (I : Inputs) : Type 0 where
 -- what a call has that is accepted with the formulas of f and l
 pub record Sound (r : ℕ) (t : Settings) (s : Shape) (I : Inputs) (L : LentLengths) (f : CarriedFamily) (l : CarriedLink) : Type 0 where
   pub sized : Sized t s
+  pub responses : (1 ≤ r) × (r ≤ 64)
   pub inputs-fit : InputsFit r t s I
   pub results-fit : ResultsFit r t L
   pub work-fits : WorkFits t L

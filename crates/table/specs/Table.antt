@@ -1,4 +1,4 @@
--- The table of refusals, in its order: 1, 2, 7, 6, 3, 4, 5, 9, 27. Document 01, "Numbers of an answer"; document 02, P2: 5 means probit only, P6: 9, and P10: 27. Assumes nothing.
+-- The table of refusals, in its order: 1, 8, 2, 7, 6, 3, 4, 5, 9, 27. Document 01, "Numbers of an answer"; document 02, P1: 8, P2: 5 means probit only, P6: 9, and P10: 27. Assumes nothing.
 use mathlib.Core.Bool.{Bool, true, false, _&&_}
 use Prim.Native.Nat.{ℕ}
 use Rattle.base.specs.Sparse.{goodRows}
@@ -8,12 +8,12 @@ use Rattle.model.specs.declared.names.Link.{Link}
 use Rattle.model.specs.declared.sizes.Shape.{Shape}
 use Rattle.model.specs.declared.sizes.Settings.{Settings}
 use Rattle.model.specs.declared.ends.Refusal.{Refusal}
-use Rattle.model.specs.declared.ends.Refusal.the-variants.{OutOfRange, Lengths, Work, SparseRows, NotFinite, LinkForFamily, NotCarried, ResponseRange, StartFit}
+use Rattle.model.specs.declared.ends.Refusal.the-variants.{OutOfRange, Responses, Lengths, Work, SparseRows, NotFinite, LinkForFamily, NotCarried, ResponseRange, StartFit}
 use Rattle.family.specs.Carried.{carriedFamily, carriedLink, validFor}
 use Rattle.family.specs.declared.carried.CarriedFamily.{CarriedFamily}
 use Rattle.family.specs.declared.carried.LinkCarried.{LinkCarried}
 use Rattle.family.specs.declared.carried.LinkCarried.the-variants as linkCarried
-use Rattle.table.specs.Tests.{goodInputs, goodResults, goodWork, goodNumbers, allInRange, startFits}
+use Rattle.table.specs.Tests.{goodCount, goodInputs, goodResults, goodWork, goodNumbers, allInRange, startFits}
 use Rattle.model.specs.Inputs.{Inputs}
 use Rattle.table.specs.declared.verdicts.LentLengths.{LentLengths}
 use Rattle.table.specs.declared.verdicts.Verdict.{Verdict}
@@ -42,9 +42,10 @@ tested fits refusal (Refused earlier) = Refused earlier
 unfoldable pub tableOf : ℕ → Settings → Shape → Inputs → LentLengths → Verdict
 tableOf r t s I L =
     refuseUnless (goodSizes t s) OutOfRange
+    (refuseUnless (goodCount r) Responses
     (refuseUnless (goodInputs r t s I && goodResults r t L) Lengths
     (refuseUnless (goodWork t L) Work
     (refuseUnless (goodRows (I .starts) (I .columns) (t .rows) (t .n)) SparseRows
     (refuseUnless (goodNumbers I) NotFinite
     (refuseUnless (validFor (t .link) (t .family)) LinkForFamily
-    (tested (startFits (t .start) (I .weights)) StartFit (tested (allInRange (I .y)) ResponseRange (carriedPair (t .family) (t .link)))))))))
+    (tested (startFits (t .start) (I .weights)) StartFit (tested (allInRange (I .y)) ResponseRange (carriedPair (t .family) (t .link))))))))))

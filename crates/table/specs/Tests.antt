@@ -1,4 +1,4 @@
--- The tests of the table, but that of the sizes (number 1, `goodSizes` of model) and that of Z' (number 6, `goodRows` of base). Document 01, "Numbers of an answer" and "What the port carries"; document 02, P6 and P10. Assumes nothing.
+-- The tests of the table, but that of the sizes (number 1, `goodSizes` of model) and that of Z' (number 6, `goodRows` of base). Document 01, "Numbers of an answer" and "What the port carries"; document 02, P1, P6 and P10. Assumes nothing.
 use mathlib.Core.List.{List}
 use mathlib.Core.Bool.{Bool, true, false, not, _&&_, _||_}
 use Prim.Native.Nat.{ℕ, _+_, _*_}
@@ -8,7 +8,7 @@ use lib.Ieee.{Float, lt}
 use Rattle.base.specs.Number.{zeroF}
 use Rattle.base.specs.Sum.{_!_, allTo, finiteAt}
 use Rattle.model.specs.Inputs.{Inputs}
-use Rattle.model.specs.Shape.{thetaLength}
+use Rattle.model.specs.Shape.{within, thetaLength}
 use Rattle.model.specs.declared.names.Start.{Start}
 use Rattle.model.specs.declared.names.Start.the-variants.{Usual, Trials}
 use Rattle.model.specs.declared.sizes.Shape.{Shape}
@@ -20,6 +20,12 @@ use Rattle.family.specs.Family.{inRange}
 use Rattle.family.specs.declared.carried.CarriedFamily.{CarriedFamily}
 use Rattle.family.specs.declared.carried.CarriedFamily.the-variants.{Binomial, Poisson, Gaussian, Gamma}
 use Rattle.table.specs.declared.verdicts.LentLengths.{LentLengths}
+
+-- ---- number 8 (document 02, P1)
+
+-- there are 1 to 64 responses
+abbrev pub goodCount : ℕ → Bool
+goodCount r = within 1 64 r
 
 -- ---- number 2, with r responses on one design
 

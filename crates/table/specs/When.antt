@@ -1,4 +1,4 @@
--- When each number of the table is given: its own test fails and every test before it is passed. Document 01, "Numbers of an answer"; document 02, P6 and P10. Assumes nothing.
+-- When each number of the table is given: its own test fails and every test before it is passed. Document 01, "Numbers of an answer"; document 02, P1, P6 and P10. Assumes nothing.
 use mathlib.Core.Path.{_≡_}
 use mathlib.Core.Bool.{true, false, _&&_}
 use Prim.Native.Nat.{ℕ}
@@ -8,18 +8,22 @@ use Rattle.model.specs.Settings.{goodSizes}
 use Rattle.model.specs.declared.sizes.Shape.{Shape}
 use Rattle.model.specs.declared.sizes.Settings.{Settings}
 use Rattle.model.specs.declared.ends.Refusal.{Refusal}
-use Rattle.model.specs.declared.ends.Refusal.the-variants.{OutOfRange, Lengths, Work, SparseRows, NotFinite, LinkForFamily, NotCarried, ResponseRange, StartFit}
+use Rattle.model.specs.declared.ends.Refusal.the-variants.{OutOfRange, Responses, Lengths, Work, SparseRows, NotFinite, LinkForFamily, NotCarried, ResponseRange, StartFit}
 use Rattle.family.specs.Carried.{carriedFamily, carriedLink, validFor}
 use Rattle.family.specs.declared.carried.CarriedFamily.{CarriedFamily}
 use Rattle.family.specs.declared.carried.CarriedLink.{CarriedLink}
 use Rattle.family.specs.declared.carried.LinkCarried.the-variants as linkCarried
-use Rattle.table.specs.Tests.{goodInputs, goodResults, goodWork, goodNumbers, allInRange, startFits}
+use Rattle.table.specs.Tests.{goodCount, goodInputs, goodResults, goodWork, goodNumbers, allInRange, startFits}
 use Rattle.table.specs.declared.verdicts.LentLengths.{LentLengths}
 
 module _ (r : ℕ) (t : Settings) (s : Shape) (I : Inputs) (L : LentLengths) where
-  -- the tests of 1 and 2 are passed
+  -- the tests of 1 and 8 are passed
+  abbrev pub PastCount : Type 0
+  PastCount = (goodSizes t s ≡ true) × (goodCount r ≡ true)
+
+  -- and that of 2
   abbrev pub PastLengths : Type 0
-  PastLengths = (goodSizes t s ≡ true) × (goodInputs r t s I && goodResults r t L ≡ true)
+  PastLengths = PastCount × (goodInputs r t s I && goodResults r t L ≡ true)
 
   -- and that of 7
   abbrev pub PastWork : Type 0
@@ -48,7 +52,8 @@ module _ (r : ℕ) (t : Settings) (s : Shape) (I : Inputs) (L : LentLengths) whe
   -- when a refusal is given
   unfoldable pub GivenWhen : Refusal → Type 0
   GivenWhen OutOfRange = goodSizes t s ≡ false
-  GivenWhen Lengths = (goodSizes t s ≡ true) × (goodInputs r t s I && goodResults r t L ≡ false)
+  GivenWhen Responses = (goodSizes t s ≡ true) × (goodCount r ≡ false)
+  GivenWhen Lengths = PastCount × (goodInputs r t s I && goodResults r t L ≡ false)
   GivenWhen Work = PastLengths × (goodWork t L ≡ false)
   GivenWhen SparseRows = PastWork × (goodRows (I .starts) (I .columns) (t .rows) (t .n) ≡ false)
   GivenWhen NotFinite = PastRows × (goodNumbers I ≡ false)

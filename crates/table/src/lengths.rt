@@ -1,4 +1,4 @@
-// The tests of lengths, after the sizes have passed theirs.
+// The tests of the number of responses and of the lengths, after the sizes have passed theirs.
 use crate::verdicts::LentLengths;
 use model::Settings;
 use model::Shape;
@@ -6,8 +6,18 @@ ghost use mathlib.Core.Path.{_≡_};
 ghost use mathlib.Core.Bool.{true};
 ghost use Prim.Native.Nat.{_≤_};
 ghost use Rattle.model.specs.Settings.{goodSizes, Sizes};
-ghost use Rattle.table.specs.Tests.{absentOr, goodInputs, goodResults, goodWork};
+ghost use Rattle.table.specs.Tests.{goodCount, absentOr, goodInputs, goodResults, goodWork};
 ghost use Rattle.model.specs.Inputs.{inputs};
+
+// Whether a call may have so many responses.
+pub fn count_ok(responses: usize) -> bool
+    ensures { λ r. ⌜ r ≡ goodCount responses ⌝ }
+{
+    if responses < 1 {
+        return false;
+    }
+    responses <= 64
+}
 
 // A list that may be absent is empty or has one number for each observation.
 fn absent_or(n: usize, length: usize) -> bool

@@ -1,4 +1,5 @@
 // The tests of the table, asked in its order.
+use crate::lengths::count_ok;
 use crate::lengths::inputs_ok;
 use crate::lengths::results_ok;
 use crate::lengths::work_ok;
@@ -82,8 +83,9 @@ fn start_tested(verdict: Verdict, start: Start, weights: &[f64]) -> Verdict
     }
 }
 
-// The first test that fails gives the refusal. Each test may rely on those before it: no product is formed of sizes that are out of range, and no entry is read past a length.
+// The first test that fails gives the refusal. Each test may rely on those before it: no product is formed of sizes or of a number of responses out of range, and no entry is read past a length.
 pub fn verdict_of(
+    responses: usize,
     settings: Settings,
     shape: Shape,
     theta: &[f64],
@@ -98,15 +100,18 @@ pub fn verdict_of(
 ) -> Verdict
     ensures { λ r. ⌜
         r
-        ≡ tableOf 1 settings shape
+        ≡ tableOf responses settings shape
         (inputs (now (theta .entry)) (now (y .entry)) (now (weights .entry)) (now (offset .entry)) (now (x .entry)) (now (starts .entry)) (now (columns .entry))
         (now (values .entry))) lent ⌝ }
 {
     if !model::sizes_ok(settings, shape) {
         return Verdict::Refused(Refusal::OutOfRange);
     }
+    if !count_ok(responses) {
+        return Verdict::Refused(Refusal::Responses);
+    }
     if !inputs_ok(
-        1,
+        responses,
         settings,
         shape,
         theta,
@@ -120,7 +125,7 @@ pub fn verdict_of(
     ) {
         return Verdict::Refused(Refusal::Lengths);
     }
-    if !results_ok(1, settings, lent) {
+    if !results_ok(responses, settings, lent) {
         return Verdict::Refused(Refusal::Lengths);
     }
     if !work_ok(settings, lent) {

@@ -1,0 +1,2 @@
+-- What the program holds of its input. Assumes nothing.
+pub mod Held

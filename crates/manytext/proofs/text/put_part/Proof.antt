@@ -1,0 +1,86 @@
+-- `manytext::put_part` meets its contract: its parts of the buffers are those of the response. Assumes nothing.
+use native.Mathlib.Omega.{arith}
+use mathlib.Core.Path.{refl}
+use Rattle.manytext.proofs.Written.{blocks-few, blocks-there, part-written}
+use borrow.Author.Needs.{needs}
+use Rattle.manytext.proofs.text.put_part.Statement.{statement}
+use Rattle.manytext.proofs.text.put_part.Tie as tie
+
+results-length-requires : tie.Need-results-length-requires
+results-length-requires c κs = search needs
+
+offset-requires : tie.Need-offset-requires
+offset-requires c κs =
+    let start = c .before .before .before .before in
+    (start .pre .1, omega (arith, blocks-few (start .args .responses) _ (start .args .settings) (c .results-length .ensures) (start .pre .2 .few) (start .pre .2 .sizes), start .pre .2 .few))
+
+add-end : tie.Need-add-end
+add-end c =
+    let start = c .before .before .before .before .before in
+    omega (arith, c .offset .ensures .1, blocks-few (start .args .responses) _ (start .args .settings) (c .before .results-length .ensures) (start .pre .2 .few) (start .pre .2 .sizes))
+
+offset-requires-2 : tie.Need-offset-requires-2
+offset-requires-2 c κs = search needs
+
+add-past : tie.Need-add-past
+add-past c = search needs
+
+mul-put-response : tie.Need-mul-put-response
+mul-put-response c = search needs
+
+sub-put-response : tie.Need-sub-put-response
+sub-put-response c = search needs
+
+part-put-response-start : tie.Need-part-put-response-start
+part-put-response-start c = search needs
+
+part-put-response-end : tie.Need-part-put-response-end
+part-put-response-end c = search needs
+
+mul-put-response-2 : tie.Need-mul-put-response-2
+mul-put-response-2 c =
+    let start = c .before .before .before .before .before .before .before .before in
+    omega (arith, c .before .before .before .offset .ensures .1, blocks-few (start .args .responses) _ (start .args .settings) (c .before .before .before .before .results-length .ensures) (start .pre .2 .few) (start .pre .2 .sizes))
+
+sub-put-response-2 : tie.Need-sub-put-response-2
+sub-put-response-2 c = search needs
+
+part-put-response-start-2 : tie.Need-part-put-response-start-2
+part-put-response-start-2 c = search needs
+
+part-put-response-end-2 : tie.Need-part-put-response-end-2
+part-put-response-end-2 c =
+    let start = c .before .before .before .before .before .before .before .before in
+    omega (arith, c .before .before .before .offset .ensures .1, blocks-there (start .args .responses) _ _ (start .args .settings) (c .before .before .before .before .results-length .ensures) (start .pre .2 .results-long))
+
+put-response-requires : tie.Need-put-response-requires
+put-response-requires c κs = search needs
+
+same-length : tie.Need-same-length
+same-length c = search needs
+
+returns : tie.Need-returns
+returns c =
+    let start = c .before .before .before .before .before .before .before .before .before .before .before .before in
+    part-written (start .args .i) _ _ _ _ _ (start .args .settings) _ _ _ _ _ (c .before .before .before .before .before .before .before .before .results-length .ensures) (c .before .before .before .before .before .before .before .offset .ensures .0) refl (c .before .before .before .before .before .before .offset2 .ensures .0) refl (c .before .before .put-response .ensures)
+
+pub put-part-spec : {M : Type 1} → statement M
+put-part-spec =
+    tie.close
+    (tie.spec
+    results-length-requires
+    offset-requires
+    add-end
+    offset-requires-2
+    add-past
+    mul-put-response
+    sub-put-response
+    part-put-response-start
+    part-put-response-end
+    mul-put-response-2
+    sub-put-response-2
+    part-put-response-start-2
+    part-put-response-end-2
+    put-response-requires
+    same-length
+    returns)
