@@ -9,14 +9,18 @@ use lib.Ieee.{Float}
 use lib.ListN.{length}
 use Rattle.base.specs.Sum.{_!!_}
 use Rattle.model.specs.Account.{AtMost}
+use Rattle.model.specs.Inputs.{Inputs}
 use Rattle.model.specs.Names.{limitOf}
+use Rattle.model.specs.declared.ends.Answer.{Answer}
+use Rattle.model.specs.declared.sizes.Shape.{Shape}
+use Rattle.model.specs.declared.sizes.Settings.{Settings}
 use Rattle.job.specs.declared.faults.Fault.the-variants.{Sound}
 use Rattle.job.specs.Faults.{faultOf}
 use Rattle.job.specs.Lists.{laid}
 use Rattle.job.specs.Job.{Job, Read, sound, jobOf, readBy, readOf}
 use Rattle.job_back.proofs.Limits.{limitedJob, limitedBytes, limited-read}
 use Rattle.call.specs.Call.{Left}
-use Rattle.call.proofs.Higher.{call-same, call-account-grows}
+use Rattle.call.proofs.Higher.{limited, call-same, call-account-grows}
 use Rattle.jobfit.specs.Done.{inputsOf, betaLength, lentFor, Done, doneOf, doneFor}
 use Rattle.jobcall.specs.Told.{Buffers, Told, countsLength, countsOf, toldBy, answered, counted, withTheta, fitJobOf, fitJobThetaOf}
 
@@ -35,34 +39,35 @@ pub record NoLower (before after : List ℕ) : Type 0 where
   pub pwrss : (before !! 12) ≤ (after !! 12)
   pub ok : (before !! 13) ≤ (after !! 13)
 
-as-before : (cs : List ℕ) → NoLower cs cs
+pub as-before : (cs : List ℕ) → NoLower cs cs
 as-before cs =
     record { fits = omega arith; solves = omega arith; tries = omega arith; points = omega arith; eta = omega arith; mean = omega arith; pwrss = omega arith; ok = omega arith }
 
+-- ---- a call that is done
+module _ (t : Settings) (s : Shape) (I : Inputs) (rows matrices terms results : List Float) (M : ℕ) (higher : limitOf (t .limit) (t .link) ≤ M) (few : M ≤ 1000) where
+  pub done-same : (doneFor t s I rows matrices terms results .answer .number ≡ 13 → ⊥) → doneFor (limited M t) s I rows matrices terms results ≡ doneFor t s I rows matrices terms results
+  unfolding doneFor doneOf lentFor betaLength
+  done-same h = ap (λ (l : Left). doneOf l results) (call-same t s I (lentFor t rows matrices terms results) M higher few h)
+
+  pub done-grows : AtMost (doneFor (limited M t) s I rows matrices terms results .answer .account) (doneFor t s I rows matrices terms results .answer .account)
+  unfolding doneFor doneOf lentFor betaLength
+  done-grows = call-account-grows t s I (lentFor t rows matrices terms results) M higher few
+
+-- and its counts
+pub counts-grow : (a b : Answer) (cs ds : List ℕ) → AtMost (b .account) (a .account) → NoLower (laid (countsOf a 0) cs) (laid (countsOf b 0) ds)
+unfolding countsOf laid
+counts-grow a b cs ds g = record { fits = g .fits; solves = g .solves; tries = g .tries; points = g .points; eta = g .eta; mean = g .mean; pwrss = g .pwrss; ok = g .ok }
+
 -- ---- a job that was read
 module _ (j : Job) (B : Buffers) (M : ℕ) (higher : limitOf (j .settings .limit) (j .settings .link) ≤ M) (few : M ≤ 1000) where
-  -- its call, and the call with the limit M
-  abbrev calledWith : Job → Done
-  calledWith k = doneFor (k .settings) (k .shape) (inputsOf k) (B .rows) (B .matrices) (B .terms) (B .results)
-
-  done-same : (calledWith j .answer .number ≡ 13 → ⊥) → calledWith (limitedJob M j) ≡ calledWith j
-  unfolding doneFor doneOf lentFor betaLength
-  done-same h =
-      ap (λ (l : Left). doneOf l (B .results)) (call-same (j .settings) (j .shape) (inputsOf j) (lentFor (j .settings) (B .rows) (B .matrices) (B .terms) (B .results)) M higher few h)
-
-  done-grows : AtMost (calledWith (limitedJob M j) .answer .account) (calledWith j .answer .account)
-  unfolding doneFor doneOf lentFor betaLength
-  done-grows = call-account-grows (j .settings) (j .shape) (inputsOf j) (lentFor (j .settings) (B .rows) (B .matrices) (B .terms) (B .results)) M higher few
-
   answered-same : (numberIn (answered (sound j) B) ≡ 13 → ⊥) → answered (sound (limitedJob M j)) B ≡ answered (sound j) B
   unfolding answered toldBy countsOf laid
-  answered-same h = ap (λ (d : Done). toldBy d (B .counts)) (done-same h)
+  answered-same h =
+      ap (λ (d : Done). toldBy d (B .counts)) (done-same (j .settings) (j .shape) (inputsOf j) (B .rows) (B .matrices) (B .terms) (B .results) M higher few h)
 
   answered-grows : NoLower (answered (sound j) B .after .counts) (answered (sound (limitedJob M j)) B .after .counts)
-  unfolding answered toldBy countsOf laid
-  answered-grows =
-      let g = done-grows in
-      record { fits = g .fits; solves = g .solves; tries = g .tries; points = g .points; eta = g .eta; mean = g .mean; pwrss = g .pwrss; ok = g .ok }
+  unfolding answered toldBy
+  answered-grows = counts-grow _ _ (B .counts) (B .counts) (done-grows (j .settings) (j .shape) (inputsOf j) (B .rows) (B .matrices) (B .terms) (B .results) M higher few)
 
   -- without room for the counts nothing is looked at
   counted-same : (numberIn (counted (sound j) B) ≡ 13 → ⊥) → counted (sound (limitedJob M j)) B ≡ counted (sound j) B
