@@ -77,7 +77,7 @@ def fault(low, high, alike=False):
 
 # ---- classes
 
-TITLES = {"end, and at a higher limit": [*(f"{end} to {end}" for end in ENDS), *(f"13 to {end}" for end in [*ENDS, "13"])],
+TITLES = {"end, and at a higher limit": ["refused, the same", *(f"{end} to {end}" for end in ENDS), *(f"13 to {end}" for end in [*ENDS, "13"])],
           "13, and at a higher limit more": COUNTS,
           "end of the dispersion loop, and at a higher limit": ["0 to 0", "12 to 12", "13 to 0", "13 to 13", "13 in a later inner fit"],
           "raised from": ["0", "1 to 99", "100 to 999", "not given"], "raised to": ["1 to 99", "100 to 999", "1000"],
@@ -109,6 +109,7 @@ def classes_of(data, many, limits, texts):
     """The classes of a job at two limits, the second higher, and of its answers."""
     job = parse(divided(data)[0] if many else data)
     if texts[0].startswith(b"refused"):
+        yield "end, and at a higher limit", "refused, the same"
         return
     low, high = (limit_class(limit, job.link) for limit in limits)
     if alike(job.link, *limits):
