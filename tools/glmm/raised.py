@@ -8,6 +8,7 @@ from reader import Refused, divided, parse
 
 ENDS = ["0", "10", "11", "12"]
 COUNTS = ["fits", "solves", "tries", "points", "eta", "mean", "pwrss", "ok"]
+HALVING = ["squares", "overshot", "halved", "reaching", "far"]
 LOWER = [0, 1, 1, 2, 2, 3, 4, 5, 6, 8, 12, 20, 50, 99, 100, 101]
 MOST = 1000
 INVERSE = 5
