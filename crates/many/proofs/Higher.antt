@@ -93,7 +93,7 @@ module _ (t : Settings) (s : Shape) (I : Inputs) (r : ℕ) (B : Buffers) (M : �
         ∙ one-limited j (afterTo t s I j B) (rw (free t s I r B room j h .0) (n j (le-refl _)))
 
   -- ---- the call
-  verdict-limited : verdictFor r (limited M t) s I B ≡ verdictFor r t s I B
+  pub verdict-limited : verdictFor r (limited M t) s I B ≡ verdictFor r t s I B
   unfolding verdictFor lengthsFor betaFor
   verdict-limited = limited-table r M t s I (lengthsFor r t (length (B .rows)) (length (B .matrices)) (length (B .terms)) (length (B .results)) (length (B .counts))) higher few
 
