@@ -9,3 +9,4 @@ pub mod Back
 pub mod CaseJ
 pub mod Said
 pub mod Versions
+pub mod Limits

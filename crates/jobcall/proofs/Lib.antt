@@ -3,3 +3,4 @@ pub mod Stores
 pub mod Telling
 pub mod Kept
 pub mod Unique
+pub mod Higher

@@ -170,7 +170,7 @@ module _ (t : Settings) (s : Shape) (I : Inputs) where
       unfolding partOf
       own-told = ap (take countsLength) (counts-rest i (i * countsLength) (le-of-suc-le h) (le-refl _))
 
-      free : (doneAt i turn .answer ≡ doneAt i B .answer) × (doneAt i turn .results ≡ doneAt i B .results)
+      pub free : (doneAt i turn .answer ≡ doneAt i B .answer) × (doneAt i turn .results ≡ doneAt i B .results)
       free =
           rw own-part
           (done-work-free t s (listsAt i) (B .rows) (B .matrices) (B .terms) (turn .rows) (turn .matrices) (turn .terms) (partOf (i * blockLength t) (blockLength t) (B .results)) (kept .rows) (kept .matrices) (kept .terms))

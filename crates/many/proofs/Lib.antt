@@ -3,6 +3,7 @@ pub mod Parts
 pub mod Single
 pub mod Alone
 pub mod Each
+pub mod Higher
 pub mod Calls
 pub mod Placing
 pub mod Asked

@@ -7,3 +7,4 @@ pub mod Fitting
 pub mod Printed
 pub mod Long
 pub mod Unique
+pub mod Higher

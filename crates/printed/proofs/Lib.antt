@@ -1,3 +1,4 @@
--- What the program prints in each case, and with either start. Assumes nothing.
+-- What the program prints in each case, with either start, and with a higher limit. Assumes nothing.
 pub mod Printed
 pub mod Starts
+pub mod Higher
