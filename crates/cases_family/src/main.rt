@@ -127,6 +127,7 @@ fn fun_line(x: f64) {
     text::put_word(b"fun");
     text::put_double(x);
     text::put_double(family::link_fun(CarriedLink::Logit, x));
+    text::put_double(family::link_fun(CarriedLink::Probit, x));
     text::put_double(family::link_fun(CarriedLink::Cloglog, x));
     text::put_double(family::link_fun(CarriedLink::Log, x));
     text::put_double(family::link_fun(CarriedLink::Identity, x));
@@ -139,6 +140,7 @@ fn inv_line(x: f64) {
     text::put_word(b"inv");
     text::put_double(x);
     text::put_double(family::link_inv(CarriedLink::Logit, x));
+    text::put_double(family::link_inv(CarriedLink::Probit, x));
     text::put_double(family::link_inv(CarriedLink::Cloglog, x));
     text::put_double(family::link_inv(CarriedLink::Log, x));
     text::put_double(family::link_inv(CarriedLink::Identity, x));
@@ -151,6 +153,7 @@ fn eta_line(x: f64) {
     text::put_word(b"eta");
     text::put_double(x);
     text::put_double(family::mu_eta(CarriedLink::Logit, x));
+    text::put_double(family::mu_eta(CarriedLink::Probit, x));
     text::put_double(family::mu_eta(CarriedLink::Cloglog, x));
     text::put_double(family::mu_eta(CarriedLink::Log, x));
     text::put_double(family::mu_eta(CarriedLink::Identity, x));
@@ -302,10 +305,8 @@ fn valid_line(family: Family) {
 }
 
 fn put_link(link: Link) {
-    match family::carried_link(link) {
-        family::LinkCarried::Carried(_) => text::put_count(1),
-        family::LinkCarried::NotYet => text::put_count(0),
-    }
+    let carried = family::carried_link(link);
+    text::put_count(model::link_code(family::link_of(carried)) as u64);
 }
 
 fn put_family(family: Family) {
@@ -317,7 +318,7 @@ fn put_family(family: Family) {
     }
 }
 
-// Seven links, of which all but probit are carried, and four families by their codes.
+// Seven links and four families, all carried, by their codes.
 fn carried() {
     text::put_word(b"carried");
     put_link(Link::Logit);
