@@ -4,8 +4,6 @@ use crate::answer::hex;
 use crate::family::{ln_dgamma, Family, GlmLink, Link};
 use crate::job::in_range;
 
-/// What the port carries; of the families all.
-pub const CARRIED_LINKS: [Link; 6] = [Link::Logit, Link::Cloglog, Link::Log, Link::Identity, Link::Inverse, Link::Sqrt];
 /// In the order of their codes.
 pub const LINKS: [Link; 7] =
     [Link::Logit, Link::Probit, Link::Cloglog, Link::Log, Link::Identity, Link::Inverse, Link::Sqrt];
@@ -32,7 +30,7 @@ const SHAPES: [f64; 9] = [NAN, INF, 0.0, -2.0, 5.6e-309, 0.3, 1.0, 7.25, 4503599
 const SCALES: [f64; 7] = [NAN, INF, 0.0, -1.0, E * E, 0.3, 2.5];
 
 fn by_links(word: &str, x: f64, f: impl Fn(Link) -> f64) {
-    line(word, [x].iter().copied().chain(CARRIED_LINKS.iter().map(|&link| f(link))));
+    line(word, [x].iter().copied().chain(LINKS.iter().map(|&link| f(link))));
 }
 
 fn by_families(word: &str, x: f64, f: impl Fn(Family) -> f64) {
@@ -97,8 +95,8 @@ pub fn put() {
         }
         println!(" {}", Link::default_for(family) as usize);
     }
-    // of the links all but probit, of the families all, told by their codes: document 01 with P2
-    println!("carried 1 0 1 1 1 1 1 0 1 2 3");
+    // every link and every family, told by their codes: document 01 with P2 and P8
+    println!("carried 0 1 2 3 4 5 6 0 1 2 3");
     print!("dispersion");
     for family in FAMILIES {
         print!(" {}", family.build().uses_dispersion() as usize);
