@@ -131,7 +131,7 @@ PARTS = {"eta": "refused for eta", "mean": "refused for a mean", "pwrss": "refus
 FLAGS = ["flag 0, Laplace", "flag 0, quadrature", "flag 1, Laplace", "flag 1, quadrature"]
 DRESSES = ["no weights, no offset", "weights, no offset", "no weights, offset", "weights, offset"]
 GAMMA = ["a Gamma response above 0 and below E", "a Gamma mean not above 0", "Gamma weights that sum to less than 1", "a Gamma phi near E"]
-PROBIT = ["a probit mean at E", "a probit mean at 1 - E", "a probit density below E", "a probit start in a tail of the quantile"]
+PROBIT = ["a probit mean at E", "a probit mean at 1 - E", "a probit density below E", "a probit start in a tail of the quantile", "a probit start past E or 1 - E"]
 WAYS = ["steps halved", "a weight not above 0", "a response at an end of its range", "deviance NaN", "deviance infinite", "trials without weights", "no trial", *GAMMA, *PROBIT]
 
 
@@ -199,7 +199,8 @@ def probit_ways(job, lines):
     """Of a fitted probit job what its clamps and floor change, by the lines that were printed, and whether a start lies where the quantile is not the middle's."""
     etas, means = (printed(lines, name) for name in ("eta ", "mu "))
     starts = [trials_mean(w, y) for w, y in zip(job.weights or [1.0] * job.n, job.y)] if job.start else []
-    tests = [min(means) == 2.0**-52, max(means) == 1.0 - 2.0**-52, max(map(abs, etas)) >= 8.3815, any(not 0.1353 < mean < 0.8647 for mean in starts)]
+    tests = [min(means) == 2.0**-52, max(means) == 1.0 - 2.0**-52, max(map(abs, etas)) >= 8.3815, any(not 0.1353 < mean < 0.8647 for mean in starts),
+             any(not 2.0**-52 <= mean <= 1.0 - 2.0**-52 for mean in starts)]
     return [name for name, test in zip(PROBIT, tests) if test]
 
 

@@ -433,13 +433,16 @@ def gamma(r):
 
 
 def probit(r):
-    """Probit in a job of another kind, with responses of its own or the kind's; some with predictors past the ends of the means and of the density's floor."""
+    """Probit in a job of another kind, with responses of its own or the kind's; some with predictors past the ends of the means and of the density's floor, or with so many trials
+    that a start is clamped."""
     own = r.choice([plain, plain, middle, scalar, product, joint, weights, thetas, stored_zeros, limits, least, wide, singular, pivots, coupled, later_group, far, trials, trials])
     kind = r.choice([own] * 8 + [out_of_range, extremes])
     about = kind(r)
     about["family"], about["link"] = PROBIT
     if kind is own and kind is not trials:
         about["y"] = [response(r, *PROBIT) for _ in about["y"]]
+    if about.get("start") == "trials" and r.random() < 0.2:
+        about["weights"] = [w * r.choice([1.0, 1e17, 1e20]) for w in about["weights"]]
     if r.random() < 0.15:
         about["offset"] = [r.choice([0.0, 0.0, 0.0, -8.1, 8.1, -8.25, 8.25, -9.0, 9.0, -40.0, 40.0]) for _ in about["y"]]
     return about
