@@ -5,7 +5,7 @@ use model::Family;
 use model::Link;
 
 // The neighbours of 1 and E; then ordinary means and predictors, and where the formulas turn.
-const VALUES: [u64; 54] = [
+const VALUES: [u64; 63] = [
     0x3fef_ffff_ffff_ffff,
     0x3ff0_0000_0000_0001,
     0x3caf_ffff_ffff_ffff,
@@ -60,6 +60,15 @@ const VALUES: [u64; 54] = [
     0x418f_f2b6_0000_0000,
     0x4190_3664_0000_0000,
     0x3e50_1b2b_29a4_692b,
+    0xc020_4074_bdbf_8864,
+    0xc020_4074_bdbf_8865,
+    0x4020_3293_d7de_204f,
+    0x4020_3293_d7de_2050,
+    0x4020_c353_168a_6a20,
+    0x4020_c353_168a_6a21,
+    0xc020_c353_168a_6a21,
+    0x4044_0000_0000_0000,
+    0xc044_0000_0000_0000,
 ];
 
 // Responses within the families' ranges, at their ends and outside.
@@ -201,7 +210,7 @@ fn specials() {
 
 fn ordinary() {
     let mut i = 0;
-    while i < 54 {
+    while i < 63 {
         element_lines(base::double(VALUES[i]));
         i += 1;
     }
