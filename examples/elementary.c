@@ -11,7 +11,7 @@ static void put(const char *name, double x, double y)
 {
     uint64_t bits;
     memcpy(&bits, &y, sizeof bits);
-    printf("%-8s %-6g %.17g %016" PRIX64 "\n", name, x, y, bits);
+    printf("%-13s %-6g %.17g %016" PRIX64 "\n", name, x, y, bits);
 }
 
 int main(void)
@@ -23,5 +23,8 @@ int main(void)
     put("ln_1p", 1e-9, glmm_ln_1p(1e-9));
     put("exp_m1", 1e-9, glmm_exp_m1(1e-9));
     put("ln_gamma", 0.375, glmm_ln_gamma(0.375));
+    put("norm_cdf", -2.0, glmm_norm_cdf(-2.0));
+    put("norm_pdf", 0.5, glmm_norm_pdf(0.5));
+    put("norm_quantile", 0.975, glmm_norm_quantile(0.975));
     return 0;
 }

@@ -75,6 +75,18 @@ random: 1 | wafer
 theta: 0.4
 """
 
+FLASHES = """\
+# Flashes of light that ten detectors saw, of 40 shown to each at six levels of power (in decibel above one picowatt).
+# The detection threshold is the level at which half are seen: minus the first beta over the second.
+# Made up by examples/make.py, seed {seed}: probit = -3 + 0.5 level + a detector's own, of spread 0.6; so the threshold is 6, and a detector's own has a spread of 1.2.
+# Of the thetas 0, 0.05 .. 2 the Laplace deviance is lowest at 0.7.
+family: binomial
+link: probit
+response: seen / shown
+fixed: 1 level
+random: 1 | detector
+theta: 0.7
+"""
 
 SIMULATED = """\
 # Twelve lots simulated from the fit of wafers.txt, for ./fit --many: a row for each lot, weak cells / cells of each ring of each wafer, in the order of wafers.txt.
@@ -84,6 +96,10 @@ SIMULATED = """\
 
 def chance(eta):
     return 1 / (1 + math.exp(-eta))
+
+
+def normal_chance(eta):
+    return math.erfc(-eta / math.sqrt(2)) / 2
 
 
 def hits(r, cells, chance_of_one):
@@ -151,6 +167,14 @@ def cells(r):
             yield f"W{wafer:02}", warm, f"{skewed(r, math.exp(1 + 0.5 * warm + own), 4):.2f}"
 
 
+def flashes(r):
+    yield "detector", "level", "shown", "seen"
+    for detector in range(1, 11):
+        own = 0.6 * bell(r)
+        for level in (1, 3, 5, 7, 9, 11):
+            yield f"D{detector:02}", level, 40, hits(r, 40, normal_chance(-3 + 0.5 * level + own))
+
+
 def simulated(r):
     for _ in range(12):
         lot = []
@@ -168,7 +192,7 @@ def table(rows):
 
 def main():
     folder = Path(sys.argv[1]) if len(sys.argv) > 1 else HERE
-    for rows, head, seed in ((wafers, WAFERS, 1), (defects, DEFECTS, 2), (cards, CARDS, 4), (dark, DARK, 4), (cells, CELLS, 3)):
+    for rows, head, seed in ((wafers, WAFERS, 1), (defects, DEFECTS, 2), (cards, CARDS, 4), (dark, DARK, 4), (cells, CELLS, 3), (flashes, FLASHES, 5)):
         text = head.format(seed=seed) + "\n" + table(rows(random.Random(seed)))
         (folder / f"{rows.__name__}.txt").write_text(text)
         (folder / f"{rows.__name__}.job").write_bytes(Sheet(text).job())

@@ -85,7 +85,7 @@ size_t glmm_results_length(size_t n, size_t p, size_t q);
  *            returned before the job is looked at
  *
  * Returned: 0 where the call was accepted (counts[GLMM_NUMBER] is then 0, 10, 11, 12 or 13: ask GLMM_FITTED), else the refusal's number: of a job that
- * cannot be read (20 to 25, or 1; counts[GLMM_BYTE] says where), else of the table (1, 2, 7, 6, 3, 4, 5, 9, 27, tested in this order). After a refusal
+ * cannot be read (20 to 25, or 1; counts[GLMM_BYTE] says where), else of the table (1, 2, 7, 6, 3, 4, 9, 27, tested in this order). After a refusal
  * everything but counts is as lent. */
 uint64_t glmm_fit_job(const uint8_t *job, size_t job_length,
                       double *rows, size_t rows_length,
@@ -134,7 +134,7 @@ struct glmm_block {
     size_t m, k;
 };
 
-/* Families and links that can be named; probit is refused with 5, a link that does not go with its family with 4, and so is a number that names none. */
+/* Families and links that can be named; a link that does not go with its family is refused with 4, and so is a number that names none. */
 enum { GLMM_BINOMIAL = 0, GLMM_POISSON = 1, GLMM_GAUSSIAN = 2, GLMM_GAMMA = 3 };
 enum { GLMM_LOGIT = 0, GLMM_PROBIT = 1, GLMM_CLOGLOG = 2, GLMM_LOG = 3, GLMM_IDENTITY = 4, GLMM_INVERSE = 5, GLMM_SQRT = 6 };
 
@@ -157,7 +157,7 @@ struct glmm_settings {
 
 /* What is returned. But for number 0 it is all 0, save the work of a call that was accepted (10 to 13). */
 struct glmm_answer {
-    uint64_t number;      /* 0 fitted; 10, 11, 12, 13 as in counts[GLMM_NUMBER]; else the refusal's number: 1, 2, 7, 6, 3, 4, 5, 9, 27, tested in this order */
+    uint64_t number;      /* 0 fitted; 10, 11, 12, 13 as in counts[GLMM_NUMBER]; else the refusal's number: 1, 2, 7, 6, 3, 4, 9, 27, tested in this order */
     double deviance, phi;
     uint64_t order, flag, iterations, fits, solves, tries, points, why, eta, mean, pwrss, ok; /* as the counts of these names */
 };
@@ -212,6 +212,9 @@ double glmm_exp_m1(double x);
 double glmm_ln(double x);
 double glmm_ln_1p(double x);
 double glmm_ln_gamma(double x); /* of the numbers above 0; below 0 it is NaN */
+double glmm_norm_cdf(double x); /* the normal distribution function, */
+double glmm_norm_pdf(double x); /* its density */
+double glmm_norm_quantile(double x); /* and its quantile, of the numbers from 0 to 1; outside it is NaN */
 double glmm_sqrt(double x);
 
 #ifdef __cplusplus

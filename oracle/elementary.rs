@@ -7,6 +7,9 @@ extern "C" {
     fn glmm_ln(x: f64) -> f64;
     fn glmm_ln_1p(x: f64) -> f64;
     fn glmm_ln_gamma(x: f64) -> f64;
+    fn glmm_norm_cdf(x: f64) -> f64;
+    fn glmm_norm_pdf(x: f64) -> f64;
+    fn glmm_norm_quantile(p: f64) -> f64;
     fn glmm_sqrt(x: f64) -> f64;
 }
 
@@ -16,6 +19,9 @@ pub(crate) trait Elementary {
     fn glmm_ln(self) -> f64;
     fn glmm_ln_1p(self) -> f64;
     fn glmm_ln_gamma(self) -> f64;
+    fn glmm_norm_cdf(self) -> f64;
+    fn glmm_norm_pdf(self) -> f64;
+    fn glmm_norm_quantile(self) -> f64;
     fn glmm_sqrt(self) -> f64;
 }
 
@@ -38,6 +44,18 @@ impl Elementary for f64 {
 
     fn glmm_ln_gamma(self) -> f64 {
         unsafe { glmm_ln_gamma(self) }
+    }
+
+    fn glmm_norm_cdf(self) -> f64 {
+        unsafe { glmm_norm_cdf(self) }
+    }
+
+    fn glmm_norm_pdf(self) -> f64 {
+        unsafe { glmm_norm_pdf(self) }
+    }
+
+    fn glmm_norm_quantile(self) -> f64 {
+        unsafe { glmm_norm_quantile(self) }
     }
 
     fn glmm_sqrt(self) -> f64 {

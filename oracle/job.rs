@@ -214,9 +214,6 @@ fn table(job: &Job, responses: &[Vec<f64>]) -> usize {
     if !job.link.valid_for(job.family) {
         return 4;
     }
-    if job.link == Link::Probit {
-        return 5;
-    }
     if !responses.iter().flatten().all(|&y| in_range(job.family, y)) {
         return 9;
     }

@@ -1,10 +1,17 @@
-//! Stand-in for what the carried text calls of statrs: log-gamma is that of `elementary_c`. Probit is not carried yet: refusal 5 comes before every call.
+//! Stand-in for what the carried text calls of statrs: log-gamma and the standard normal distribution are those of `elementary_c`.
 pub mod distribution {
+    use crate::elementary::Elementary;
+
+    /// The standard one: the carried text asks for no other.
     pub struct Normal;
 
     impl Normal {
-        pub fn new(_mean: f64, _sd: f64) -> Result<Normal, ()> {
-            unimplemented!("probit is refused")
+        pub fn new(mean: f64, sd: f64) -> Result<Normal, ()> {
+            if mean == 0.0 && sd == 1.0 {
+                Ok(Normal)
+            } else {
+                Err(())
+            }
         }
     }
 
@@ -18,18 +25,18 @@ pub mod distribution {
     }
 
     impl Continuous for Normal {
-        fn pdf(&self, _x: f64) -> f64 {
-            unimplemented!("probit is refused")
+        fn pdf(&self, x: f64) -> f64 {
+            x.glmm_norm_pdf()
         }
     }
 
     impl ContinuousCDF for Normal {
-        fn cdf(&self, _x: f64) -> f64 {
-            unimplemented!("probit is refused")
+        fn cdf(&self, x: f64) -> f64 {
+            x.glmm_norm_cdf()
         }
 
-        fn inverse_cdf(&self, _p: f64) -> f64 {
-            unimplemented!("probit is refused")
+        fn inverse_cdf(&self, p: f64) -> f64 {
+            p.glmm_norm_quantile()
         }
     }
 }

@@ -1,4 +1,4 @@
-"""The proved archive of the elementary functions, linked with tools/c/elementary.c into one static x86-64 program; and proved test programs."""
+"""The proved archive of the elementary functions, linked with tools/c/elementary.c into one static x86-64 program."""
 import atexit, shutil, tempfile
 from pathlib import Path
 
@@ -16,10 +16,3 @@ def command():
     program = Path(folder) / "elementary"
     library.told([compiler, "-O2", "-fno-builtin", "-static", "tools/c/elementary.c", "-Wl,--whole-archive", archive, "-Wl,--no-whole-archive", "-lm", "-o", program])
     return [*library.EMULATOR, str(program)]
-
-
-def tried(crate):
-    """The words that run a proved test program, which is proved and built first."""
-    library.wanted("rt", *library.EMULATOR)
-    library.proving(["rt", "check", crate])
-    return [*library.EMULATOR, str(library.ROOT / "target" / "bin" / crate)]

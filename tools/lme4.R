@@ -7,7 +7,8 @@
 #                       the constant of the weights; beside it are lmer's own sigma^2 and -2 log L
 #   Gamma               phi is the deviance over W, by lme4's means at its theta; theta here is lme4's times sqrt(phi), se is by phi, beta and b are lme4's; the
 #                       deviance is R's AIC at this phi, less 2, with lme4's log determinant and its u'u over phi; beside it is lme4's own Laplace deviance
-# Then what R's Gamma() and dgamma say of single responses, and where binomial() starts: every number of these by its 16 hexadecimal digits.
+# Then what R's Gamma() and dgamma say of single responses, binomial("probit") of single predictors and means, and where binomial() starts: every number of the last by
+# its 16 hexadecimal digits.
 suppressPackageStartupMessages(library(lme4))
 
 number <- function(x) sprintf("%.17g", x)
@@ -152,6 +153,12 @@ elements <- function(y, mu, weights, shape, allowed = 1e-13) {
            aic = number(Gamma()$aic(y, rep(1, length(y)), mu, weights, sum(deviances))), density = numbers(dgamma(y, shape, scale = mu / shape, log = TRUE)))
 }
 
+# What R's probit link says of predictors, and of means.
+linkage <- function(name, eta, mu) {
+    link <- binomial("probit")
+    object(name = text(name), eta = numbers(eta), mu = numbers(mu), inv = numbers(link$linkinv(eta)), slope = numbers(link$mu.eta(eta)), fun = numbers(link$linkfun(mu)))
+}
+
 # The starting means of binomial(), by its own expression; the patterns of weights, responses and means.
 patterns <- function(x) listed(sapply(x, function(one) text(toupper(paste(writeBin(one, raw(), endian = "big"), collapse = "")))))
 starting <- function(name, y, weights) {
@@ -166,6 +173,7 @@ sets <- c(
     counted("cbpp", cbind(incidence, size - incidence) ~ period + (1 | herd), cbpp, binomial(), c(0, 0.5, 0.64, 1, 5, 30)),
     counted("grouseticks", TICKS ~ cHEIGHT + (1 | LOCATION), droplevels(subset(grouseticks, YEAR == "95")), poisson(), c(0, 0.5, 1, 1.5)),
     counted("cbpp, cloglog", cbind(incidence, size - incidence) ~ period + (1 | herd), cbpp, binomial("cloglog"), c(0.5, 1), own = FALSE),
+    counted("cbpp, probit", cbind(incidence, size - incidence) ~ period + (1 | herd), cbpp, binomial("probit"), c(0.5, 1), own = FALSE),
     counted("grouseticks, sqrt", TICKS ~ cHEIGHT + (1 | LOCATION), droplevels(subset(grouseticks, YEAR == "95")), poisson("sqrt"), c(0.5, 1), own = FALSE),
     measured("Dyestuff", Yield ~ 1 + (1 | Batch), Dyestuff, c(0, 0.5, 0.75, 2)),
     measured("sleepstudy, intercepts", Reaction ~ Days + (1 | Subject), sleepstudy, c(0, 0.5, 1.2, 4)),
@@ -182,6 +190,7 @@ sets <- c(
     counted("examples/cards", weak ~ I(ring == "rim") + (1 | wafer) + (1 | card), example("cards"), binomial(), list(c(0.5, 0.5)), own = FALSE),
     counted("examples/defects", defects ~ reflow + offset(log(area)) + (1 | lot), example("defects"), poisson(), c(0.25, 0.45, 1)),
     counted("examples/defects, identity", defects ~ 1 + (1 | lot), example("defects"), poisson("identity"), c(0.5, 2), own = FALSE),
+    counted("examples/flashes", cbind(seen, shown - seen) ~ level + (1 | detector), example("flashes"), binomial("probit"), c(0.25, 0.7, 1.5)),
     measured("examples/dark", current ~ warm + (warm | wafer), example("dark"), list(c(2, -0.15, 0.7), c(3, 0.5, 1))),
     skewed("examples/cells", current ~ warm + (1 | wafer), example("cells"), Gamma("log"), c(0.2, 0.6328, 1.5), own = TRUE),
     skewed("examples/cells, weights", current ~ warm + (1 | wafer), example("cells"), Gamma("log"), c(0.3, 0.8), rep(c(0.5, 1, 1.5, 2), 12)),
@@ -189,9 +198,13 @@ sets <- c(
     skewed("examples/cells, warm from 0, identity", current ~ warm + (1 | wafer), subset(example("cells"), warm >= 0), Gamma("identity"), c(0.5, 2)))
 of_gamma <- c(elements(c(0.68, 1.57, 9.84, 2.53, 0.01), c(0.9, 1.4, 4.5, 3, 0.5), rep(1, 5), 4), elements(c(0.2, 30, 1, 7), c(0.3, 8, 1.25, 70), c(0.5, 2, 1, 0.25), 0.375),
               elements(c(1, 1.001, 0.998), c(1.0005, 1, 0.999), c(1, 3, 2), 1e4, 1e-9))
+of_probit <- c(linkage("the middle", c(-1.5, -0.75, -0.1, 0, 0.25, 1.1, 1.7), c(0.26, 0.4, 0.5, 0.6, 0.74)),
+               linkage("the lower tail", c(-8, -5.5, -4.04, -2.2, -1.8), c(1e-15, 1e-9, 0.001, 0.02, 0.13)),
+               linkage("the upper tail", c(1.8, 2.2, 4.04, 5.5, 8), c(0.87, 0.98, 0.999, 1 - 1e-9)),
+               linkage("past the ends", c(-40, -9, 9, 40), c(0.25, 0.75)))
 shares <- c(0, 1, 0.3, 0.7, 0.1)
 trials <- rep(1:16, 2:17)
 wafers <- example("wafers")
 starts <- c(starting("weights 1", shares, rep(1, 5)), starting("numbers of trials", shares, c(3, 80, 10, 1e16, 0.1)), starting("the least and the most", shares, c(0, -0.0, 1e-300, 1.5e308, 7)),
             starting("every count of 1 to 16 trials", sequence(2:17, 0) / trials, as.numeric(trials)), starting("examples/wafers", wafers$weak / wafers$cells, as.numeric(wafers$cells)))
-cat(object(lme4 = text(packageVersion("lme4")), R = text(getRversion()), sets = listed(sets), gamma = listed(of_gamma), starts = listed(starts)), "\n")
+cat(object(lme4 = text(packageVersion("lme4")), R = text(getRversion()), sets = listed(sets), gamma = listed(of_gamma), probit = listed(of_probit), starts = listed(starts)), "\n")

@@ -166,8 +166,8 @@ static void edges(void)
     numbers[Y][0] = 1.5, edge("a response above 1"), changed("no link, a response above 1", &settings.link, 7);
     numbers[Y][0] = was, link = settings.link, settings.link = 7, changed("no link, no block", &blocks_length, 0), settings.link = link;
     settings.family = GLMM_BINOMIAL, settings.link = GLMM_SQRT, edge("another family's link");
-    settings.link = GLMM_PROBIT, edge("a link not carried");
-    settings.family = GLMM_POISSON, settings.link = GLMM_LOG, changed("trials of another family", &settings.start, GLMM_TRIALS);
+    settings.family = GLMM_POISSON, settings.link = GLMM_PROBIT, edge("probit of another family");
+    settings.link = GLMM_LOG, changed("trials of another family", &settings.start, GLMM_TRIALS);
 }
 
 int main(int count, char **words)

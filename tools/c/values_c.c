@@ -21,6 +21,7 @@ int main(void)
     while (fread(&x, sizeof x, 1, stdin) == 1) {
         fputs("at", stdout);
         put(x), put(glmm_sqrt(x)), put(glmm_exp(x)), put(glmm_ln(x)), put(glmm_ln_1p(x)), put(glmm_exp_m1(x)), put(glmm_ln_gamma(x));
+        put(glmm_norm_cdf(x)), put(glmm_norm_pdf(x)), put(glmm_norm_quantile(x));
         putchar('\n');
     }
     return 0;

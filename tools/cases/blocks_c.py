@@ -109,6 +109,7 @@ def fits():
     run("two", two())
     run("one, order 3", job(family="binomial", link="logit", n_agq=3, y=[0.25, 0.5, 0.0, 1.0], weights=[4.0, 2.0, 3.0, 1.0], offset=[0.1, 0.2, -0.3, 0.0]))
     run("trials", job(version=2, start="trials", family="binomial", link="logit", y=[0.25, 0.5, 0.0, 1.0], weights=[4.0, 2.0, 3.0, 1.0]))
+    run("probit", job(family="binomial", link="probit", n_agq=3, y=[0.25, 0.5, 0.0, 1.0], weights=[4.0, 2.0, 3.0, 1.0], offset=[0.1, 0.2, -0.3, 0.0]))
     run("trials, no weights", job(version=2, start="trials", family="binomial", link="cloglog", y=[0.25, 0.5, 0.0, 1.0]))
     run("two, order 3", two(n_agq=3))
     run("pair and groups", job(n_agq=3, blocks=[{"m": 1, "k": 2}, {"m": 2, "k": 1}], theta=[0.5, 0.25, 0.4, 0.75], x=[[1.0]] * 4,
@@ -152,7 +153,7 @@ def refusals():
     run("largest codes", two(), family=2**64 - 1, link=2**64 - 1)
     run("family 4, NaN", job(), family=4, y=[1.0, NAN, 0.0, 5.0])
     run("link 7, k 9", job(), link=7, blocks=[(2, 9)])
-    run("probit", job(), family=0, link=1)
+    run("Poisson probit", job(), link=1)
     run("Gamma sqrt", job(), family=3, link=6)
     run("Gamma of 0", job(), family=3, link=5)
     run("above 1", job(), family=0, link=0)
@@ -166,4 +167,4 @@ def refusals():
 
 fits()
 refusals()
-assert "--stdin" in sys.argv or given == {*range(8), 9, *range(10, 14), 27}
+assert "--stdin" in sys.argv or given == {*range(5), 6, 7, 9, *range(10, 14), 27}

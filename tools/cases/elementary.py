@@ -3,7 +3,7 @@
        elementary.py --stdin > crates/cases_elementary/stdin
 What `cases_elementary` must print, worked out apart from the Rattle code, and the arguments that it is fed, which meet every row of both tables (rows.py). The square root is the nearest double, by Python's whole
 numbers. The next four are the published algorithms (musl's exp.c, log.c, log1p.c and expm1.c, with their tests on the bits of the
-argument) in Python's own doubles, ln_gamma is that of log_gamma.py; the two tables are read from the definitions, the arguments from the programs."""
+argument) in Python's own doubles, ln_gamma is that of log_gamma.py, the normal distribution's three are those of normal.py; the two tables are read from the definitions, the arguments from the programs."""
 import math, re, struct, sys
 from pathlib import Path
 
@@ -207,8 +207,9 @@ def ln_1p(x):
 
 
 def line(x):
-    from log_gamma import ln_gamma  # which takes its logarithm from here
-    print("at", *map(text, (x, sqrt(x), exp(x), ln(x), ln_1p(x), exp_m1(x), ln_gamma(x))))
+    from log_gamma import ln_gamma  # which takes its logarithm from here, as normal.py does
+    from normal import norm_cdf, norm_pdf, norm_quantile
+    print("at", *map(text, (x, sqrt(x), exp(x), ln(x), ln_1p(x), exp_m1(x), ln_gamma(x), norm_cdf(x), norm_pdf(x), norm_quantile(x))))
 
 
 EXP_TABLE, LN_TABLE = numbers("crates/tabulated/specs/ExpTable.antt"), numbers("crates/tabulated/specs/LogTable.antt")

@@ -132,6 +132,7 @@ def laplace():
     groups("identity", "poisson", "identity", 0, 32, offset=36)
     groups("sqrt", "poisson", "sqrt", 1, 24, offset=36)
     groups("logit", "binomial", "logit", 1, 28, 32)
+    groups("probit", "binomial", "probit", 1, 28, 32, 36)
     groups("cloglog", "binomial", "cloglog", 1, 28, 32, 36)
     groups("Gaussian", "gaussian", "identity", 1, 40, 32, 36)
     groups("Gaussian log", "gaussian", "log", 1, 44)
@@ -143,7 +144,7 @@ def laplace():
     groups("Gamma log", "gamma", "log", 1, 44, 32, 36)
     groups("unsettled Gamma", "gamma", "identity", 1, 32)
     groups("NaN", "binomial", "logit", 1, HALVES, HUGE)
-    for link in ("logit", "cloglog"):
+    for link in ("logit", "probit", "cloglog"):
         groups(f"trials, {link}", "binomial", link, 1, 28, 32, 36, start="trials")
     groups("trials, weights absent", "binomial", "logit", 1, 28, start="trials")
     groups("weights absent", "binomial", "logit", 1, 28)
@@ -155,6 +156,7 @@ def quadrature():
     groups("order 3", "poisson", "log", 2, 24)
     groups("order 11", "binomial", "logit", 31, 28, 32, 36)
     groups("trials, order 5", "binomial", "logit", 5, 28, 32, start="trials")
+    groups("probit, order 7", "binomial", "probit", 7, 28, 32, 36)
     groups("order 5", "gaussian", "identity", 4, 40, 32, 36)
     groups("Gamma order 3", "gamma", "log", 2, 44)
     effects("effects 7", "log", 7, [(1, 2)], 48, 1, 5)
@@ -188,7 +190,7 @@ def refused_tries():
 
 def refusals():
     """Number 1, of each size and of the limit; each slice one short and one longer: number 2, of the last three 7 where they are short and 0 where they are longer; number 6, of the
-    row starts and the columns; number 3, of each list of numbers; numbers 4 and 5; number 9 of each family that has a range, of Gamma for 0; number 27 of each other family, of a
+    row starts and the columns; number 3, of each list of numbers; number 4; number 9 of each family that has a range, of Gamma for 0; number 27 of each other family, of a
     weight below 0, and behind 9."""
     for n, p, q, entries in [(0, 2, 2, 4), (513, 2, 2, 4), (4, 0, 2, 4), (4, 17, 2, 4), (4, 2, 3, 4), (4, 2, 2, 8193)]:
         good("sizes", n=n, p=p, q=q, entries=entries)
@@ -200,7 +202,8 @@ def refusals():
         good(f"list {i} at {at}", {i: at})
     groups("logit", "poisson", "logit", 3, 24)
     groups("sqrt", "gaussian", "sqrt", 3, 40)
-    groups("probit", "binomial", "probit", 3, 28)
+    groups("Poisson probit", "poisson", "probit", 3, 24)
+    groups("probit, range", "binomial", "probit", 3, 24)
     groups("Gamma sqrt", "gamma", "sqrt", 3, 44)
     good("list 1 at 24", {1: 24})
     groups("below 0", "poisson", "log", 3, 4)
@@ -223,4 +226,4 @@ quadrature()
 ends()
 refused_tries()
 refusals()
-assert "--stdin" in sys.argv or given == {*range(8), 9, *range(10, 14), 27}
+assert "--stdin" in sys.argv or given == {*range(5), 6, 7, 9, *range(10, 14), 27}

@@ -18,7 +18,7 @@ from form import job_bytes
 PLAIN = {"limit": 5}  # of a small job that would be fitted
 SHARES = {"scalar": 4, "product": 4, "joint": 4, "strong": 2, "weights": 3, "thetas": 3, "stored_zeros": 2, "dispersion": 4, "halved": 2, "far": 2, "least": 2, "singular": 1,
           "in_vain": 2, "pivots": 2, "coupled": 2, "later_group": 1, "second_block": 1, "out_of_range": 2, "extremes": 2, "no_residual": 2, "refused": 4, "middle": 1, "wide": 1,
-          "full_joint": 1, "trials": 6, "gamma": 16}
+          "full_joint": 1, "trials": 6, "gamma": 16, "probit": 8}
 
 
 def job_refusals():
@@ -34,7 +34,7 @@ def job_refusals():
 
 
 def table_refusals():
-    """6, 3, 4, 5, 9 and 27 at byte 0, and which comes first where there are two."""
+    """6, 3, 4, 9 and 27 at byte 0, and which comes first where there are two; probit, which was 5 once, is none of them with binomial."""
     fair = {**CASE_J, **PLAIN}
     inf = float("inf")
     yield {**fair, "zt": [[[1, 1]]]}  # 6: a column that is not below n
@@ -48,11 +48,11 @@ def table_refusals():
     yield {**fair, "link": "logit"}  # 4
     yield {**fair, "family": "gamma", "link": "sqrt"}  # 4
     yield {**fair, "y": [inf], "link": "cloglog"}  # 3 before 4
-    yield {**fair, "link": "probit"}  # 4 before 5
-    yield {**fair, "family": "binomial", "link": "probit", "theta": [inf]}  # 3 before 5
-    yield {**fair, "family": "gamma", "link": "probit"}  # 4 before 5
-    yield {**fair, "family": "binomial", "link": "probit", "y": [1]}  # 5
-    yield {**fair, "family": "binomial", "link": "probit"}  # 5 before 9
+    yield {**fair, "link": "probit"}  # 4
+    yield {**fair, "family": "binomial", "link": "probit", "theta": [inf]}  # 3
+    yield {**fair, "family": "gamma", "link": "probit"}  # 4
+    yield {**fair, "family": "binomial", "link": "probit", "y": [1]}  # none
+    yield {**fair, "family": "binomial", "link": "probit"}  # 9
     yield {**fair, "link": "logit", "y": [-1]}  # 4 before 9
     for family, link, y in (("binomial", "logit", 1.0000000000000002), ("binomial", "cloglog", -5e-324), ("poisson", "log", -5e-324), ("gamma", "inverse", 0.0), ("gamma", "log", -0.0)):
         yield {**fair, "family": family, "link": link, "y": [y]}  # 9

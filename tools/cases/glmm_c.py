@@ -11,6 +11,7 @@ sys.dont_write_bytecode = True
 from rule import answer
 from elementary import exp, exp_m1, ln, ln_1p, sqrt, text
 from log_gamma import ln_gamma
+from normal import norm_cdf, norm_pdf, norm_quantile
 import fit
 from form import job_bytes
 from reader import Refused, check_table, parse
@@ -105,6 +106,7 @@ def fits():
     run("log", job())
     run("logit", job(family="binomial", link="logit", n_agq=3, y=[0.25, 0.5, 0.0, 1.0], weights=[4.0, 2.0, 3.0, 1.0], offset=[0.1, 0.2, -0.3, 0.0]))
     run("trials", job(version=2, start="trials", family="binomial", link="logit", n_agq=3, y=[0.25, 0.5, 0.0, 1.0], weights=[4.0, 2.0, 3.0, 1.0]))
+    run("probit", job(family="binomial", link="probit", n_agq=3, y=[0.25, 0.5, 0.0, 1.0], weights=[4.0, 2.0, 3.0, 1.0], offset=[0.1, 0.2, -0.3, 0.0]))
     run("version 2", job(version=2))
     run("Gaussian", job(family="gaussian", link="identity", n_agq=5, y=[1.5, -0.25, 3.0, 0.75], weights=[4.0, 2.0, 3.0, 1.0]))
     run("Gamma", job(family="gamma", link="log", n_agq=3, y=[1.5, 0.25, 3.0, 0.75], weights=[4.0, 2.0, 3.0, 1.0]))
@@ -138,7 +140,8 @@ def refusals():
     run("order of columns", job(zt=[[[2, 1.0], [0, 1.0]], [[1, 1.0], [3, 1.0]]]))
     run("NaN", job(y=[1.0, NAN, 0.0, 5.0]))
     run("sqrt", job(family="binomial", link="sqrt"))
-    run("probit", job(family="binomial", link="probit"))
+    run("Poisson probit", job(link="probit"))
+    run("probit, above 1", job(family="binomial", link="probit"))
     run("Gamma sqrt", job(family="gamma", link="sqrt"))
     run("Gamma of 0", job(family="gamma", link="inverse"))
     run("above 1", job(family="binomial", link="logit"))
@@ -177,7 +180,7 @@ def first():
         few_n, few_p, few_q, wanted = 1 <= n <= 512, 1 <= p <= 16, 1 <= q <= 32, asked(n, p, q)
         print("lengths", few_n * wanted["rows"], (few_p and few_q) * wanted["matrices"], wanted["terms"], (few_n and few_p and few_q) * wanted["results"])
     for x in NUMBERS:
-        print("at", *map(text, (x, sqrt(x), exp(x), ln(x), ln_1p(x), exp_m1(x), ln_gamma(x))))
+        print("at", *map(text, (x, sqrt(x), exp(x), ln(x), ln_1p(x), exp_m1(x), ln_gamma(x), norm_cdf(x), norm_pdf(x), norm_quantile(x))))
 
 
 first()
@@ -185,4 +188,4 @@ fits()
 refusals()
 lengths()
 beside()
-assert "--stdin" in sys.argv or given == {*range(8), 9, *range(10, 14), *range(20, 25), 27}
+assert "--stdin" in sys.argv or given == {*range(5), 6, 7, 9, *range(10, 14), *range(20, 25), 27}

@@ -142,7 +142,7 @@ sizes(512, 16, 32, 8193, 1000, LARGE)
 sizes(512, 16, 32, 8192, 1001, LARGE)
 
 # the refusals in the order of the table, then the ends
-for code, number in enumerate([1, 8, 2, 7, 6, 3, 4, 5, 9, 27]):
+for code, number in enumerate([1, 8, 2, 7, 6, 3, 4, 9, 27]):
     call("refused", ["refused"], code)
     line("refused", number, *answer(number))
 WORK = (241, 1205, 4820, 14461, 2400, 1000, 220, 1200)

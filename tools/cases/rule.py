@@ -10,7 +10,7 @@ ROOT = Path(__file__).resolve().parents[2]
 sys.path.insert(0, str(ROOT / "tools" / "glmm"))
 from form import from_groups, job_bytes
 
-CRATES = ["base", "root", "tabulated", "elementary", "log_gamma", "model", "family", "family_lists", "factor", "lambda", "linear", "stored", "rule"]
+CRATES = ["base", "root", "tabulated", "elementary", "log_gamma", "normal", "model", "family", "family_lists", "factor", "lambda", "linear", "stored", "rule"]
 IEEE = "add sub mul div neg lt le eq ne isNan ofBits toBits ofInt toUnsigned round".split()
 COUNTS = "fits solves tries points eta mean pwrss ok".split()
 VECTORS = "beta se z u b mu eta residual v".split()

@@ -2,8 +2,9 @@
 class that a comparison must have met, IMPOSSIBLE those that no job can be in, with the reason; `missing` and `surprises` hold what was met to both."""
 import math, struct
 from form import FAMILIES, LINKS
-from kinds import PAIRS
-from reader import CARRIED, VALID, in_range, parse
+from families import trials_mean
+from kinds import FREE, PAIRS
+from reader import VALID, in_range, parse
 
 ENDS = [f"end {number}" for number in (0, 10, 11, 12, 13)]
 RULES = ["one effect", "product", "joint"]
@@ -22,7 +23,7 @@ SIZES = ["n is 0", "n above 512", "p is 0", "p above 16", "no block", "more than
 PLACES = ["header", "block", *LISTS, "count of a row", "column", "value"]
 CAUSES = [*(("1", size) for size in SIZES), ("6", "a column not below n"), ("6", "a column not above the one before"),
           *(("3", f"{kind} in {place}") for place in [*LISTS, "Z'"] for kind in ("NaN", "infinity")),
-          *(("4", name_of((f, l))) for f in range(4) for l in range(7) if (f, l) not in VALID), *(("5", name_of(pair)) for pair in sorted(VALID - CARRIED)),
+          *(("4", name_of((f, l))) for f in range(4) for l in range(7) if (f, l) not in VALID),
           ("9", "binomial below 0"), ("9", "binomial above 1"), ("9", "poisson below 0"), ("9", "gamma below 0"), ("9", "gamma at 0"),
           *(("20", place) for place in PLACES), ("21", "version 0"), ("21", "version 3 to 15"), *(("22", place) for place in ("header", "block", "count of a row", "column")),
           ("23", "one byte"), ("23", "more bytes"), ("24", "link 7"), ("24", "limit 1001 to 1022"), ("25", "65,537 bytes"), ("25", "more bytes"), ("27", "not binomial"), ("27", "a weight below 0")]
@@ -105,7 +106,7 @@ def wrong_start(job):
 
 def causes(number, byte, data):
     """What is wrong in a job that was refused with a number at a byte."""
-    if number in (3, 4, 5, 6, 9, 27):
+    if number in (3, 4, 6, 9, 27):
         job = parse(data)
         return {6: wrong_columns, 3: wrong_numbers, 9: wrong_responses, 27: wrong_start}.get(number, lambda job: [name_of((job.family, job.link))])(job)
     if number == 1:
@@ -113,7 +114,7 @@ def causes(number, byte, data):
     if number in (20, 22):
         return [place_of(data, byte)]
     return {21: lambda: ["version 0" if data[0] < 16 else "version 3 to 15"], 24: lambda: ["link 7" if byte == 0 else "limit 1001 to 1022"],
-            23: lambda: ["one byte" if len(data) == byte + 1 else "more bytes"], 25: lambda: ["65,537 bytes" if len(data) == 65537 else "more bytes"]}[number]()
+            23: lambda: ["one byte" if len(data) == byte + 1 else "more bytes"], 25: lambda: ["65,537 bytes" if len(data) == 65537 else "more bytes"]}.get(number, list)()
 
 
 # ---- ends
@@ -130,7 +131,8 @@ PARTS = {"eta": "refused for eta", "mean": "refused for a mean", "pwrss": "refus
 FLAGS = ["flag 0, Laplace", "flag 0, quadrature", "flag 1, Laplace", "flag 1, quadrature"]
 DRESSES = ["no weights, no offset", "weights, no offset", "no weights, offset", "weights, offset"]
 GAMMA = ["a Gamma response above 0 and below E", "a Gamma mean not above 0", "Gamma weights that sum to less than 1", "a Gamma phi near E"]
-WAYS = ["steps halved", "a weight not above 0", "a response at an end of its range", "deviance NaN", "deviance infinite", "trials without weights", "no trial", *GAMMA]
+PROBIT = ["a probit mean at E", "a probit mean at 1 - E", "a probit density below E", "a probit start in a tail of the quantile", "a probit start past E or 1 - E"]
+WAYS = ["steps halved", "a weight not above 0", "a response at an end of its range", "deviance NaN", "deviance infinite", "trials without weights", "no trial", *GAMMA, *PROBIT]
 
 
 def rule_of(job):
@@ -181,11 +183,25 @@ def on_the_way(job, said, deviance):
         yield "deviance NaN" if deviance[3:].strip("0") else "deviance infinite"
 
 
+def printed(lines, name):
+    """The numbers of the lines that begin with a name."""
+    return [struct.unpack(">d", bytes.fromhex(line.split()[2]))[0] for line in lines if line.startswith(name)]
+
+
 def gamma_ways(job, lines):
     """Of a fitted Gamma job what its floors change: those at E of responses, of means and of the dispersion, by the lines that were printed, and that of the weights' sum at 1."""
-    (phi,), means = ([struct.unpack(">d", bytes.fromhex(line.split()[2]))[0] for line in lines if line.startswith(name)] for name in ("phi ", "mu "))
+    (phi,), means = (printed(lines, name) for name in ("phi ", "mu "))
     tests = [any(0.0 < y < 2.0**-52 for y in job.y), min(means) <= 0.0, job.weights and 0.0 < sum(job.weights) < 1.0, phi < 2.0**-51]
     return [name for name, test in zip(GAMMA, tests) if test]
+
+
+def probit_ways(job, lines):
+    """Of a fitted probit job what its clamps and floor change, by the lines that were printed, and whether a start lies where the quantile is not the middle's."""
+    etas, means = (printed(lines, name) for name in ("eta ", "mu "))
+    starts = [trials_mean(w, y) for w, y in zip(job.weights or [1.0] * job.n, job.y)] if job.start else []
+    tests = [min(means) == 2.0**-52, max(means) == 1.0 - 2.0**-52, max(map(abs, etas)) >= 8.3815, any(not 0.1353 < mean < 0.8647 for mean in starts),
+             any(not 2.0**-52 <= mean <= 1.0 - 2.0**-52 for mean in starts)]
+    return [name for name, test in zip(PROBIT, tests) if test]
 
 
 def fitted(job, data, said, lines):
@@ -199,8 +215,8 @@ def fitted(job, data, said, lines):
     yield "lists", (pair, ("weights" if job.weights else "no weights") + (", offset" if job.offset else ", no offset"))
     for name in largest(job, data, said["order"]):
         yield "largest", (pair, name)
-    ways = [*on_the_way(job, said, lines[0].split()[-1]), *(gamma_ways(job, lines) if FAMILIES[job.family] == "gamma" else [])]
-    for name in ways:
+    own = gamma_ways if FAMILIES[job.family] == "gamma" else probit_ways if LINKS[job.link] == "probit" else None
+    for name in [*on_the_way(job, said, lines[0].split()[-1]), *(own(job, lines) if own else [])]:
         yield "on the way", name
 
 
@@ -240,12 +256,13 @@ NAMED = {"ending": [*ENDS, *(f"refused {number}" for number in [*range(1, 8), 9,
 DIAGONAL = "A_gg is 1 and a sum not below 0, or not finite and then end 10"
 IMPOSSIBLE = {
     ("ending", "refused 2"): "a job's lists are as long as its sizes say", ("ending", "refused 7"): "fitjob lends enough",
+    ("ending", "refused 5"): "every link is carried, and the number is free (document 02, P8)",
     ("order", ("declined", "one effect, no points")): DIAGONAL + ": the first group always has its points",
     ("why", ("one effect", "why 4")): DIAGONAL,
     **{("why", (rule, "why 2")): "the number of effects is limited with several blocks alone" for rule in RULES[:2]},
     ("why", ("one effect", "why 3")): "orders of one dimension have no cap", ("why", ("joint", "why 3")): "8 effects at order 3 have 6,561 points, within the cap",
     ("why", ("one effect", "why 5")): "no inverse is formed", **{("why", (rule, "why 4")): "the diagonal is looked at with one effect a group alone" for rule in RULES[1:]},
-    **{("dispersion", (name, flag)): "the dispersion is fixed" for name in NAMES[:5] for flag in FLAGS[:2]},
+    **{("dispersion", (name, flag)): "the dispersion is fixed" for name in NAMES if name.split()[0] not in FREE for flag in FLAGS[:2]},
     **{("limit", ("0", end)): "no iteration is done" for end in ENDS[:4]}}
 ALL = [*((title, (row, column)) for title, (rows, columns) in ROWS_AND_COLUMNS.items() for row in rows for column in columns),
        *((title, name) for title, names in NAMED.items() for name in names)]

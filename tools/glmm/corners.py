@@ -49,5 +49,5 @@ def corner_jobs():
         for pair in PAIRS:
             yield f"corner-{name}-{'-'.join(pair)}", job_bytes(corner(name, pair))
     for name in ("effects", "all", "one"):
-        for pair in PAIRS[:2]:
+        for pair in PAIRS[:3]:
             yield f"corner-{name}-{'-'.join(pair)}-trials", job_bytes(corner(name, pair, "trials"))

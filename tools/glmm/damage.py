@@ -138,8 +138,8 @@ def faulty_lists(about):
 
 
 def two_of_the_table(name, about):
-    """Two faults of the table at once, of 6, 3, 4, 5, 9 and 27: which is first?"""
-    pairs = {"4": ("binomial", "sqrt"), "5": ("binomial", "probit"), "gamma": ("gamma", "log"), "4-5": ("poisson", "probit"), "4-5-gamma": ("gamma", "probit")}
+    """Two faults of the table at once, of 6, 3, 4, 9 and 27: which is first? Probit and Gamma are none of them, but were once."""
+    pairs = {"4": ("binomial", "sqrt"), "probit": ("binomial", "probit"), "gamma": ("gamma", "log"), "4-probit": ("poisson", "probit"), "4-gamma": ("gamma", "probit")}
     column = {**about, "zt": [[[len(about["y"]), about["zt"][0][0][1]], *about["zt"][0][1:]], *about["zt"][1:]]}
     for pair, (family, link) in pairs.items():
         named = {"family": family, "link": link}
@@ -155,33 +155,34 @@ def responses(name, about):
     """Each response in turn at the ends of the ranges, next to them, and below and above; with each family, and with a fault that comes first."""
     column = {"zt": [[[len(about["y"]), about["zt"][0][0][1]], *about["zt"][0][1:]], *about["zt"][1:]]}
     pairs = {"binomial": "logit", "poisson": "log", "gaussian": "identity", "gamma": "log"}
+    both = [*pairs.items(), ("binomial", "probit")]
     for at in range(len(about["y"])):
         for value in (0.0, -0.0, 5e-324, -5e-324, 1.0, 0.9999999999999999, 1.0000000000000002, 1.02, -1.0):
             other = {**about, "y": [value if i == at else 0.5 for i in range(len(about["y"]))]}
-            for family, link in pairs.items():
-                yield f"{name}-response-{at}-{value}-{family}", job_bytes({**other, "family": family, "link": link})
+            for family, link in both:
+                yield f"{name}-response-{at}-{value}-{family}-{link}", job_bytes({**other, "family": family, "link": link})
     for family in ("binomial", "poisson", "gamma"):
         low = {**about, "family": family, "link": pairs[family], "y": [-1.0, *about["y"][1:]]}
         yield f"{name}-table-6-9-{family}", job_bytes({**low, **column})
         yield f"{name}-table-4-9-{family}", job_bytes({**low, "link": "inverse" if family != "gamma" else "sqrt"})
         for place, faulty in faulty_lists(low):
             yield f"{name}-table-3-9-{family}-{place}", job_bytes(faulty)
-    yield f"{name}-table-5-9", job_bytes({**about, "family": "binomial", "link": "probit", "y": [2.0, *about["y"][1:]]})
+    yield f"{name}-table-probit-9", job_bytes({**about, "family": "binomial", "link": "probit", "y": [2.0, *about["y"][1:]]})
 
 
 def starts(name, about):
     """R's start with each family; with a weight in each place that is or is not below 0; and with a fault that comes first."""
     asked = {**about, "version": 2, "start": "trials", "family": "binomial", "link": "logit", "y": [0.5 for _ in about["y"]]}
-    for family, link in (("binomial", "cloglog"), ("poisson", "log"), ("gaussian", "identity"), ("gamma", "log")):
+    for family, link in (("binomial", "cloglog"), ("binomial", "probit"), ("poisson", "log"), ("gaussian", "identity"), ("gamma", "log")):
         for weights in (None, [2.0 for _ in about["y"]], [-1.0 for _ in about["y"]]):
             for start in ("usual", "trials"):
-                yield f"{name}-start-{start}-{family}-{weights and weights[0]}", job_bytes({**asked, "family": family, "link": link, "weights": weights, "start": start})
+                yield f"{name}-start-{start}-{family}-{link}-{weights and weights[0]}", job_bytes({**asked, "family": family, "link": link, "weights": weights, "start": start})
     for at in range(len(about["y"])):
         for weight in (0.0, -0.0, 5e-324, -5e-324, -1.0):
             yield f"{name}-start-weight-{at}-{weight}", job_bytes({**asked, "weights": [weight if i == at else 1.0 for i in range(len(about["y"]))]})
     low = {**asked, "weights": [-1.0 for _ in about["y"]]}
     column = {"zt": [[[len(about["y"]), about["zt"][0][0][1]], *about["zt"][0][1:]], *about["zt"][1:]]}
-    for fault, other in (("6", column), ("4", {"link": "sqrt"}), ("5", {"link": "probit"}), ("9", {"y": [1.5, *asked["y"][1:]]})):
+    for fault, other in (("6", column), ("4", {"link": "sqrt"}), ("probit", {"link": "probit"}), ("9", {"y": [1.5, *asked["y"][1:]]})):
         yield f"{name}-table-{fault}-27", job_bytes({**low, **other})
     for place, faulty in faulty_lists(low):
         yield f"{name}-table-3-27-{place}", job_bytes(faulty)

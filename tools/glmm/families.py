@@ -1,16 +1,18 @@
 """Links and families of the reference, element by element, with Rust's `max` and `clamp` in document 01's words. exp, ln, ln_1p, exp_m1 and the square
-root are those of tools/cases/elementary.py, ln_gamma that of tools/cases/log_gamma.py: the algorithms of docs/ELEMENTARY.md in Python's own doubles."""
+root are those of tools/cases/elementary.py, ln_gamma that of tools/cases/log_gamma.py, the normal distribution's three those of tools/cases/normal.py: the algorithms
+of docs/ELEMENTARY.md in Python's own doubles."""
 import math, sys
 from pathlib import Path
 
 sys.path.append(str(Path(__file__).resolve().parents[1] / "cases"))
 from elementary import exp, exp_m1, ln, ln_1p, sqrt
 from log_gamma import ln_gamma
+from normal import norm_cdf, norm_pdf, norm_quantile
 
 E = 2.0**-52
 INF, NAN = math.inf, math.nan
 BINOMIAL, POISSON, GAUSSIAN, GAMMA = 0, 1, 2, 3
-LOGIT, CLOGLOG, LOG, IDENTITY, INVERSE, SQRT = 0, 2, 3, 4, 5, 6
+LOGIT, PROBIT, CLOGLOG, LOG, IDENTITY, INVERSE, SQRT = range(7)
 
 
 def larger(a, b):
@@ -34,6 +36,8 @@ def link_fun(link, m):
     if link == LOGIT:
         m = inside(m)
         return ln(over(m, 1.0 - m))
+    if link == PROBIT:
+        return norm_quantile(inside(m))
     if link == CLOGLOG:
         return ln(-ln_1p(-inside(m)))
     if link == LOG:
@@ -46,6 +50,8 @@ def link_fun(link, m):
 def link_inv(link, e):
     if link == LOGIT:
         return inside(over(1.0, 1.0 + exp(-e)))
+    if link == PROBIT:
+        return inside(norm_cdf(e))
     if link == CLOGLOG:
         return inside(-exp_m1(-exp(e)))
     if link == LOG:
@@ -59,6 +65,8 @@ def mu_eta(link, e):
     if link == LOGIT:
         p = over(1.0, 1.0 + exp(-e))
         return larger(p * (1.0 - p), E)
+    if link == PROBIT:
+        return larger(norm_pdf(e), E)
     if link == CLOGLOG:
         grown = exp(e)
         return larger(0.0 if math.isinf(grown) else grown * exp(-grown), E)

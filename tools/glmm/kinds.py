@@ -6,7 +6,8 @@ from form import job_bytes
 BASE = [("binomial", "logit"), ("binomial", "cloglog"), ("poisson", "log"), ("poisson", "identity"), ("poisson", "sqrt"), ("gaussian", "identity"),
         ("gaussian", "log"), ("gaussian", "inverse")]
 GAMMA = [("gamma", "inverse"), ("gamma", "identity"), ("gamma", "log")]
-PAIRS = BASE + GAMMA
+PROBIT = ("binomial", "probit")
+PAIRS = [BASE[0], PROBIT, *BASE[1:], *GAMMA]
 FREE = ("gaussian", "gamma")  # the families with a free dispersion
 CHEAP = BASE[:5] * 4 + BASE[5:]  # for large jobs: few that run the dispersion loop
 STEEP = [("gaussian", "log"), ("gaussian", "inverse"), ("poisson", "log"), ("poisson", "sqrt"), ("poisson", "identity"), ("binomial", "cloglog")]
@@ -431,10 +432,26 @@ def gamma(r):
     return about
 
 
+def probit(r):
+    """Probit in a job of another kind, with responses of its own or the kind's; some with predictors past the ends of the means and of the density's floor, or with so many trials
+    that a start is clamped."""
+    own = r.choice([plain, plain, middle, scalar, product, joint, weights, thetas, stored_zeros, limits, least, wide, singular, pivots, coupled, later_group, far, trials, trials])
+    kind = r.choice([own] * 8 + [out_of_range, extremes])
+    about = kind(r)
+    about["family"], about["link"] = PROBIT
+    if kind is own and kind is not trials:
+        about["y"] = [response(r, *PROBIT) for _ in about["y"]]
+    if about.get("start") == "trials" and r.random() < 0.2:
+        about["weights"] = [w * r.choice([1.0, 1e17, 1e20]) for w in about["weights"]]
+    if r.random() < 0.15:
+        about["offset"] = [r.choice([0.0, 0.0, 0.0, -8.1, 8.1, -8.25, 8.25, -9.0, 9.0, -40.0, 40.0]) for _ in about["y"]]
+    return about
+
+
 def refused(r):
-    """One fault of the table: 1, 6, 3, 4, 5, 9 or 27; or two of them."""
+    """One fault of the table: 1, 6, 3, 4, 9 or 27; or two of them."""
     about = plain(r)
-    for fault in r.sample([bad_size, bad_columns, bad_number, bad_pair, not_carried, bad_response, bad_start], r.choice([1, 1, 1, 2])):
+    for fault in r.sample([bad_size, bad_columns, bad_number, bad_pair, bad_response, bad_start], r.choice([1, 1, 1, 2])):
         fault(r, about)
     return about
 
@@ -471,10 +488,6 @@ def bad_response(r, about):
     about["y"][r.randrange(len(about["y"]))] = r.choice([-1.0, -1e-3, -5e-324])
 
 
-def not_carried(r, about):
-    about["family"], about["link"] = "binomial", "probit"
-
-
 def bad_start(r, about):
     """R's start for another family, or with a weight below 0."""
     about["version"], about["start"] = 2, "trials"
@@ -484,7 +497,7 @@ def bad_start(r, about):
 
 
 KINDS = {plain: 24, middle: 6, scalar: 8, product: 8, joint: 6, strong: 4, weights: 5, thetas: 5, stored_zeros: 5, limits: 3, dispersion: 6, halved: 4, overshot: 1, far: 3, least: 3, wide: 2,
-         singular: 2, in_vain: 1, squares: 1, pivots: 3, coupled: 4, later_group: 1, second_block: 1, weightless: 1, reaching: 1, out_of_range: 3, extremes: 3, no_residual: 1, refused: 3, large: 1, full_joint: 1, trials: 6, gamma: 30}
+         singular: 2, in_vain: 1, squares: 1, pivots: 3, coupled: 4, later_group: 1, second_block: 1, weightless: 1, reaching: 1, out_of_range: 3, extremes: 3, no_residual: 1, refused: 3, large: 1, full_joint: 1, trials: 6, gamma: 30, probit: 14}
 
 
 def points(about, wish):

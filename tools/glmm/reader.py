@@ -3,9 +3,8 @@ import math, struct
 
 LONGEST = 65536
 MOST_RESPONSES = 64
-TABLE = [6, 3, 4, 5, 9, 27]  # what the table refuses a job with, in its order
-CARRIED = {(0, 0), (0, 2), (1, 3), (1, 4), (1, 6), (2, 4), (2, 3), (2, 5), (3, 5), (3, 4), (3, 3)}  # family and link of a call that can be fitted
-VALID = CARRIED | {(0, 1)}
+TABLE = [6, 3, 4, 9, 27]  # what the table refuses a job with, in its order
+VALID = {(0, 0), (0, 1), (0, 2), (1, 3), (1, 4), (1, 6), (2, 4), (2, 3), (2, 5), (3, 5), (3, 4), (3, 3)}  # family and link that go together: each pair can be fitted
 
 
 class Refused(Exception):
@@ -104,7 +103,7 @@ def start_fits(job):
 
 
 def check_table(job, responses):
-    """Refusals 6, 3, 4, 5, 9 and 27 over all the responses; 1 was tested before, and 7 cannot come from a job."""
+    """Refusals 6, 3, 4, 9 and 27 over all the responses; 1 was tested before, 7 cannot come from a job, and 5 is given no longer (document 02, P8)."""
     for row in job.zt:
         columns = [column for column, _ in row]
         if any(c >= job.n for c in columns) or any(c >= d for c, d in zip(columns, columns[1:])):
@@ -114,8 +113,6 @@ def check_table(job, responses):
         raise Refused(3, 0)
     if (job.family, job.link) not in VALID:
         raise Refused(4, 0)
-    if (job.family, job.link) not in CARRIED:
-        raise Refused(5, 0)
     if not all(in_range(job.family, y) for ys in responses for y in ys):
         raise Refused(9, 0)
     if not start_fits(job):

@@ -2,7 +2,7 @@
 
     # weak cells of a lot             a line that starts with # says nothing
     family: binomial                  binomial, poisson, gaussian or gamma
-    link: logit                       binomial: logit, cloglog; poisson: log, identity, sqrt; gaussian: identity, log, inverse; gamma: inverse, identity, log
+    link: logit                       binomial: logit, probit, cloglog; poisson: log, identity, sqrt; gaussian: identity, log, inverse; gamma: inverse, identity, log
     response: weak / cells            a column; or a count and its total: their quotient, with the total as weight
     weights: sure                     a column; left out: absent (or the total)
     offset: log area                  a column, or the natural logarithm of one; left out: absent
@@ -28,7 +28,7 @@ from decimal import Decimal, localcontext
 from pathlib import Path
 from form import FAMILIES, LINKS, STARTS, block_rows, job_bytes
 from program import begins_as_job
-from reader import CARRIED, LONGEST, VALID
+from reader import LONGEST, VALID
 
 NAMES = ["family", "link", "response", "weights", "offset", "fixed", "random", "theta", "n_agq", "limit", "start"]
 WANTED = ["family", "link", "response", "fixed", "random", "theta"]
@@ -247,11 +247,9 @@ class Sheet:
         if link not in LINKS:
             raise Fault(f"line {below}: no link '{short(link)}'; the links are {', '.join(LINKS)}")
         pair = FAMILIES.index(family), LINKS.index(link)
-        fitting = ", ".join(LINKS[l] for f, l in sorted(CARRIED) if f == pair[0])
+        fitting = ", ".join(LINKS[l] for f, l in sorted(VALID) if f == pair[0])
         if pair not in VALID:
             raise Fault(f"line {below}: {family} can't have the link {link}, only {fitting}")
-        if pair not in CARRIED:
-            raise Fault(f"line {below}: {family} with {link} is not carried yet; take {fitting}")
         return family, link
 
     def count(self, name, most, absent):

@@ -5,6 +5,7 @@ from form import FAMILIES, LINKS
 
 WALD = 1.959964  # the normal distribution's 97.5 % point
 LEAST = 2.0**-52
+ROOT_TWO_PI = math.sqrt(2 * math.pi)
 
 
 def wald(lists):
@@ -15,7 +16,7 @@ def wald(lists):
 
 def slope(link, mu, eta):
     """The derivative of a mean by its predictor."""
-    return {"logit": mu * (1 - mu), "cloglog": (1 - mu) * math.exp(min(eta, 700)), "log": mu, "identity": 1, "inverse": -mu * mu, "sqrt": 2 * max(eta, 0)}[link]
+    return {"logit": mu * (1 - mu), "probit": math.exp(-eta * eta / 2) / ROOT_TWO_PI, "cloglog": (1 - mu) * math.exp(min(eta, 700)), "log": mu, "identity": 1, "inverse": -mu * mu, "sqrt": 2 * max(eta, 0)}[link]
 
 
 def variance(family, mu):

@@ -26,7 +26,7 @@ module _ (t : Settings) (s : Shape) (I : Inputs) (L : Lent) where
   pub accepted-in-range : FitNumber (callOf t s I L .answer .number) → AllInRange (carriedFamily (t .family)) (I .y)
   accepted-in-range e =
       let a = accepted-exactly t s I L .0 e in
-      range-exactly (carriedFamily (t .family)) (I .y) .0 (rw (← a .2 .0 .0 .1 .0) at (a .2 .0 .1))
+      range-exactly (carriedFamily (t .family)) (I .y) .0 (a .0 .1)
 
   pub fitted-in-range : callOf t s I L .answer .number ≡ 0 → AllInRange (carriedFamily (t .family)) (I .y)
   fitted-in-range e = accepted-in-range (inl e)
@@ -36,7 +36,7 @@ module _ (t : Settings) (s : Shape) (I : Inputs) (L : Lent) where
   unfolding GivenWhen
   nine-outside e =
       let a = refused-exactly t s I L ResponseRange .0 e in
-      outside-exactly (carriedFamily (t .family)) (I .y) .0 (rw (← a .2 .0 .1 .0) at (a .2 .1))
+      outside-exactly (carriedFamily (t .family)) (I .y) .0 (a .1)
 
   inside : (y : Float) → t .family ≡ Gaussian → inRange (carriedFamily (t .family)) y ≡ false → ⊥
   inside y g h = ff (sym (rw (g, gaussian-range y) at h))

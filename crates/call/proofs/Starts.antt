@@ -72,7 +72,7 @@ pub usual-accepted : (start : Start) (t : Settings) (s : Shape) (I : Inputs) (L 
 unfolding goodSizes goodInputs goodResults goodWork
 usual-accepted start t s I L f l e =
     let a = accepted-when 1 (started start t) s I (lengthsOf L) f l .0 e in
-    accepted-when 1 (started Usual t) s I (lengthsOf L) f l .1 (a .0, usual-passes (I .weights) f)
+    accepted-when 1 (started Usual t) s I (lengthsOf L) f l .1 ((a .0 .0, usual-passes (I .weights) (carriedFamily (t .family))), a .1)
 
 pub call-start : (t : Settings) (s : Shape) (I : Inputs) (L : Lent) (l : CarriedLink) → tableOf 1 (started Trials t) s I (lengthsOf L) ≡ Accepted Binomial l
     → ((i : ℕ) → i < t .n → T (fits binary64 (I .y ! i))) → ((i : ℕ) → i < t .n → weightAt (I .weights) i ≡ oneF)
@@ -89,7 +89,7 @@ pub start-refused : (t : Settings) (s : Shape) (I : Inputs) (L : Lent) → callO
 unfolding GivenWhen
 start-refused t s I L e =
     let a = refused-exactly t s I L StartFit .0 e in
-    unfit-exactly (t .start) (I .weights) (carriedFamily (t .family)) .0 (rw (← a .2 .0 .0 .1 .0) at (a .2 .1))
+    unfit-exactly (t .start) (I .weights) (carriedFamily (t .family)) .0 (a .1)
 
 -- the usual start is never refused with it
 pub usual-never : (t : Settings) (s : Shape) (I : Inputs) (L : Lent) → t .start ≡ Usual → callOf t s I L .answer .number ≡ 27 → ⊥

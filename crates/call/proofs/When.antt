@@ -1,4 +1,4 @@
--- The number that a call answers: each of the table exactly when the table says, 0 or 10 to 13 exactly when every test is passed. Assumes nothing.
+-- The number that a call answers: each of the table exactly when the table says, 0 or 10 to 13 exactly when every test is passed, 5 never. Assumes nothing.
 use mathlib.Core.Path.{_≡_, refl, sym, ap, _∙_}
 use mathlib.Core.Logic.{_↔_, _⊎_, inl, inr, ⊎-elim}
 use Prim.Native.Nat.{ℕ, zero, suc, _≤_}
@@ -9,11 +9,12 @@ use Rattle.model.specs.Inputs.{Inputs}
 use Rattle.model.specs.Items.{tally}
 use Rattle.model.specs.declared.counts.Account.{Account}
 use Rattle.model.specs.declared.ends.Refusal.{Refusal}
-use Rattle.model.specs.declared.ends.Refusal.the-variants.{OutOfRange, Responses, Lengths, Work, SparseRows, NotFinite, LinkForFamily, NotCarried, ResponseRange, StartFit}
+use Rattle.model.specs.declared.ends.Refusal.the-variants.{OutOfRange, Responses, Lengths, Work, SparseRows, NotFinite, LinkForFamily, ResponseRange, StartFit}
 use Rattle.model.specs.declared.sizes.Shape.{Shape}
 use Rattle.model.specs.declared.sizes.Settings.{Settings}
-use Rattle.model.proofs.Answers.{refusal-range, end-range}
-use Rattle.table.specs.When.{GivenWhen, SomeAccepted}
+use Rattle.model.proofs.Answers.{refusal-range, no-five, end-range}
+use Rattle.family.specs.Carried.{carriedFamily, carriedLink}
+use Rattle.table.specs.When.{GivenWhen, PastAll}
 use Rattle.table.proofs.When.{decided, refused-when, accepted-when}
 use Rattle.dispersion.specs.Rounds.{Result, result, noResult, Dispersed}
 use Rattle.call.specs.Fit.{Fitted, resultAnswer, answerOf}
@@ -26,7 +27,7 @@ abbrev refusalOf : ℕ → Refusal
 refusalOf (suc (suc zero)) = Lengths
 refusalOf (suc (suc (suc zero))) = NotFinite
 refusalOf (suc (suc (suc (suc zero)))) = LinkForFamily
-refusalOf (suc (suc (suc (suc (suc zero))))) = NotCarried
+refusalOf (suc (suc (suc (suc (suc zero))))) = OutOfRange
 refusalOf (suc (suc (suc (suc (suc (suc zero)))))) = SparseRows
 refusalOf (suc (suc (suc (suc (suc (suc (suc zero))))))) = Work
 refusalOf (suc (suc (suc (suc (suc (suc (suc (suc zero)))))))) = Responses
@@ -43,7 +44,6 @@ refusal-back Work = refl
 refusal-back SparseRows = refl
 refusal-back NotFinite = refl
 refusal-back LinkForFamily = refl
-refusal-back NotCarried = refl
 refusal-back ResponseRange = refl
 refusal-back StartFit = refl
 
@@ -68,11 +68,13 @@ module _ (t : Settings) (s : Shape) (I : Inputs) (L : Lent) where
   refused : (x : Refusal) → GivenWhen 1 t s I (lengthsOf L) x → callOf t s I L .answer .number ≡ refusalNumber x
   refused x g = ap (λ (z : Left). z .answer .number) (refused-left t s I L x (refused-when 1 t s I (lengthsOf L) x .1 g))
 
-  accepted : SomeAccepted 1 t s I (lengthsOf L) → FitNumber (callOf t s I L .answer .number)
+  accepted : PastAll 1 t s I (lengthsOf L) → FitNumber (callOf t s I L .answer .number)
   unfolding fitLeft answerOf
-  accepted (f, l, g) =
+  accepted g =
+      let f = carriedFamily (t .family) in
+      let l = carriedLink (t .link) in
       let fit = askedFit f l t s I in
-      rw (accepted-left t s I L f l (accepted-when 1 t s I (lengthsOf L) f l .1 g)) (fit-number (fit .outcome) (tally (fit .items)))
+      rw (accepted-left t s I L f l (accepted-when 1 t s I (lengthsOf L) f l .1 (g, (refl, refl)))) (fit-number (fit .outcome) (tally (fit .items)))
 
   -- a number of the table
   pub refused-exactly : (x : Refusal) → (callOf t s I L .answer .number ≡ refusalNumber x) ↔ GivenWhen 1 t s I (lengthsOf L) x
@@ -80,16 +82,16 @@ module _ (t : Settings) (s : Shape) (I : Inputs) (L : Lent) where
     λ e.
         ⊎-elim
         (λ (d : (y : Refusal) × GivenWhen 1 t s I (lengthsOf L) y). let q : d .0 ≡ x = same-refusal (d .0) x (sym (refused (d .0) (d .1)) ∙ e) in rw q at (d .1))
-        (λ (d : SomeAccepted 1 t s I (lengthsOf L)). absurd (not-both x _ e (accepted d)))
+        (λ (d : PastAll 1 t s I (lengthsOf L)). absurd (not-both x _ e (accepted d)))
         (decided 1 t s I (lengthsOf L)),
     refused x,
   )
 
   -- 0 and 10 to 13
-  pub accepted-exactly : FitNumber (callOf t s I L .answer .number) ↔ SomeAccepted 1 t s I (lengthsOf L)
+  pub accepted-exactly : FitNumber (callOf t s I L .answer .number) ↔ PastAll 1 t s I (lengthsOf L)
   accepted-exactly = (
     λ e.
-        ⊎-elim (λ (d : (y : Refusal) × GivenWhen 1 t s I (lengthsOf L) y). absurd (not-both (d .0) _ (refused (d .0) (d .1)) e)) (λ (d : SomeAccepted 1 t s I (lengthsOf L)). d)
+        ⊎-elim (λ (d : (y : Refusal) × GivenWhen 1 t s I (lengthsOf L) y). absurd (not-both (d .0) _ (refused (d .0) (d .1)) e)) (λ (d : PastAll 1 t s I (lengthsOf L)). d)
         (decided 1 t s I (lengthsOf L)),
     accepted,
   )
@@ -98,3 +100,10 @@ module _ (t : Settings) (s : Shape) (I : Inputs) (L : Lent) where
   pub never-eight : callOf t s I L .answer .number ≡ 8 → ⊥
   unfolding GivenWhen
   never-eight e = ff (sym (refused-exactly Responses .0 e .1))
+
+  -- 5 occurs no longer (document 02, P8)
+  pub never-five : callOf t s I L .answer .number ≡ 5 → ⊥
+  never-five e =
+      ⊎-elim (λ (d : (y : Refusal) × GivenWhen 1 t s I (lengthsOf L) y). no-five (d .0) (sym (refused (d .0) (d .1)) ∙ e))
+      (λ (d : PastAll 1 t s I (lengthsOf L)). ⊎-elim (λ (z : callOf t s I L .answer .number ≡ 0). omega (arith, z, e)) (λ (z : (10 ≤ callOf t s I L .answer .number) × (callOf t s I L .answer .number ≤ 13)). omega (arith, z .0, e)) (accepted d))
+      (decided 1 t s I (lengthsOf L))

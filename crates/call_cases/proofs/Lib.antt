@@ -8,3 +8,4 @@ pub mod TwoEffects
 pub mod Joint
 pub mod NoStop
 pub mod GammaRounds
+pub mod ProbitTrials

@@ -1,4 +1,4 @@
-// Runs the elementary functions, as elementary_c hands them to C, on special arguments, on drawn ones and on fed ones, and prints every bit: the argument, sqrt, exp, ln, ln_1p, exp_m1, ln_gamma.
+// Runs the elementary functions, as elementary_c hands them to C, on special arguments, on drawn ones and on fed ones, and prints every bit: the argument, sqrt, exp, ln, ln_1p, exp_m1, ln_gamma, norm_cdf, norm_pdf, norm_quantile.
 ghost use Prim.Native.Nat.{_+_, _<_, _≤_};
 
 // Subnormals; the neighbours of -1, 1 and 2; then where the algorithms' branches begin, with their neighbours.
@@ -74,6 +74,9 @@ fn line(x: f64) {
     text::put_double(elementary_c::glmm_ln_1p(x));
     text::put_double(elementary_c::glmm_exp_m1(x));
     text::put_double(elementary_c::glmm_ln_gamma(x));
+    text::put_double(elementary_c::glmm_norm_cdf(x));
+    text::put_double(elementary_c::glmm_norm_pdf(x));
+    text::put_double(elementary_c::glmm_norm_quantile(x));
     text::end_line();
 }
 

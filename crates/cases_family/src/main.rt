@@ -5,7 +5,7 @@ use model::Family;
 use model::Link;
 
 // The neighbours of 1 and E; then ordinary means and predictors, and where the formulas turn.
-const VALUES: [u64; 54] = [
+const VALUES: [u64; 63] = [
     0x3fef_ffff_ffff_ffff,
     0x3ff0_0000_0000_0001,
     0x3caf_ffff_ffff_ffff,
@@ -60,6 +60,15 @@ const VALUES: [u64; 54] = [
     0x418f_f2b6_0000_0000,
     0x4190_3664_0000_0000,
     0x3e50_1b2b_29a4_692b,
+    0xc020_4074_bdbf_8864,
+    0xc020_4074_bdbf_8865,
+    0x4020_3293_d7de_204f,
+    0x4020_3293_d7de_2050,
+    0x4020_c353_168a_6a20,
+    0x4020_c353_168a_6a21,
+    0xc020_c353_168a_6a21,
+    0x4044_0000_0000_0000,
+    0xc044_0000_0000_0000,
 ];
 
 // Responses within the families' ranges, at their ends and outside.
@@ -127,6 +136,7 @@ fn fun_line(x: f64) {
     text::put_word(b"fun");
     text::put_double(x);
     text::put_double(family::link_fun(CarriedLink::Logit, x));
+    text::put_double(family::link_fun(CarriedLink::Probit, x));
     text::put_double(family::link_fun(CarriedLink::Cloglog, x));
     text::put_double(family::link_fun(CarriedLink::Log, x));
     text::put_double(family::link_fun(CarriedLink::Identity, x));
@@ -139,6 +149,7 @@ fn inv_line(x: f64) {
     text::put_word(b"inv");
     text::put_double(x);
     text::put_double(family::link_inv(CarriedLink::Logit, x));
+    text::put_double(family::link_inv(CarriedLink::Probit, x));
     text::put_double(family::link_inv(CarriedLink::Cloglog, x));
     text::put_double(family::link_inv(CarriedLink::Log, x));
     text::put_double(family::link_inv(CarriedLink::Identity, x));
@@ -151,6 +162,7 @@ fn eta_line(x: f64) {
     text::put_word(b"eta");
     text::put_double(x);
     text::put_double(family::mu_eta(CarriedLink::Logit, x));
+    text::put_double(family::mu_eta(CarriedLink::Probit, x));
     text::put_double(family::mu_eta(CarriedLink::Cloglog, x));
     text::put_double(family::mu_eta(CarriedLink::Log, x));
     text::put_double(family::mu_eta(CarriedLink::Identity, x));
@@ -198,7 +210,7 @@ fn specials() {
 
 fn ordinary() {
     let mut i = 0;
-    while i < 54 {
+    while i < 63 {
         element_lines(base::double(VALUES[i]));
         i += 1;
     }
@@ -302,10 +314,8 @@ fn valid_line(family: Family) {
 }
 
 fn put_link(link: Link) {
-    match family::carried_link(link) {
-        family::LinkCarried::Carried(_) => text::put_count(1),
-        family::LinkCarried::NotYet => text::put_count(0),
-    }
+    let carried = family::carried_link(link);
+    text::put_count(model::link_code(family::link_of(carried)) as u64);
 }
 
 fn put_family(family: Family) {
@@ -317,7 +327,7 @@ fn put_family(family: Family) {
     }
 }
 
-// Seven links, of which all but probit are carried, and four families by their codes.
+// Seven links and four families, all carried, by their codes.
 fn carried() {
     text::put_word(b"carried");
     put_link(Link::Logit);

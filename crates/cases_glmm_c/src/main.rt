@@ -47,6 +47,9 @@ fn put_values(x: f64) {
     text::put_double(glmm_c::glmm_ln_1p(x));
     text::put_double(glmm_c::glmm_exp_m1(x));
     text::put_double(glmm_c::glmm_ln_gamma(x));
+    text::put_double(glmm_c::glmm_norm_cdf(x));
+    text::put_double(glmm_c::glmm_norm_pdf(x));
+    text::put_double(glmm_c::glmm_norm_quantile(x));
     text::end_line();
 }
 

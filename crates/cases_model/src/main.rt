@@ -182,8 +182,7 @@ fn next_refusal() -> Refusal {
         4 => Refusal::SparseRows,
         5 => Refusal::NotFinite,
         6 => Refusal::LinkForFamily,
-        7 => Refusal::NotCarried,
-        8 => Refusal::ResponseRange,
+        7 => Refusal::ResponseRange,
         _ => Refusal::StartFit,
     }
 }

@@ -1,8 +1,6 @@
 // Runs the tries of one iteration on two observations, and single tries, and prints every bit of what they answer and leave.
 // The rows stand one behind the other, the previous predictor, the candidate, the raw predictor and the means, and a last place stays as it was.
 // A case is fed as tools/cases/tries.py says.
-use family::CarriedLink;
-use family::LinkCarried;
 use model::Account;
 use tries::TriesEnd;
 use tries::Try;
@@ -44,20 +42,12 @@ fn put_try(t: Try) {
     }
 }
 
-// Sqrt stands for every link that is not carried.
-fn next_link() -> CarriedLink {
-    match family::carried_link(fed::link()) {
-        LinkCarried::Carried(link) => link,
-        LinkCarried::NotYet => CarriedLink::Sqrt,
-    }
-}
-
 // The tries of an iteration where the step is zero, else the one try with it; then the four rows and the last place.
 fn run(u: &[f64], w: &[f64], z: &[f64], rows: &mut [f64])
     requires { ⌜ (length (now u) ≡ 2) × (length (now w) ≡ 2) × (length (now z) ≡ 2) × (length (now rows) ≡ 9) ⌝ }
 {
     let step = fed::number();
-    let link = next_link();
+    let link = family::carried_link(fed::link());
     if step == 0.0 {
         put_tries(tries::tries(link, 2, 2, 0, 2, 4, 6, u, w, z, rows));
         text::put_list(b"", rows, 9);

@@ -1,16 +1,18 @@
--- The floors: which derivatives and variances are kept off zero, and which are not. Document 01, module 3. Assumes nothing.
+-- The floors: which derivatives and variances are kept off zero, and which are not. Document 01, module 3, and document 02, P8. Assumes nothing.
 use mathlib.Core.Path.{_≡_, refl, sym, ap}
 use mathlib.Core.Bool.{Bool, true, false}
 use lib.Dec.{T}
 use lib.Ieee.{Float, nan, inf, fin, binary64, neg, add, sub, mul, lt, eq, le, isNan, ofBits}
 use lib.Ieee.Bits.{is-true}
 use lib.Ieee.Positive.{positive, above-of-le, mul-mono}
-use Rattle.base.specs.Number.{_⊖_, _⊗_, bits, zeroF, oneF, epsF, maxF, clampF}
+use Rattle.base.specs.Number.{_⊖_, _⊗_, bits, zeroF, oneF, epsF, absF, maxF, clampF}
 use Rattle.elementary.specs.Exp.{expOf}
 use Rattle.elementary.proofs.ExpFacts.{exp-nan, exp-minus-inf, exp-never-below-zero}
+use Rattle.normal.specs.Normal.{normPdf}
+use Rattle.normal.proofs.NormalFacts.{pdf-nan, pdf-far}
 use Rattle.family.specs.Link.{clampE, muEta}
 use Rattle.family.specs.Family.{varianceOf, initializeMu}
-use Rattle.family.specs.declared.carried.CarriedLink.the-variants.{Logit, Cloglog, Log, Inverse, Sqrt}
+use Rattle.family.specs.declared.carried.CarriedLink.the-variants.{Logit, Probit, Cloglog, Log, Inverse, Sqrt}
 use Rattle.family.specs.declared.carried.CarriedFamily.the-variants.{Binomial, Poisson, Gamma}
 use Rattle.base.proofs.Doubles.{ff}
 use Rattle.base.proofs.Order.{max-from, le-turned, clamp-again}
@@ -24,6 +26,10 @@ pub logit-slope-from : (eta : Float) → le epsF (muEta Logit eta) ≡ true
 unfolding muEta
 logit-slope-from eta = floor _
 
+pub probit-slope-from : (eta : Float) → le epsF (muEta Probit eta) ≡ true
+unfolding muEta
+probit-slope-from eta = floor _
+
 pub cloglog-slope-from : (eta : Float) → le epsF (muEta Cloglog eta) ≡ true
 unfolding muEta
 cloglog-slope-from eta = floor _
@@ -31,6 +37,15 @@ cloglog-slope-from eta = floor _
 pub sqrt-slope-from : (eta : Float) → le epsF (muEta Sqrt eta) ≡ true
 unfolding muEta
 sqrt-slope-from eta = floor _
+
+-- probit's is E of a NaN, which `max` drops, and at both infinities, where the density is 0
+pub probit-slope-of-nan : muEta Probit nan ≡ epsF
+unfolding muEta maxF lt isNan ofBits
+probit-slope-of-nan = rw pdf-nan
+
+pub probit-slope-far : (s : Bool) → muEta Probit (inf s) ≡ epsF
+unfolding muEta maxF lt le eq isNan absF ofBits
+probit-slope-far s = rw (pdf-far (inf s) refl)
 
 -- the inverse link's: at most -E, as the minus comes last
 pub inverse-slope-to : (eta : Float) → le (muEta Inverse eta) (neg epsF) ≡ true

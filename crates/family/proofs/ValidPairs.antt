@@ -1,5 +1,5 @@
--- R's table of links and families, each pair; the default links are valid; a carried link is found again by its link, and only probit is not carried. Assumes nothing.
-use mathlib.Core.Path.{_≡_, refl, sym, ap}
+-- R's table of links and families, each pair; the default links are valid; link and carried link are found again by each other, so that every link is carried, once; probit goes with binomial alone. Document 01, "What the port carries"; document 02, P8. Assumes nothing.
+use mathlib.Core.Path.{_≡_, refl}
 use mathlib.Core.Bool.{Bool, true, false}
 use mathlib.Core.List.{List, [], _∷_, map}
 use Rattle.model.specs.declared.names.Family.{Family}
@@ -8,8 +8,6 @@ use Rattle.model.specs.declared.names.Link.{Link}
 use Rattle.model.specs.declared.names.Link.the-variants.{Logit, Probit, Cloglog, Log, Identity, Inverse, Sqrt}
 use Rattle.family.specs.Carried.{carriedLink, linkOf, linksFor, among, validFor, defaultFor}
 use Rattle.base.proofs.Doubles.{ff}
-use Rattle.family.specs.declared.carried.LinkCarried.{LinkCarried}
-use Rattle.family.specs.declared.carried.LinkCarried.the-variants as linkCarried
 use Rattle.family.specs.declared.carried.CarriedLink.{CarriedLink}
 use Rattle.family.specs.declared.carried.CarriedLink.the-variants as link
 
@@ -42,29 +40,26 @@ default-is-valid Poisson = refl
 default-is-valid Gaussian = refl
 default-is-valid Gamma = refl
 
--- a carried link is the one that its own link is mapped to
-pub carried-link-of : (l : CarriedLink) → carriedLink (linkOf l) ≡ linkCarried.Carried l
+-- ---- a carried link is the one that its own link is mapped to, and a link that of its carried one
+pub carried-link-of : (l : CarriedLink) → carriedLink (linkOf l) ≡ l
 carried-link-of link.Logit = refl
+carried-link-of link.Probit = refl
 carried-link-of link.Cloglog = refl
 carried-link-of link.Log = refl
 carried-link-of link.Identity = refl
 carried-link-of link.Inverse = refl
 carried-link-of link.Sqrt = refl
 
--- ---- a link that is not carried is probit, and goes with binomial alone
-abbrev isCarried : LinkCarried → Bool
-isCarried (linkCarried.Carried l) = true
-isCarried linkCarried.NotYet = false
+pub link-of-carried : (l : Link) → linkOf (carriedLink l) ≡ l
+link-of-carried Logit = refl
+link-of-carried Probit = refl
+link-of-carried Cloglog = refl
+link-of-carried Log = refl
+link-of-carried Identity = refl
+link-of-carried Inverse = refl
+link-of-carried Sqrt = refl
 
-pub only-probit : (l : Link) → carriedLink l ≡ linkCarried.NotYet → l ≡ Probit
-only-probit Probit e = refl
-only-probit Logit e = absurd (ff (sym (ap isCarried e)))
-only-probit Cloglog e = absurd (ff (sym (ap isCarried e)))
-only-probit Log e = absurd (ff (sym (ap isCarried e)))
-only-probit Identity e = absurd (ff (sym (ap isCarried e)))
-only-probit Inverse e = absurd (ff (sym (ap isCarried e)))
-only-probit Sqrt e = absurd (ff (sym (ap isCarried e)))
-
+-- probit goes with binomial alone
 pub probit-for-binomial : (f : Family) → validFor Probit f ≡ true → f ≡ Binomial
 unfolding validFor among linksFor
 probit-for-binomial Binomial e = refl

@@ -1,4 +1,4 @@
--- What of the links and families is carried, each family's default link, and which pairs are valid. Document 01, "What the port carries", as amended by document 02, P2; `Link` of family.rs. Assumes nothing.
+-- What of the links and families is carried, each family's default link, and which pairs are valid. Document 01, "What the port carries", as amended by document 02, P2 and P8; `Link` of family.rs. Assumes nothing.
 use mathlib.Core.Bool.{Bool, false, _||_}
 use mathlib.Core.List.{List, [], _∷_}
 use Prim.Native.Nat.{ℕ}
@@ -8,26 +8,25 @@ use Rattle.model.specs.declared.names.Family.{Family}
 use Rattle.model.specs.declared.names.Family.the-variants.{Binomial, Poisson, Gaussian, Gamma}
 use Rattle.model.specs.declared.names.Link.{Link}
 use Rattle.model.specs.declared.names.Link.the-variants.{Logit, Probit, Cloglog, Log, Identity, Inverse, Sqrt}
-use Rattle.family.specs.declared.carried.LinkCarried.{LinkCarried}
-use Rattle.family.specs.declared.carried.LinkCarried.the-variants as linkCarried
 use Rattle.family.specs.declared.carried.CarriedLink.{CarriedLink}
 use Rattle.family.specs.declared.carried.CarriedLink.the-variants as link
 use Rattle.family.specs.declared.carried.CarriedFamily.{CarriedFamily}
 use Rattle.family.specs.declared.carried.CarriedFamily.the-variants as family
 
--- every link but probit
-abbrev pub carriedLink : Link → LinkCarried
-carriedLink Logit = linkCarried.Carried link.Logit
-carriedLink Probit = linkCarried.NotYet
-carriedLink Cloglog = linkCarried.Carried link.Cloglog
-carriedLink Log = linkCarried.Carried link.Log
-carriedLink Identity = linkCarried.Carried link.Identity
-carriedLink Inverse = linkCarried.Carried link.Inverse
-carriedLink Sqrt = linkCarried.Carried link.Sqrt
+-- every link
+abbrev pub carriedLink : Link → CarriedLink
+carriedLink Logit = link.Logit
+carriedLink Probit = link.Probit
+carriedLink Cloglog = link.Cloglog
+carriedLink Log = link.Log
+carriedLink Identity = link.Identity
+carriedLink Inverse = link.Inverse
+carriedLink Sqrt = link.Sqrt
 
 -- the link that a carried one is
 abbrev pub linkOf : CarriedLink → Link
 linkOf link.Logit = Logit
+linkOf link.Probit = Probit
 linkOf link.Cloglog = Cloglog
 linkOf link.Log = Log
 linkOf link.Identity = Identity

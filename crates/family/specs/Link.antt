@@ -1,4 +1,4 @@
--- The links that are carried: predictor of a mean, mean of a predictor, derivative of the mean. Document 01, module 3; `GlmLink` of family.rs. Assumes nothing.
+-- The links that are carried: predictor of a mean, mean of a predictor, derivative of the mean. Document 01, module 3, and document 02, P8; `GlmLink` of family.rs. Assumes nothing.
 use mathlib.Core.Bool.{cond}
 use lib.Ieee.{Float, neg}
 use Rattle.base.specs.Number.{_⊕_, _⊖_, _⊗_, _⊘_, zeroF, oneF, twoF, epsF, infinite, maxF, clampF}
@@ -7,8 +7,10 @@ use Rattle.elementary.specs.Exp.{expOf}
 use Rattle.elementary.specs.Expm1.{expm1Of}
 use Rattle.elementary.specs.Log.{lnOf}
 use Rattle.elementary.specs.Log1p.{ln1pOf}
+use Rattle.normal.specs.Normal.{normPdf, normCdf}
+use Rattle.normal.specs.Quantile.{normQuantile}
 use Rattle.family.specs.declared.carried.CarriedLink.{CarriedLink}
-use Rattle.family.specs.declared.carried.CarriedLink.the-variants.{Logit, Cloglog, Log, Identity, Inverse, Sqrt}
+use Rattle.family.specs.declared.carried.CarriedLink.the-variants.{Logit, Probit, Cloglog, Log, Identity, Inverse, Sqrt}
 
 -- `clamp(f64::EPSILON, 1.0 - f64::EPSILON)`
 unfoldable pub clampE : Float → Float
@@ -17,6 +19,7 @@ clampE p = clampF epsF (oneF ⊖ epsF) p
 -- `link_fun`: the predictor of a mean
 unfoldable pub linkFun : CarriedLink → Float → Float
 linkFun Logit mu = let m = clampE mu in lnOf (m ⊘ (oneF ⊖ m))
+linkFun Probit mu = normQuantile (clampE mu)
 linkFun Cloglog mu = lnOf (neg (ln1pOf (neg (clampE mu))))
 linkFun Log mu = lnOf mu
 linkFun Identity mu = mu
@@ -30,6 +33,7 @@ logistic e = oneF ⊘ (oneF ⊕ expOf (neg e))
 -- `link_inv`: the mean of a predictor; cloglog's `-e.exp()` is -(exp e)
 unfoldable pub linkInv : CarriedLink → Float → Float
 linkInv Logit eta = clampE (logistic eta)
+linkInv Probit eta = clampE (normCdf eta)
 linkInv Cloglog eta = clampE (neg (expm1Of (neg (expOf eta))))
 linkInv Log eta = expOf eta
 linkInv Identity eta = eta
@@ -43,6 +47,7 @@ cloglogSlope x = cond (infinite x) zeroF (x ⊗ expOf (neg x))
 -- `mu_eta`: the derivative of the mean, with its floors; in the inverse link the minus comes last
 unfoldable pub muEta : CarriedLink → Float → Float
 muEta Logit eta = let p = logistic eta in maxF (p ⊗ (oneF ⊖ p)) epsF
+muEta Probit eta = maxF (normPdf eta) epsF
 muEta Cloglog eta = maxF (cloglogSlope (expOf eta)) epsF
 muEta Log eta = expOf eta
 muEta Identity eta = oneF

@@ -7,6 +7,7 @@ ghost use Rattle.family.specs.Carried.{carriedLink, linkOf, carriedFamil
 // The links that have their formulas here.
 pub enum CarriedLink {
     Logit,
+    Probit,
     Cloglog,
     Log,
     Identity,
@@ -22,24 +23,18 @@ pub enum CarriedFamily {
     Gamma,
 }
 
-// A link's formulas, or that they are still to come.
-pub enum LinkCarried {
-    Carried(CarriedLink),
-    NotYet,
-}
-
 // The one way to a carried link.
-pub fn carried_link(link: Link) -> LinkCarried
+pub fn carried_link(link: Link) -> CarriedLink
     ensures { λ r. ⌜ r ≡ carriedLink link ⌝ }
 {
     match link {
-        Link::Logit => LinkCarried::Carried(CarriedLink::Logit),
-        Link::Probit => LinkCarried::NotYet,
-        Link::Cloglog => LinkCarried::Carried(CarriedLink::Cloglog),
-        Link::Log => LinkCarried::Carried(CarriedLink::Log),
-        Link::Identity => LinkCarried::Carried(CarriedLink::Identity),
-        Link::Inverse => LinkCarried::Carried(CarriedLink::Inverse),
-        Link::Sqrt => LinkCarried::Carried(CarriedLink::Sqrt),
+        Link::Logit => CarriedLink::Logit,
+        Link::Probit => CarriedLink::Probit,
+        Link::Cloglog => CarriedLink::Cloglog,
+        Link::Log => CarriedLink::Log,
+        Link::Identity => CarriedLink::Identity,
+        Link::Inverse => CarriedLink::Inverse,
+        Link::Sqrt => CarriedLink::Sqrt,
     }
 }
 
@@ -49,6 +44,7 @@ pub fn link_of(link: CarriedLink) -> Link
 {
     match link {
         CarriedLink::Logit => Link::Logit,
+        CarriedLink::Probit => Link::Probit,
         CarriedLink::Cloglog => Link::Cloglog,
         CarriedLink::Log => Link::Log,
         CarriedLink::Identity => Link::Identity,

@@ -5,7 +5,6 @@ mod links;
 
 pub use carried::CarriedFamily;
 pub use carried::CarriedLink;
-pub use carried::LinkCarried;
 pub use carried::carried_family;
 pub use carried::carried_link;
 pub use carried::default_for;

@@ -8,6 +8,9 @@ use elementary::exp;
 use elementary::exp_m1;
 use elementary::ln;
 use elementary::ln_1p;
+use normal::norm_cdf;
+use normal::norm_pdf;
+use normal::norm_quantile;
 use root::sqrt;
 ghost use mathlib.Core.Path.{_≡_};
 ghost use Rattle.family.specs.Link.{clampE, logistic, cloglogSlope, linkFun, linkInv, muEta};
@@ -45,6 +48,7 @@ pub fn link_fun(link: CarriedLink, mu: f64) -> f64
             let m = inside(mu);
             ln(m / (1.0 - m))
         }
+        CarriedLink::Probit => norm_quantile(inside(mu)),
         CarriedLink::Cloglog => ln(-ln_1p(-inside(mu))),
         CarriedLink::Log => ln(mu),
         CarriedLink::Identity => mu,
@@ -59,6 +63,7 @@ pub fn link_inv(link: CarriedLink, eta: f64) -> f64
 {
     match link {
         CarriedLink::Logit => inside(expit(eta)),
+        CarriedLink::Probit => inside(norm_cdf(eta)),
         CarriedLink::Cloglog => inside(-exp_m1(-exp(eta))),
         CarriedLink::Log => exp(eta),
         CarriedLink::Identity => eta,
@@ -79,6 +84,7 @@ pub fn mu_eta(link: CarriedLink, eta: f64) -> f64
             let p = expit(eta);
             max(p * (1.0 - p), EPSILON)
         }
+        CarriedLink::Probit => max(norm_pdf(eta), EPSILON),
         CarriedLink::Cloglog => max(cloglog_slope(exp(eta)), EPSILON),
         CarriedLink::Log => exp(eta),
         CarriedLink::Identity => 1.0,

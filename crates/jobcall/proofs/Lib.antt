@@ -2,5 +2,6 @@
 pub mod Stores
 pub mod Telling
 pub mod Kept
+pub mod NeverFive
 pub mod Unique
 pub mod Higher

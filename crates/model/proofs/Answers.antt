@@ -10,9 +10,9 @@ use Rattle.model.specs.declared.ends.Answer.{Answer}
 use Rattle.model.specs.declared.ends.End.{End}
 use Rattle.model.specs.declared.ends.End.the-variants.{SystemPivot, NormalPivot, NoStep, NoStop}
 use Rattle.model.specs.declared.ends.Refusal.{Refusal}
-use Rattle.model.specs.declared.ends.Refusal.the-variants.{OutOfRange, Responses, Lengths, Work, SparseRows, NotFinite, LinkForFamily, NotCarried, ResponseRange, StartFit}
+use Rattle.model.specs.declared.ends.Refusal.the-variants.{OutOfRange, Responses, Lengths, Work, SparseRows, NotFinite, LinkForFamily, ResponseRange, StartFit}
 
--- refusals are 1 to 9 and 27
+-- refusals are 1 to 9, but 5, and 27
 pub refusal-range : (r : Refusal) → (1 ≤ refusalNumber r) × ((refusalNumber r ≤ 9) ⊎ (refusalNumber r ≡ 27))
 refusal-range OutOfRange = (omega arith, inl (omega arith))
 refusal-range Responses = (omega arith, inl (omega arith))
@@ -21,9 +21,20 @@ refusal-range Work = (omega arith, inl (omega arith))
 refusal-range SparseRows = (omega arith, inl (omega arith))
 refusal-range NotFinite = (omega arith, inl (omega arith))
 refusal-range LinkForFamily = (omega arith, inl (omega arith))
-refusal-range NotCarried = (omega arith, inl (omega arith))
 refusal-range ResponseRange = (omega arith, inl (omega arith))
 refusal-range StartFit = (omega arith, inr refl)
+
+-- 5 is no refusal's (document 02, P8)
+pub no-five : (r : Refusal) → refusalNumber r ≡ 5 → ⊥
+no-five OutOfRange e = omega arith
+no-five Responses e = omega arith
+no-five Lengths e = omega arith
+no-five Work e = omega arith
+no-five SparseRows e = omega arith
+no-five NotFinite e = omega arith
+no-five LinkForFamily e = omega arith
+no-five ResponseRange e = omega arith
+no-five StartFit e = omega arith
 
 -- ends without a result are 10 to 13
 pub end-range : (e : End) → (10 ≤ endNumber e) × (endNumber e ≤ 13)
@@ -41,7 +52,6 @@ refusal-no-end Work = refl
 refusal-no-end SparseRows = refl
 refusal-no-end NotFinite = refl
 refusal-no-end LinkForFamily = refl
-refusal-no-end NotCarried = refl
 refusal-no-end ResponseRange = refl
 refusal-no-end StartFit = refl
 

@@ -1,4 +1,4 @@
--- How a call can end, and the record that it answers. Document 01, "Numbers of an answer"; document 02, P1, P5, P6 and P10. Assumes nothing.
+-- How a call can end, and the record that it answers. Document 01, "Numbers of an answer"; document 02, P1, P5, P6, P8 and P10. Assumes nothing.
 use mathlib.Core.Path.{_≡_}
 use mathlib.Core.Bool.{Bool, true, false}
 use Prim.Native.Nat.{ℕ}
@@ -11,7 +11,7 @@ use Rattle.model.specs.declared.ends.Answer.{Answer}
 use Rattle.model.specs.declared.ends.End.{End}
 use Rattle.model.specs.declared.ends.End.the-variants.{SystemPivot, NormalPivot, NoStep, NoStop}
 use Rattle.model.specs.declared.ends.Refusal.{Refusal}
-use Rattle.model.specs.declared.ends.Refusal.the-variants.{OutOfRange, Responses, Lengths, Work, SparseRows, NotFinite, LinkForFamily, NotCarried, ResponseRange, StartFit}
+use Rattle.model.specs.declared.ends.Refusal.the-variants.{OutOfRange, Responses, Lengths, Work, SparseRows, NotFinite, LinkForFamily, ResponseRange, StartFit}
 
 -- the number under which each end without a result is told
 abbrev pub endNumber : End → ℕ
@@ -20,7 +20,7 @@ endNumber NormalPivot = 11
 endNumber NoStep = 12
 endNumber NoStop = 13
 
--- the number under which each refusal is told; the lines stand in the order in which they are tested
+-- the number under which each refusal is told; the lines stand in the order in which they are tested. 5 was told of a link that was not carried: since document 02, P8, there is none, and the number stays free
 abbrev pub refusalNumber : Refusal → ℕ
 refusalNumber OutOfRange = 1
 refusalNumber Responses = 8
@@ -29,7 +29,6 @@ refusalNumber Work = 7
 refusalNumber SparseRows = 6
 refusalNumber NotFinite = 3
 refusalNumber LinkForFamily = 4
-refusalNumber NotCarried = 5
 refusalNumber ResponseRange = 9
 refusalNumber StartFit = 27
 

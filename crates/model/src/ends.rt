@@ -31,8 +31,6 @@ pub enum Refusal {
     NotFinite,
     // The family does not go with the link.
     LinkForFamily,
-    // They go together, but the port does not carry one of them.
-    NotCarried,
     // Some response lies outside its family's range.
     ResponseRange,
     // The start asked for goes with the binomial family and no weight below 0, and this is not so.
@@ -64,7 +62,7 @@ pub fn end_number(end: End) -> usize
     }
 }
 
-// The number under which the refusal is told.
+// The number under which the refusal is told; 5 is free.
 pub fn refusal_number(refusal: Refusal) -> usize
     ensures { λ r. ⌜ r ≡ refusalNumber refusal ⌝ }
 {
@@ -76,7 +74,6 @@ pub fn refusal_number(refusal: Refusal) -> usize
         Refusal::SparseRows => 6,
         Refusal::NotFinite => 3,
         Refusal::LinkForFamily => 4,
-        Refusal::NotCarried => 5,
         Refusal::ResponseRange => 9,
         Refusal::StartFit => 27,
     }

@@ -19,7 +19,7 @@ use Rattle.family.specs.declared.carried.CarriedLink.the-variants.{Log}
 use Rattle.rule.specs.Run.{itemsBefore, failedAfter, runFrom, runOf}
 use Rattle.agq_rule.specs.Inner.{afterRun, innerWith, innerOf}
 use Rattle.table.specs.Tests.{absentOr, goodInputs, goodResults, goodWork, allFinite, finiteNumbers, allInRange, startFits}
-use Rattle.table.specs.Table.{refuseUnless, withLink, carriedPair, tested, tableOf}
+use Rattle.table.specs.Table.{refuseUnless, tableOf}
 use Rattle.table.specs.declared.verdicts.Verdict.the-variants.{Accepted}
 use Rattle.dispersion.specs.Rounds.{noResult, withFlag, lastFit, fixedOf}
 use Rattle.job.proofs.JobCases.{caseJ, jobJ, caseJ-read}
@@ -34,7 +34,7 @@ use Rattle.output.specs.Output.{slicesFor, callFor, leftText, outputBy, 
 
 -- it is accepted
 accepted-J : tableOf 1 (jobJ .settings) (jobJ .shape) (inputsOf jobJ) (lengthsOf (slicesFor (jobJ .settings))) ≡ Accepted Poisson Log
-unfolding tableOf refuseUnless goodSizes goodLimit goodShape goodBlock totalTo blockEffects blockThetas allTo goodInputs absentOr goodResults goodWork lengthsOf slicesFor zeros goodRows goodRow goodStarts goodColumns columnFits notFalling finiteNumbers allFinite finite ofBits validFor linksFor among carriedPair withLink tested allInRange inRange le lt eq startFits
+unfolding tableOf refuseUnless goodSizes goodLimit goodShape goodBlock totalTo blockEffects blockThetas allTo goodInputs absentOr goodResults goodWork lengthsOf slicesFor zeros goodRows goodRow goodStarts goodColumns columnFits notFalling finiteNumbers allFinite finite ofBits validFor linksFor among allInRange inRange le lt eq startFits
 accepted-J = refl
 
 -- no iteration is left to do

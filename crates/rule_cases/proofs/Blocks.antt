@@ -20,6 +20,9 @@ use Rattle.elementary.specs.LogPoly.{nearPoly, nearSum, nearOf, lnSum}
 use Rattle.elementary.specs.Parts.{wholeOf, powerOf, inversePowerOf}
 use Rattle.log_gamma.specs.LogGamma.{nextOf, belowTwo, productOf, loweredOf, belowEight, seriesOf, stirlingBy, stirlingOf, lnGammaOf}
 use Rattle.log_gamma.specs.Near.{aboutTwo, aboutLeast, aboutOne, belowThree}
+use Rattle.normal.specs.Normal.{densityOf, normPdf, fromZeroToOne, normCdf}
+use Rattle.normal.specs.Quantile.{centralOf, nearPart, distantPart, guessBy, guessOf, upperQuantile, insideOf, normQuantile}
+use Rattle.normal.specs.Tail.{onGrid, halfSquare, halfRest, rootRest, erfRest, takenFrom, tailNear, erfcNearOne, tailMiddle, innerPart, outerPart, farPart, tailBy, tailFar, upperTail}
 use Rattle.model.specs.Account.{_⊞_}
 use Rattle.model.specs.Answer.{refusedAnswer, unfittedAnswer, fittedAnswer}
 use Rattle.model.specs.Caps.{triesCap, pointsCap, innerCapOf}
@@ -60,5 +63,5 @@ abbrev answer : Told
 answer = record { number = 0; iterations = 6; account = record { fits = 1; solves = 6; tries = 6; points = 0; eta = 0; mean = 0; pwrss = 0; ok = 6 }; deviance = bits 0x400b_861c_5fcb_410f; beta = bits 0x3fe5_275b_8d00_7582 ∷ bits 0xbfe0_203d_4c66_b761 ∷ []; se = bits 0x3ff0_de53_9493_8104 ∷ bits 0x3fe8_f30a_ca50_dab2 ∷ []; z = bits 0x3fe4_108d_1730_b662 ∷ bits 0xbfe4_aedd_e7db_76c3 ∷ []; u = bits 0x0000_0000_0000_0000 ∷ bits 0x0000_0000_0000_0000 ∷ bits 0x3fc4_7f16_0e41_9338 ∷ bits 0x3fd4_7f16_0e41_9337 ∷ []; b = bits 0x0000_0000_0000_0000 ∷ bits 0x0000_0000_0000_0000 ∷ bits 0x3fc0_65ab_3e9a_dc2d ∷ bits 0x3fce_bea1_1562_5cd3 ∷ []; mu = bits 0x4001_9225_e29c_69e4 ∷ bits 0x3ff8_a345_51af_1102 ∷ bits 0x400a_1c37_748c_0d9b ∷ []; eta = bits 0x3fe9_2d7b_7c7b_6ba8 ∷ bits 0x3fdb_a0d8_340f_87fc ∷ bits 0x3ff2_ed19_2625_2aa2 ∷ []; residual = bits 0xbff3_244b_c538_d3c8 ∷ bits 0x3fdd_72ea_b943_bbf8 ∷ bits 0x3fe7_8f22_2dcf_c994 ∷ []; v = bits 0x3ff1_c8b8_7a36_9a23 ∷ bits 0xbfc5_8ae5_e170_ea08 ∷ bits 0xbfc5_8ae5_e170_ea08 ∷ bits 0x3fe3_73c6_1b5d_9776 ∷ [] }
 
 pub holds : toldOf job 100 ≡ answer
-unfolding toldMode toldV toldEnding toldOutcome toldOf add sub mul div neg lt le eq ne isNan ofBits toBits ofInt toUnsigned round ruled fillBy fillDown build matrix fillTo fillAt gridTo finite infinite negative absF maxF clampF row notFalling goodStarts columnFits goodColumns goodRow goodRows storedIn findTo placeIn stored valueAt rowSum bothSum sumTo sumFrom addWhere sumWhere allTo anyTo withDigit nearestFrom placeOf rootOf unitsOf sqrtOf expTable expRow logTable logRow reduced rowTail scaleBits excess scaled large refitted fitted small edge ended expMain aboveZero expTwo expFar expOf quotientOf restOf scaledOf upOf downOf grownOf shrunkOf grownBy shrunkBy risingOf fallingOf expm1Main aboveMinusOne expm1Of nearOne lnNear lnRow lnMain lnFar lnOf tailOf lostOf splitOf farOf ln1pMain ln1pOf nearPoly nearSum nearOf lnSum wholeOf powerOf inversePowerOf nextOf belowTwo productOf loweredOf belowEight seriesOf stirlingBy stirlingOf lnGammaOf aboutTwo aboutLeast aboutOne belowThree _⊞_ refusedAnswer unfittedAnswer fittedAnswer triesCap pointsCap innerCapOf countOf tally familyCoded linkCoded startCoded limitOf goodLimit goodSizes totalTo blockEffects blockThetas goodBlock goodShape linksFor among validFor varianceOf successTerm binomialTerm poissonTerm gammaTerm proportion inRange devResid initializeMu trialsMean hasDensity lnDgamma clampE linkFun logistic linkInv cloglogSlope muEta logWeights gaussianTerm gaussianAic densityAt densityTerm gammaAic aicOf aicAnswer each weightSum lengthsAgree devAt ldlTerm ldlSum ldlPivot ldlBelow ldlRule ldlOf ldlPasses ldlEnd choleskyPivot choleskyBelow choleskyRule choleskyOf choleskyPasses choleskyEnd unitAt unitColumn ldlColumn ldlInverseAt ldlColumnAt ldlInverse choleskyColumn choleskyColumnAt choleskyInverse vAt acrossTerm downTerm unitForwardRule unitBackwardRule overDRule forwardRule backwardRule unitForward overD unitBackward forward backward ldlSolve choleskySolve turnedAt swapped rowTurned squareTurned rowsDot triangle rowBy usable positive andThen firstBad reach blockOf columnStart columnIn columnOf isEntry lambdaAt lambdaFull acrossRow downColumn timesTerm lambdaTimesAt transposedTerm lambdaTransposedAt rightTerm rightAt leftTerm systemAt columnAddedAt effectAt normalAt storedTerm ztTimesAt weightedTerm ztwzAt effectTerm zTimesAt addedAt absent plusOffset lessOffset vFrom vOf seAt seOf zValueAt zValues residualAt residualsOf itemsBefore failedAfter afterStop moved afterSearch afterSolve runFrom startMean startMeanAt startMeans startEtaAt startEta startAt runOf ztwzOf rightColumns systemOf factorOf ztTimes sideOf wyOf unsolvedColumn solvedColumn solvedColumnAt solvedColumns normalEntry normalOf normalSideAt normalSide betaOf effectsAfter bOf zTimes rawAt rawOf reducedOf foundWith foundBeta found afterRoot solveRoot solveNormal solveReduced afterFactor solveFactor solveSystem solveWorking solveOf stops deviancesOf devianceSum fitTerm logPivotAt logPivots laplaceOf modeFit modeSum modeDevs modeOf candidateAt candidateOf fineEta meanAt meansOf squareAt addTo pwrssOf afterPwrss tryPwrss afterMeans tryMeans afterEta tryEta tryOf itemBefore afterTry triesFrom triesOf trialOf workingWeight workingWeightAt divisor workingResponse workingResponseAt workingWeights workingResponses targetAt targets weightedTargets weightedColumn
+unfolding toldMode toldV toldEnding toldOutcome toldOf add sub mul div neg lt le eq ne isNan ofBits toBits ofInt toUnsigned round ruled fillBy fillDown build matrix fillTo fillAt gridTo finite infinite negative absF maxF clampF row notFalling goodStarts columnFits goodColumns goodRow goodRows storedIn findTo placeIn stored valueAt rowSum bothSum sumTo sumFrom addWhere sumWhere allTo anyTo withDigit nearestFrom placeOf rootOf unitsOf sqrtOf expTable expRow logTable logRow reduced rowTail scaleBits excess scaled large refitted fitted small edge ended expMain aboveZero expTwo expFar expOf quotientOf restOf scaledOf upOf downOf grownOf shrunkOf grownBy shrunkBy risingOf fallingOf expm1Main aboveMinusOne expm1Of nearOne lnNear lnRow lnMain lnFar lnOf tailOf lostOf splitOf farOf ln1pMain ln1pOf nearPoly nearSum nearOf lnSum wholeOf powerOf inversePowerOf nextOf belowTwo productOf loweredOf belowEight seriesOf stirlingBy stirlingOf lnGammaOf aboutTwo aboutLeast aboutOne belowThree densityOf normPdf fromZeroToOne normCdf centralOf nearPart distantPart guessBy guessOf upperQuantile insideOf normQuantile onGrid halfSquare halfRest rootRest erfRest takenFrom tailNear erfcNearOne tailMiddle innerPart outerPart farPart tailBy tailFar upperTail _⊞_ refusedAnswer unfittedAnswer fittedAnswer triesCap pointsCap innerCapOf countOf tally familyCoded linkCoded startCoded limitOf goodLimit goodSizes totalTo blockEffects blockThetas goodBlock goodShape linksFor among validFor varianceOf successTerm binomialTerm poissonTerm gammaTerm proportion inRange devResid initializeMu trialsMean hasDensity lnDgamma clampE linkFun logistic linkInv cloglogSlope muEta logWeights gaussianTerm gaussianAic densityAt densityTerm gammaAic aicOf aicAnswer each weightSum lengthsAgree devAt ldlTerm ldlSum ldlPivot ldlBelow ldlRule ldlOf ldlPasses ldlEnd choleskyPivot choleskyBelow choleskyRule choleskyOf choleskyPasses choleskyEnd unitAt unitColumn ldlColumn ldlInverseAt ldlColumnAt ldlInverse choleskyColumn choleskyColumnAt choleskyInverse vAt acrossTerm downTerm unitForwardRule unitBackwardRule overDRule forwardRule backwardRule unitForward overD unitBackward forward backward ldlSolve choleskySolve turnedAt swapped rowTurned squareTurned rowsDot triangle rowBy usable positive andThen firstBad reach blockOf columnStart columnIn columnOf isEntry lambdaAt lambdaFull acrossRow downColumn timesTerm lambdaTimesAt transposedTerm lambdaTransposedAt rightTerm rightAt leftTerm systemAt columnAddedAt effectAt normalAt storedTerm ztTimesAt weightedTerm ztwzAt effectTerm zTimesAt addedAt absent plusOffset lessOffset vFrom vOf seAt seOf zValueAt zValues residualAt residualsOf itemsBefore failedAfter afterStop moved afterSearch afterSolve runFrom startMean startMeanAt startMeans startEtaAt startEta startAt runOf ztwzOf rightColumns systemOf factorOf ztTimes sideOf wyOf unsolvedColumn solvedColumn solvedColumnAt solvedColumns normalEntry normalOf normalSideAt normalSide betaOf effectsAfter bOf zTimes rawAt rawOf reducedOf foundWith foundBeta found afterRoot solveRoot solveNormal solveReduced afterFactor solveFactor solveSystem solveWorking solveOf stops deviancesOf devianceSum fitTerm logPivotAt logPivots laplaceOf modeFit modeSum modeDevs modeOf candidateAt candidateOf fineEta meanAt meansOf squareAt addTo pwrssOf afterPwrss tryPwrss afterMeans tryMeans afterEta tryEta tryOf itemBefore afterTry triesFrom triesOf trialOf workingWeight workingWeightAt divisor workingResponse workingResponseAt workingWeights workingResponses targetAt targets weightedTargets weightedColumn
 holds = refl

@@ -20,6 +20,9 @@ use Rattle.elementary.specs.LogPoly.{nearPoly, nearSum, nearOf, lnSum}
 use Rattle.elementary.specs.Parts.{wholeOf, powerOf, inversePowerOf}
 use Rattle.log_gamma.specs.LogGamma.{nextOf, belowTwo, productOf, loweredOf, belowEight, seriesOf, stirlingBy, stirlingOf, lnGammaOf}
 use Rattle.log_gamma.specs.Near.{aboutTwo, aboutLeast, aboutOne, belowThree}
+use Rattle.normal.specs.Normal.{densityOf, normPdf, fromZeroToOne, normCdf}
+use Rattle.normal.specs.Quantile.{centralOf, nearPart, distantPart, guessBy, guessOf, upperQuantile, insideOf, normQuantile}
+use Rattle.normal.specs.Tail.{onGrid, halfSquare, halfRest, rootRest, erfRest, takenFrom, tailNear, erfcNearOne, tailMiddle, innerPart, outerPart, farPart, tailBy, tailFar, upperTail}
 use Rattle.model.specs.Account.{_⊞_}
 use Rattle.model.specs.Answer.{refusedAnswer, unfittedAnswer, fittedAnswer}
 use Rattle.model.specs.Caps.{triesCap, pointsCap, innerCapOf}
@@ -60,5 +63,5 @@ abbrev answer : Told
 answer = record { number = 0; iterations = 2; account = record { fits = 1; solves = 2; tries = 2; points = 0; eta = 0; mean = 0; pwrss = 0; ok = 2 }; deviance = bits 0xc013_f1c0_3f73_f60f; beta = bits 0xbff3_e92d_5cd3_2892 ∷ []; se = bits 0x3ff5_3e66_43b8_2d90 ∷ []; z = bits 0xbfed_fe02_17d8_21cb ∷ []; u = bits 0xbcd4_0000_0000_0000 ∷ bits 0x3cce_74c7_86ff_9d04 ∷ []; b = bits 0xbcd2_0000_0000_0000 ∷ bits 0x3ccb_6919_f97f_a6ea ∷ []; mu = bits 0x3fd0_0534_2d3f_7f7e ∷ bits 0x3fda_9537_a575_7e4e ∷ bits 0x3fc2_56f0_ef42_bc6f ∷ []; eta = bits 0xbff3_e92d_5cd3_2896 ∷ bits 0xbfe3_e92d_5cd3_2895 ∷ bits 0xbffd_ddc4_0b3c_bcd8 ∷ []; residual = bits 0xbf34_d0b4_fdfd_f800 ∷ bits 0x3fb5_ab21_6a2a_06c8 ∷ bits 0x3fe3_6a43_c42f_50e4 ∷ []; v = bits 0x3ffc_34bf_ccdd_eb86 ∷ [] }
 
 pub holds : toldOf job 100 ≡ answer
-unfolding toldMode toldV toldEnding toldOutcome toldOf add sub mul div neg lt le eq ne isNan ofBits toBits ofInt toUnsigned round ruled fillBy fillDown build matrix fillTo fillAt gridTo finite infinite negative absF maxF clampF row notFalling goodStarts columnFits goodColumns goodRow goodRows storedIn findTo placeIn stored valueAt rowSum bothSum sumTo sumFrom addWhere sumWhere allTo anyTo withDigit nearestFrom placeOf rootOf unitsOf sqrtOf expTable expRow logTable logRow reduced rowTail scaleBits excess scaled large refitted fitted small edge ended expMain aboveZero expTwo expFar expOf quotientOf restOf scaledOf upOf downOf grownOf shrunkOf grownBy shrunkBy risingOf fallingOf expm1Main aboveMinusOne expm1Of nearOne lnNear lnRow lnMain lnFar lnOf tailOf lostOf splitOf farOf ln1pMain ln1pOf nearPoly nearSum nearOf lnSum wholeOf powerOf inversePowerOf nextOf belowTwo productOf loweredOf belowEight seriesOf stirlingBy stirlingOf lnGammaOf aboutTwo aboutLeast aboutOne belowThree _⊞_ refusedAnswer unfittedAnswer fittedAnswer triesCap pointsCap innerCapOf countOf tally familyCoded linkCoded startCoded limitOf goodLimit goodSizes totalTo blockEffects blockThetas goodBlock goodShape linksFor among validFor varianceOf successTerm binomialTerm poissonTerm gammaTerm proportion inRange devResid initializeMu trialsMean hasDensity lnDgamma clampE linkFun logistic linkInv cloglogSlope muEta logWeights gaussianTerm gaussianAic densityAt densityTerm gammaAic aicOf aicAnswer each weightSum lengthsAgree devAt ldlTerm ldlSum ldlPivot ldlBelow ldlRule ldlOf ldlPasses ldlEnd choleskyPivot choleskyBelow choleskyRule choleskyOf choleskyPasses choleskyEnd unitAt unitColumn ldlColumn ldlInverseAt ldlColumnAt ldlInverse choleskyColumn choleskyColumnAt choleskyInverse vAt acrossTerm downTerm unitForwardRule unitBackwardRule overDRule forwardRule backwardRule unitForward overD unitBackward forward backward ldlSolve choleskySolve turnedAt swapped rowTurned squareTurned rowsDot triangle rowBy usable positive andThen firstBad reach blockOf columnStart columnIn columnOf isEntry lambdaAt lambdaFull acrossRow downColumn timesTerm lambdaTimesAt transposedTerm lambdaTransposedAt rightTerm rightAt leftTerm systemAt columnAddedAt effectAt normalAt storedTerm ztTimesAt weightedTerm ztwzAt effectTerm zTimesAt addedAt absent plusOffset lessOffset vFrom vOf seAt seOf zValueAt zValues residualAt residualsOf itemsBefore failedAfter afterStop moved afterSearch afterSolve runFrom startMean startMeanAt startMeans startEtaAt startEta startAt runOf ztwzOf rightColumns systemOf factorOf ztTimes sideOf wyOf unsolvedColumn solvedColumn solvedColumnAt solvedColumns normalEntry normalOf normalSideAt normalSide betaOf effectsAfter bOf zTimes rawAt rawOf reducedOf foundWith foundBeta found afterRoot solveRoot solveNormal solveReduced afterFactor solveFactor solveSystem solveWorking solveOf stops deviancesOf devianceSum fitTerm logPivotAt logPivots laplaceOf modeFit modeSum modeDevs modeOf candidateAt candidateOf fineEta meanAt meansOf squareAt addTo pwrssOf afterPwrss tryPwrss afterMeans tryMeans afterEta tryEta tryOf itemBefore afterTry triesFrom triesOf trialOf workingWeight workingWeightAt divisor workingResponse workingResponseAt workingWeights workingResponses targetAt targets weightedTargets weightedColumn
+unfolding toldMode toldV toldEnding toldOutcome toldOf add sub mul div neg lt le eq ne isNan ofBits toBits ofInt toUnsigned round ruled fillBy fillDown build matrix fillTo fillAt gridTo finite infinite negative absF maxF clampF row notFalling goodStarts columnFits goodColumns goodRow goodRows storedIn findTo placeIn stored valueAt rowSum bothSum sumTo sumFrom addWhere sumWhere allTo anyTo withDigit nearestFrom placeOf rootOf unitsOf sqrtOf expTable expRow logTable logRow reduced rowTail scaleBits excess scaled large refitted fitted small edge ended expMain aboveZero expTwo expFar expOf quotientOf restOf scaledOf upOf downOf grownOf shrunkOf grownBy shrunkBy risingOf fallingOf expm1Main aboveMinusOne expm1Of nearOne lnNear lnRow lnMain lnFar lnOf tailOf lostOf splitOf farOf ln1pMain ln1pOf nearPoly nearSum nearOf lnSum wholeOf powerOf inversePowerOf nextOf belowTwo productOf loweredOf belowEight seriesOf stirlingBy stirlingOf lnGammaOf aboutTwo aboutLeast aboutOne belowThree densityOf normPdf fromZeroToOne normCdf centralOf nearPart distantPart guessBy guessOf upperQuantile insideOf normQuantile onGrid halfSquare halfRest rootRest erfRest takenFrom tailNear erfcNearOne tailMiddle innerPart outerPart farPart tailBy tailFar upperTail _⊞_ refusedAnswer unfittedAnswer fittedAnswer triesCap pointsCap innerCapOf countOf tally familyCoded linkCoded startCoded limitOf goodLimit goodSizes totalTo blockEffects blockThetas goodBlock goodShape linksFor among validFor varianceOf successTerm binomialTerm poissonTerm gammaTerm proportion inRange devResid initializeMu trialsMean hasDensity lnDgamma clampE linkFun logistic linkInv cloglogSlope muEta logWeights gaussianTerm gaussianAic densityAt densityTerm gammaAic aicOf aicAnswer each weightSum lengthsAgree devAt ldlTerm ldlSum ldlPivot ldlBelow ldlRule ldlOf ldlPasses ldlEnd choleskyPivot choleskyBelow choleskyRule choleskyOf choleskyPasses choleskyEnd unitAt unitColumn ldlColumn ldlInverseAt ldlColumnAt ldlInverse choleskyColumn choleskyColumnAt choleskyInverse vAt acrossTerm downTerm unitForwardRule unitBackwardRule overDRule forwardRule backwardRule unitForward overD unitBackward forward backward ldlSolve choleskySolve turnedAt swapped rowTurned squareTurned rowsDot triangle rowBy usable positive andThen firstBad reach blockOf columnStart columnIn columnOf isEntry lambdaAt lambdaFull acrossRow downColumn timesTerm lambdaTimesAt transposedTerm lambdaTransposedAt rightTerm rightAt leftTerm systemAt columnAddedAt effectAt normalAt storedTerm ztTimesAt weightedTerm ztwzAt effectTerm zTimesAt addedAt absent plusOffset lessOffset vFrom vOf seAt seOf zValueAt zValues residualAt residualsOf itemsBefore failedAfter afterStop moved afterSearch afterSolve runFrom startMean startMeanAt startMeans startEtaAt startEta startAt runOf ztwzOf rightColumns systemOf factorOf ztTimes sideOf wyOf unsolvedColumn solvedColumn solvedColumnAt solvedColumns normalEntry normalOf normalSideAt normalSide betaOf effectsAfter bOf zTimes rawAt rawOf reducedOf foundWith foundBeta found afterRoot solveRoot solveNormal solveReduced afterFactor solveFactor solveSystem solveWorking solveOf stops deviancesOf devianceSum fitTerm logPivotAt logPivots laplaceOf modeFit modeSum modeDevs modeOf candidateAt candidateOf fineEta meanAt meansOf squareAt addTo pwrssOf afterPwrss tryPwrss afterMeans tryMeans afterEta tryEta tryOf itemBefore afterTry triesFrom triesOf trialOf workingWeight workingWeightAt divisor workingResponse workingResponseAt workingWeights workingResponses targetAt targets weightedTargets weightedColumn
 holds = refl

@@ -16,3 +16,4 @@ pub mod Halved
 pub mod RefusedEta
 pub mod RefusedSums
 pub mod GammaInverse
+pub mod Probit

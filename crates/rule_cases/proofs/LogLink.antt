@@ -20,6 +20,9 @@ use Rattle.elementary.specs.LogPoly.{nearPoly, nearSum, nearOf, lnSum}
 use Rattle.elementary.specs.Parts.{wholeOf, powerOf, inversePowerOf}
 use Rattle.log_gamma.specs.LogGamma.{nextOf, belowTwo, productOf, loweredOf, belowEight, seriesOf, stirlingBy, stirlingOf, lnGammaOf}
 use Rattle.log_gamma.specs.Near.{aboutTwo, aboutLeast, aboutOne, belowThree}
+use Rattle.normal.specs.Normal.{densityOf, normPdf, fromZeroToOne, normCdf}
+use Rattle.normal.specs.Quantile.{centralOf, nearPart, distantPart, guessBy, guessOf, upperQuantile, insideOf, normQuantile}
+use Rattle.normal.specs.Tail.{onGrid, halfSquare, halfRest, rootRest, erfRest, takenFrom, tailNear, erfcNearOne, tailMiddle, innerPart, outerPart, farPart, tailBy, tailFar, upperTail}
 use Rattle.model.specs.Account.{_⊞_}
 use Rattle.model.specs.Answer.{refusedAnswer, unfittedAnswer, fittedAnswer}
 use Rattle.model.specs.Caps.{triesCap, pointsCap, innerCapOf}
@@ -60,5 +63,5 @@ abbrev answer : Told
 answer = record { number = 0; iterations = 7; account = record { fits = 1; solves = 7; tries = 7; points = 0; eta = 0; mean = 0; pwrss = 0; ok = 7 }; deviance = bits 0x4018_e53d_2d5a_3380; beta = bits 0x3fe5_d21c_99e1_478f ∷ bits 0xbfd1_0ce4_92d3_ffd4 ∷ []; se = bits 0x3fe3_eeb1_3011_2022 ∷ bits 0x3fe5_2d23_f44f_518b ∷ []; z = bits 0x3ff1_840c_24ea_dc60 ∷ bits 0xbfd9_c3e1_c6aa_feeb ∷ []; u = bits 0xbfe6_a6a7_7f32_a219 ∷ bits 0x3fe6_a6a7_7f32_a22a ∷ []; b = bits 0xbfdf_b61d_b213_afbc ∷ bits 0x3fdf_b61d_b213_afd4 ∷ []; mu = bits 0x3ff1_cc3a_8ace_1ccb ∷ bits 0x400f_4a66_e183_af23 ∷ bits 0x3fec_c355_a019_d28f ∷ bits 0x4008_9ea6_710e_cdd1 ∷ []; eta = bits 0x3fbb_428e_f023_7dc0 ∷ bits 0x3ff5_d270_ecc1_0fb5 ∷ bits 0xbfbb_4d19_4c1c_81b8 ∷ bits 0x3ff1_fc57_1884_8fbe ∷ []; residual = bits 0xbfbc_c3a8_ace1_ccb0 ∷ bits 0xbfed_299b_860e_bc8c ∷ bits 0xbfec_c355_a019_d28f ∷ bits 0x3ffe_c2b3_1de2_645e ∷ []; v = bits 0x3fd8_d4cd_b128_e1d7 ∷ bits 0xbfa0_1deb_d839_38f9 ∷ bits 0xbfa0_1deb_d839_38f9 ∷ bits 0x3fdc_06fd_bbdf_3fa5 ∷ [] }
 
 pub holds : toldOf job 100 ≡ answer
-unfolding toldMode toldV toldEnding toldOutcome toldOf add sub mul div neg lt le eq ne isNan ofBits toBits ofInt toUnsigned round ruled fillBy fillDown build matrix fillTo fillAt gridTo finite infinite negative absF maxF clampF row notFalling goodStarts columnFits goodColumns goodRow goodRows storedIn findTo placeIn stored valueAt rowSum bothSum sumTo sumFrom addWhere sumWhere allTo anyTo withDigit nearestFrom placeOf rootOf unitsOf sqrtOf expTable expRow logTable logRow reduced rowTail scaleBits excess scaled large refitted fitted small edge ended expMain aboveZero expTwo expFar expOf quotientOf restOf scaledOf upOf downOf grownOf shrunkOf grownBy shrunkBy risingOf fallingOf expm1Main aboveMinusOne expm1Of nearOne lnNear lnRow lnMain lnFar lnOf tailOf lostOf splitOf farOf ln1pMain ln1pOf nearPoly nearSum nearOf lnSum wholeOf powerOf inversePowerOf nextOf belowTwo productOf loweredOf belowEight seriesOf stirlingBy stirlingOf lnGammaOf aboutTwo aboutLeast aboutOne belowThree _⊞_ refusedAnswer unfittedAnswer fittedAnswer triesCap pointsCap innerCapOf countOf tally familyCoded linkCoded startCoded limitOf goodLimit goodSizes totalTo blockEffects blockThetas goodBlock goodShape linksFor among validFor varianceOf successTerm binomialTerm poissonTerm gammaTerm proportion inRange devResid initializeMu trialsMean hasDensity lnDgamma clampE linkFun logistic linkInv cloglogSlope muEta logWeights gaussianTerm gaussianAic densityAt densityTerm gammaAic aicOf aicAnswer each weightSum lengthsAgree devAt ldlTerm ldlSum ldlPivot ldlBelow ldlRule ldlOf ldlPasses ldlEnd choleskyPivot choleskyBelow choleskyRule choleskyOf choleskyPasses choleskyEnd unitAt unitColumn ldlColumn ldlInverseAt ldlColumnAt ldlInverse choleskyColumn choleskyColumnAt choleskyInverse vAt acrossTerm downTerm unitForwardRule unitBackwardRule overDRule forwardRule backwardRule unitForward overD unitBackward forward backward ldlSolve choleskySolve turnedAt swapped rowTurned squareTurned rowsDot triangle rowBy usable positive andThen firstBad reach blockOf columnStart columnIn columnOf isEntry lambdaAt lambdaFull acrossRow downColumn timesTerm lambdaTimesAt transposedTerm lambdaTransposedAt rightTerm rightAt leftTerm systemAt columnAddedAt effectAt normalAt storedTerm ztTimesAt weightedTerm ztwzAt effectTerm zTimesAt addedAt absent plusOffset lessOffset vFrom vOf seAt seOf zValueAt zValues residualAt residualsOf itemsBefore failedAfter afterStop moved afterSearch afterSolve runFrom startMean startMeanAt startMeans startEtaAt startEta startAt runOf ztwzOf rightColumns systemOf factorOf ztTimes sideOf wyOf unsolvedColumn solvedColumn solvedColumnAt solvedColumns normalEntry normalOf normalSideAt normalSide betaOf effectsAfter bOf zTimes rawAt rawOf reducedOf foundWith foundBeta found afterRoot solveRoot solveNormal solveReduced afterFactor solveFactor solveSystem solveWorking solveOf stops deviancesOf devianceSum fitTerm logPivotAt logPivots laplaceOf modeFit modeSum modeDevs modeOf candidateAt candidateOf fineEta meanAt meansOf squareAt addTo pwrssOf afterPwrss tryPwrss afterMeans tryMeans afterEta tryEta tryOf itemBefore afterTry triesFrom triesOf trialOf workingWeight workingWeightAt divisor workingResponse workingResponseAt workingWeights workingResponses targetAt targets weightedTargets weightedColumn
+unfolding toldMode toldV toldEnding toldOutcome toldOf add sub mul div neg lt le eq ne isNan ofBits toBits ofInt toUnsigned round ruled fillBy fillDown build matrix fillTo fillAt gridTo finite infinite negative absF maxF clampF row notFalling goodStarts columnFits goodColumns goodRow goodRows storedIn findTo placeIn stored valueAt rowSum bothSum sumTo sumFrom addWhere sumWhere allTo anyTo withDigit nearestFrom placeOf rootOf unitsOf sqrtOf expTable expRow logTable logRow reduced rowTail scaleBits excess scaled large refitted fitted small edge ended expMain aboveZero expTwo expFar expOf quotientOf restOf scaledOf upOf downOf grownOf shrunkOf grownBy shrunkBy risingOf fallingOf expm1Main aboveMinusOne expm1Of nearOne lnNear lnRow lnMain lnFar lnOf tailOf lostOf splitOf farOf ln1pMain ln1pOf nearPoly nearSum nearOf lnSum wholeOf powerOf inversePowerOf nextOf belowTwo productOf loweredOf belowEight seriesOf stirlingBy stirlingOf lnGammaOf aboutTwo aboutLeast aboutOne belowThree densityOf normPdf fromZeroToOne normCdf centralOf nearPart distantPart guessBy guessOf upperQuantile insideOf normQuantile onGrid halfSquare halfRest rootRest erfRest takenFrom tailNear erfcNearOne tailMiddle innerPart outerPart farPart tailBy tailFar upperTail _⊞_ refusedAnswer unfittedAnswer fittedAnswer triesCap pointsCap innerCapOf countOf tally familyCoded linkCoded startCoded limitOf goodLimit goodSizes totalTo blockEffects blockThetas goodBlock goodShape linksFor among validFor varianceOf successTerm binomialTerm poissonTerm gammaTerm proportion inRange devResid initializeMu trialsMean hasDensity lnDgamma clampE linkFun logistic linkInv cloglogSlope muEta logWeights gaussianTerm gaussianAic densityAt densityTerm gammaAic aicOf aicAnswer each weightSum lengthsAgree devAt ldlTerm ldlSum ldlPivot ldlBelow ldlRule ldlOf ldlPasses ldlEnd choleskyPivot choleskyBelow choleskyRule choleskyOf choleskyPasses choleskyEnd unitAt unitColumn ldlColumn ldlInverseAt ldlColumnAt ldlInverse choleskyColumn choleskyColumnAt choleskyInverse vAt acrossTerm downTerm unitForwardRule unitBackwardRule overDRule forwardRule backwardRule unitForward overD unitBackward forward backward ldlSolve choleskySolve turnedAt swapped rowTurned squareTurned rowsDot triangle rowBy usable positive andThen firstBad reach blockOf columnStart columnIn columnOf isEntry lambdaAt lambdaFull acrossRow downColumn timesTerm lambdaTimesAt transposedTerm lambdaTransposedAt rightTerm rightAt leftTerm systemAt columnAddedAt effectAt normalAt storedTerm ztTimesAt weightedTerm ztwzAt effectTerm zTimesAt addedAt absent plusOffset lessOffset vFrom vOf seAt seOf zValueAt zValues residualAt residualsOf itemsBefore failedAfter afterStop moved afterSearch afterSolve runFrom startMean startMeanAt startMeans startEtaAt startEta startAt runOf ztwzOf rightColumns systemOf factorOf ztTimes sideOf wyOf unsolvedColumn solvedColumn solvedColumnAt solvedColumns normalEntry normalOf normalSideAt normalSide betaOf effectsAfter bOf zTimes rawAt rawOf reducedOf foundWith foundBeta found afterRoot solveRoot solveNormal solveReduced afterFactor solveFactor solveSystem solveWorking solveOf stops deviancesOf devianceSum fitTerm logPivotAt logPivots laplaceOf modeFit modeSum modeDevs modeOf candidateAt candidateOf fineEta meanAt meansOf squareAt addTo pwrssOf afterPwrss tryPwrss afterMeans tryMeans afterEta tryEta tryOf itemBefore afterTry triesFrom triesOf trialOf workingWeight workingWeightAt divisor workingResponse workingResponseAt workingWeights workingResponses targetAt targets weightedTargets weightedColumn
 holds = refl

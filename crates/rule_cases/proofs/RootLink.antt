@@ -20,6 +20,9 @@ use Rattle.elementary.specs.LogPoly.{nearPoly, nearSum, nearOf, lnSum}
 use Rattle.elementary.specs.Parts.{wholeOf, powerOf, inversePowerOf}
 use Rattle.log_gamma.specs.LogGamma.{nextOf, belowTwo, productOf, loweredOf, belowEight, seriesOf, stirlingBy, stirlingOf, lnGammaOf}
 use Rattle.log_gamma.specs.Near.{aboutTwo, aboutLeast, aboutOne, belowThree}
+use Rattle.normal.specs.Normal.{densityOf, normPdf, fromZeroToOne, normCdf}
+use Rattle.normal.specs.Quantile.{centralOf, nearPart, distantPart, guessBy, guessOf, upperQuantile, insideOf, normQuantile}
+use Rattle.normal.specs.Tail.{onGrid, halfSquare, halfRest, rootRest, erfRest, takenFrom, tailNear, erfcNearOne, tailMiddle, innerPart, outerPart, farPart, tailBy, tailFar, upperTail}
 use Rattle.model.specs.Account.{_⊞_}
 use Rattle.model.specs.Answer.{refusedAnswer, unfittedAnswer, fittedAnswer}
 use Rattle.model.specs.Caps.{triesCap, pointsCap, innerCapOf}
@@ -60,5 +63,5 @@ abbrev answer : Told
 answer = record { number = 0; iterations = 10; account = record { fits = 1; solves = 10; tries = 10; points = 0; eta = 0; mean = 0; pwrss = 0; ok = 10 }; deviance = bits 0x3fff_4df4_a1b7_c1ad; beta = bits 0x3ff4_61d4_0d91_e375 ∷ []; se = bits 0x3fd9_f2a9_6867_96eb ∷ []; z = bits 0x4009_22d6_6e03_a7f6 ∷ []; u = bits 0xbfd3_68ee_bf6c_a6cc ∷ bits 0x3fd5_a3ed_d6f2_c000 ∷ []; b = bits 0xbfbf_0e4a_cbe1_0ae0 ∷ bits 0x3fc1_4ff1_78c2_3333 ∷ []; mu = bits 0x3ff9_1a5d_61df_484e ∷ bits 0x4003_e5e0_8929_f40f ∷ bits 0x3ffd_a98b_27e1_d502 ∷ []; eta = bits 0x3ff4_0a88_fa6d_6c61 ∷ bits 0x3ff9_3bcd_4c26_6f54 ∷ bits 0x3ff5_c905_2ce4_a770 ∷ []; residual = bits 0xbfe2_34ba_c3be_909c ∷ bits 0x3fe0_687d_db58_2fc4 ∷ bits 0x3fc2_b3a6_c0f1_57f0 ∷ []; v = bits 0x3fc5_0a58_d8ed_d2b5 ∷ [] }
 
 pub holds : toldOf job 100 ≡ answer
-unfolding toldMode toldV toldEnding toldOutcome toldOf add sub mul div neg lt le eq ne isNan ofBits toBits ofInt toUnsigned round ruled fillBy fillDown build matrix fillTo fillAt gridTo finite infinite negative absF maxF clampF row notFalling goodStarts columnFits goodColumns goodRow goodRows storedIn findTo placeIn stored valueAt rowSum bothSum sumTo sumFrom addWhere sumWhere allTo anyTo withDigit nearestFrom placeOf rootOf unitsOf sqrtOf expTable expRow logTable logRow reduced rowTail scaleBits excess scaled large refitted fitted small edge ended expMain aboveZero expTwo expFar expOf quotientOf restOf scaledOf upOf downOf grownOf shrunkOf grownBy shrunkBy risingOf fallingOf expm1Main aboveMinusOne expm1Of nearOne lnNear lnRow lnMain lnFar lnOf tailOf lostOf splitOf farOf ln1pMain ln1pOf nearPoly nearSum nearOf lnSum wholeOf powerOf inversePowerOf nextOf belowTwo productOf loweredOf belowEight seriesOf stirlingBy stirlingOf lnGammaOf aboutTwo aboutLeast aboutOne belowThree _⊞_ refusedAnswer unfittedAnswer fittedAnswer triesCap pointsCap innerCapOf countOf tally familyCoded linkCoded startCoded limitOf goodLimit goodSizes totalTo blockEffects blockThetas goodBlock goodShape linksFor among validFor varianceOf successTerm binomialTerm poissonTerm gammaTerm proportion inRange devResid initializeMu trialsMean hasDensity lnDgamma clampE linkFun logistic linkInv cloglogSlope muEta logWeights gaussianTerm gaussianAic densityAt densityTerm gammaAic aicOf aicAnswer each weightSum lengthsAgree devAt ldlTerm ldlSum ldlPivot ldlBelow ldlRule ldlOf ldlPasses ldlEnd choleskyPivot choleskyBelow choleskyRule choleskyOf choleskyPasses choleskyEnd unitAt unitColumn ldlColumn ldlInverseAt ldlColumnAt ldlInverse choleskyColumn choleskyColumnAt choleskyInverse vAt acrossTerm downTerm unitForwardRule unitBackwardRule overDRule forwardRule backwardRule unitForward overD unitBackward forward backward ldlSolve choleskySolve turnedAt swapped rowTurned squareTurned rowsDot triangle rowBy usable positive andThen firstBad reach blockOf columnStart columnIn columnOf isEntry lambdaAt lambdaFull acrossRow downColumn timesTerm lambdaTimesAt transposedTerm lambdaTransposedAt rightTerm rightAt leftTerm systemAt columnAddedAt effectAt normalAt storedTerm ztTimesAt weightedTerm ztwzAt effectTerm zTimesAt addedAt absent plusOffset lessOffset vFrom vOf seAt seOf zValueAt zValues residualAt residualsOf itemsBefore failedAfter afterStop moved afterSearch afterSolve runFrom startMean startMeanAt startMeans startEtaAt startEta startAt runOf ztwzOf rightColumns systemOf factorOf ztTimes sideOf wyOf unsolvedColumn solvedColumn solvedColumnAt solvedColumns normalEntry normalOf normalSideAt normalSide betaOf effectsAfter bOf zTimes rawAt rawOf reducedOf foundWith foundBeta found afterRoot solveRoot solveNormal solveReduced afterFactor solveFactor solveSystem solveWorking solveOf stops deviancesOf devianceSum fitTerm logPivotAt logPivots laplaceOf modeFit modeSum modeDevs modeOf candidateAt candidateOf fineEta meanAt meansOf squareAt addTo pwrssOf afterPwrss tryPwrss afterMeans tryMeans afterEta tryEta tryOf itemBefore afterTry triesFrom triesOf trialOf workingWeight workingWeightAt divisor workingResponse workingResponseAt workingWeights workingResponses targetAt targets weightedTargets weightedColumn
+unfolding toldMode toldV toldEnding toldOutcome toldOf add sub mul div neg lt le eq ne isNan ofBits toBits ofInt toUnsigned round ruled fillBy fillDown build matrix fillTo fillAt gridTo finite infinite negative absF maxF clampF row notFalling goodStarts columnFits goodColumns goodRow goodRows storedIn findTo placeIn stored valueAt rowSum bothSum sumTo sumFrom addWhere sumWhere allTo anyTo withDigit nearestFrom placeOf rootOf unitsOf sqrtOf expTable expRow logTable logRow reduced rowTail scaleBits excess scaled large refitted fitted small edge ended expMain aboveZero expTwo expFar expOf quotientOf restOf scaledOf upOf downOf grownOf shrunkOf grownBy shrunkBy risingOf fallingOf expm1Main aboveMinusOne expm1Of nearOne lnNear lnRow lnMain lnFar lnOf tailOf lostOf splitOf farOf ln1pMain ln1pOf nearPoly nearSum nearOf lnSum wholeOf powerOf inversePowerOf nextOf belowTwo productOf loweredOf belowEight seriesOf stirlingBy stirlingOf lnGammaOf aboutTwo aboutLeast aboutOne belowThree densityOf normPdf fromZeroToOne normCdf centralOf nearPart distantPart guessBy guessOf upperQuantile insideOf normQuantile onGrid halfSquare halfRest rootRest erfRest takenFrom tailNear erfcNearOne tailMiddle innerPart outerPart farPart tailBy tailFar upperTail _⊞_ refusedAnswer unfittedAnswer fittedAnswer triesCap pointsCap innerCapOf countOf tally familyCoded linkCoded startCoded limitOf goodLimit goodSizes totalTo blockEffects blockThetas goodBlock goodShape linksFor among validFor varianceOf successTerm binomialTerm poissonTerm gammaTerm proportion inRange devResid initializeMu trialsMean hasDensity lnDgamma clampE linkFun logistic linkInv cloglogSlope muEta logWeights gaussianTerm gaussianAic densityAt densityTerm gammaAic aicOf aicAnswer each weightSum lengthsAgree devAt ldlTerm ldlSum ldlPivot ldlBelow ldlRule ldlOf ldlPasses ldlEnd choleskyPivot choleskyBelow choleskyRule choleskyOf choleskyPasses choleskyEnd unitAt unitColumn ldlColumn ldlInverseAt ldlColumnAt ldlInverse choleskyColumn choleskyColumnAt choleskyInverse vAt acrossTerm downTerm unitForwardRule unitBackwardRule overDRule forwardRule backwardRule unitForward overD unitBackward forward backward ldlSolve choleskySolve turnedAt swapped rowTurned squareTurned rowsDot triangle rowBy usable positive andThen firstBad reach blockOf columnStart columnIn columnOf isEntry lambdaAt lambdaFull acrossRow downColumn timesTerm lambdaTimesAt transposedTerm lambdaTransposedAt rightTerm rightAt leftTerm systemAt columnAddedAt effectAt normalAt storedTerm ztTimesAt weightedTerm ztwzAt effectTerm zTimesAt addedAt absent plusOffset lessOffset vFrom vOf seAt seOf zValueAt zValues residualAt residualsOf itemsBefore failedAfter afterStop moved afterSearch afterSolve runFrom startMean startMeanAt startMeans startEtaAt startEta startAt runOf ztwzOf rightColumns systemOf factorOf ztTimes sideOf wyOf unsolvedColumn solvedColumn solvedColumnAt solvedColumns normalEntry normalOf normalSideAt normalSide betaOf effectsAfter bOf zTimes rawAt rawOf reducedOf foundWith foundBeta found afterRoot solveRoot solveNormal solveReduced afterFactor solveFactor solveSystem solveWorking solveOf stops deviancesOf devianceSum fitTerm logPivotAt logPivots laplaceOf modeFit modeSum modeDevs modeOf candidateAt candidateOf fineEta meanAt meansOf squareAt addTo pwrssOf afterPwrss tryPwrss afterMeans tryMeans afterEta tryEta tryOf itemBefore afterTry triesFrom triesOf trialOf workingWeight workingWeightAt divisor workingResponse workingResponseAt workingWeights workingResponses targetAt targets weightedTargets weightedColumn
 holds = refl

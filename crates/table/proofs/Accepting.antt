@@ -8,23 +8,19 @@ use Rattle.base.specs.Sparse.{goodRows}
 use Rattle.base.proofs.Doubles.{ff}
 use Rattle.base.proofs.SparseRows.{good-rows}
 use Rattle.model.specs.Settings.{goodSizes}
-use Rattle.model.specs.declared.names.Family.{Family}
-use Rattle.model.specs.declared.names.Link.{Link}
 use Rattle.model.specs.declared.names.Start.the-variants.{Usual}
 use Rattle.model.specs.declared.sizes.Shape.{Shape}
 use Rattle.model.specs.declared.sizes.Settings.{Settings}
 use Rattle.model.specs.declared.ends.Refusal.{Refusal}
-use Rattle.model.specs.declared.ends.Refusal.the-variants.{OutOfRange, Responses, Lengths, Work, SparseRows, NotFinite, LinkForFamily, NotCarried, ResponseRange, StartFit}
+use Rattle.model.specs.declared.ends.Refusal.the-variants.{OutOfRange, Responses, Lengths, Work, SparseRows, NotFinite, LinkForFamily, ResponseRange, StartFit}
 use Rattle.model.proofs.Sized.{sized}
 use Rattle.model.proofs.Tests.{both}
 use Rattle.family.specs.Carried.{carriedFamily, carriedLink, validFor}
 use Rattle.family.specs.declared.carried.CarriedFamily.{CarriedFamily}
 use Rattle.family.specs.declared.carried.CarriedLink.{CarriedLink}
-use Rattle.family.specs.declared.carried.LinkCarried.{LinkCarried}
-use Rattle.family.specs.declared.carried.LinkCarried.the-variants as linkCarried
 use Rattle.table.specs.Tests.{goodCount, goodInputs, goodResults, goodWork, goodNumbers, allInRange, startFits}
 use Rattle.model.specs.Inputs.{Inputs}
-use Rattle.table.specs.Table.{refuseUnless, withLink, carriedPair, tested, tableOf}
+use Rattle.table.specs.Table.{refuseUnless, tableOf}
 use Rattle.table.specs.Facts.{Sound}
 use Rattle.table.specs.declared.verdicts.LentLengths.{LentLengths}
 use Rattle.table.specs.declared.verdicts.Verdict.{Verdict}
@@ -72,34 +68,19 @@ module _ (r : ℕ) (t : Settings) (s : Shape) (I : Inputs) (L : LentLengths) whe
                 unfolding tableOf refuseUnless
                 line-4 a = rw (sizes, count, lent, results, work, rows, numbers, a) refl
 
-                pub last-lines : validFor (t .link) (t .family) ≡ true → tableOf r t s I L ≡ tested (startFits (t .start) (I .weights)) StartFit (tested (allInRange (I .y)) ResponseRange (carriedPair (t .family) (t .link)))
-                unfolding tableOf refuseUnless
-                last-lines a = rw (sizes, count, lent, results, work, rows, numbers, a) refl
+                module _ (valid : validFor (t .link) (t .family) ≡ true) where
+                  pub line-9 : allInRange (I .y) (carriedFamily (t .family)) ≡ false → tableOf r t s I L ≡ Refused ResponseRange
+                  unfolding tableOf refuseUnless
+                  line-9 a = rw (sizes, count, lent, results, work, rows, numbers, valid, a) refl
 
--- ---- number 5
-module _ (family : Family) (link : Link) where
-  pub no-link : carriedLink link ≡ linkCarried.NotYet → carriedPair family link ≡ Refused NotCarried
-  unfolding carriedPair withLink
-  no-link b = ap (λ (x : LinkCarried). withLink (carriedFamily family) x) b
+                  module _ (ranged : allInRange (I .y) (carriedFamily (t .family)) ≡ true) where
+                    pub line-27 : startFits (t .start) (I .weights) (carriedFamily (t .family)) ≡ false → tableOf r t s I L ≡ Refused StartFit
+                    unfolding tableOf refuseUnless
+                    line-27 a = rw (sizes, count, lent, results, work, rows, numbers, valid, ranged, a) refl
 
-  pub both-carried : (f : CarriedFamily) (l : CarriedLink) → carriedFamily family ≡ f → carriedLink link ≡ linkCarried.Carried l → carriedPair family link ≡ Accepted f l
-  unfolding carriedPair withLink
-  both-carried f l a b = rw (b, a) refl
-
--- ---- numbers 9 and 27: lines that ask something of the family found
-module _ (fits : CarriedFamily → Bool) (refusal : Refusal) where
-  pub test-fails : (f : CarriedFamily) (l : CarriedLink) → fits f ≡ false → tested fits refusal (Accepted f l) ≡ Refused refusal
-  unfolding tested refuseUnless
-  test-fails f l a = rw a refl
-
-  pub test-holds : (f : CarriedFamily) (l : CarriedLink) → fits f ≡ true → tested fits refusal (Accepted f l) ≡ Accepted f l
-  unfolding tested refuseUnless
-  test-holds f l a = rw a refl
-
-  -- a refusal of an earlier line stays
-  pub earlier-stays : (earlier : Refusal) → tested fits refusal (Refused earlier) ≡ Refused earlier
-  unfolding tested
-  earlier-stays earlier = refl
+                    pub past-lines : startFits (t .start) (I .weights) (carriedFamily (t .family)) ≡ true → tableOf r t s I L ≡ Accepted (carriedFamily (t .family)) (carriedLink (t .link))
+                    unfolding tableOf refuseUnless
+                    past-lines a = rw (sizes, count, lent, results, work, rows, numbers, valid, ranged, a) refl
 
 -- the usual start passes always
 pub usual-passes : (weights : List Float) (f : CarriedFamily) → startFits Usual weights f ≡ true
@@ -128,21 +109,12 @@ unfolding refuseUnless
 passed true refusal rest f l e = (refl, e)
 passed false refusal rest f l e = absurd (ff (ap isAccepted e))
 
-pub last-line : (g : CarriedFamily) (y : LinkCarried) (f : CarriedFamily) (l : CarriedLink) → withLink g y ≡ Accepted f l → (g ≡ f) × (y ≡ linkCarried.Carried l)
-unfolding withLink
-last-line g (linkCarried.Carried k) f l e = (ap (familyIn f) e, ap (λ (x : Verdict). linkCarried.Carried (linkIn l x)) e)
-last-line g linkCarried.NotYet f l e = absurd (ff (ap isAccepted e))
-
-pub test-passed : (fits : CarriedFamily → Bool) (refusal : Refusal) (v : Verdict) (f : CarriedFamily) (l : CarriedLink) → tested fits refusal v ≡ Accepted f l → (v ≡ Accepted f l) × (fits f ≡ true)
-unfolding tested
-test-passed fits refusal (Accepted g k) f l e =
-    let p = passed (fits g) refusal (Accepted g k) f l e in
-    let same : g ≡ f = ap (familyIn f) (p .1) in
-    (p .1, rw same at (p .0))
-test-passed fits refusal (Refused earlier) f l e = absurd (ff (ap isAccepted e))
+-- an accepting verdict has one family and one link
+pub one-pair : (g f : CarriedFamily) (k l : CarriedLink) → Accepted g k ≡ Accepted f l → (g ≡ f) × (k ≡ l)
+one-pair g f k l e = (ap (familyIn f) e, ap (linkIn l) e)
 
 pub accepted-sound : (r : ℕ) (t : Settings) (s : Shape) (I : Inputs) (L : LentLengths) (f : CarriedFamily) (l : CarriedLink) → tableOf r t s I L ≡ Accepted f l → Sound r t s I L f l
-unfolding tableOf carriedPair
+unfolding tableOf
 accepted-sound r t s I L f l e =
     let a = passed (goodSizes t s) OutOfRange _ f l e in
     let j = passed (goodCount r) Responses _ f l (a .1) in
@@ -151,9 +123,9 @@ accepted-sound r t s I L f l e =
     let d = passed (goodRows (I .starts) (I .columns) (t .rows) (t .n)) SparseRows _ f l (c .1) in
     let g = passed (goodNumbers I) NotFinite _ f l (d .1) in
     let h = passed (validFor (t .link) (t .family)) LinkForFamily _ f l (g .1) in
-    let w = test-passed (startFits (t .start) (I .weights)) StartFit _ f l (h .1) in
-    let o = test-passed (allInRange (I .y)) ResponseRange (carriedPair (t .family) (t .link)) f l (w .0) in
-    let k = last-line (carriedFamily (t .family)) (carriedLink (t .link)) f l (o .0) in
+    let o = passed (allInRange (I .y) (carriedFamily (t .family))) ResponseRange _ f l (h .1) in
+    let w = passed (startFits (t .start) (I .weights) (carriedFamily (t .family))) StartFit _ f l (o .1) in
+    let k = one-pair (carriedFamily (t .family)) f (carriedLink (t .link)) l (w .1) in
     let m : (goodInputs r t s I ≡ true) × (goodResults r t L ≡ true) = both (b .0) in
     let n = inputs-fit r t s I (m .0) in
     record {
@@ -167,6 +139,6 @@ accepted-sound r t s I L f l e =
       valid = h .0;
       family = k .0;
       link = k .1;
-      ranged = list-in-range f (I .y) (o .1);
-      started = start-fits (t .start) (I .weights) f (w .1);
+      ranged = list-in-range f (I .y) (rw (k .0) at (o .0));
+      started = start-fits (t .start) (I .weights) f (rw (k .0) at (w .0));
     }

@@ -23,7 +23,6 @@ use Rattle.family.specs.Carried.{carriedFamily, carriedLink, validFor}
 use Rattle.family.specs.declared.carried.CarriedFamily.{CarriedFamily}
 use Rattle.family.specs.declared.carried.CarriedFamily.the-variants.{Binomial}
 use Rattle.family.specs.declared.carried.CarriedLink.{CarriedLink}
-use Rattle.family.specs.declared.carried.LinkCarried.the-variants as linkCarried
 use Rattle.model.specs.Inputs.{Inputs}
 use Rattle.table.specs.declared.verdicts.LentLengths.{LentLengths}
 
@@ -102,6 +101,6 @@ pub record Sound (r : ℕ) (t : Settings) (s : Shape) (I : Inputs) (L : LentLeng
   pub numbers : NumbersFinite I
   pub valid : validFor (t .link) (t .family) ≡ true
   pub family : carriedFamily (t .family) ≡ f
-  pub link : carriedLink (t .link) ≡ linkCarried.Carried l
+  pub link : carriedLink (t .link) ≡ l
   pub ranged : AllInRange f (I .y)
   pub started : StartFits (t .start) (I .weights) f

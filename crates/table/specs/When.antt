@@ -8,11 +8,10 @@ use Rattle.model.specs.Settings.{goodSizes}
 use Rattle.model.specs.declared.sizes.Shape.{Shape}
 use Rattle.model.specs.declared.sizes.Settings.{Settings}
 use Rattle.model.specs.declared.ends.Refusal.{Refusal}
-use Rattle.model.specs.declared.ends.Refusal.the-variants.{OutOfRange, Responses, Lengths, Work, SparseRows, NotFinite, LinkForFamily, NotCarried, ResponseRange, StartFit}
+use Rattle.model.specs.declared.ends.Refusal.the-variants.{OutOfRange, Responses, Lengths, Work, SparseRows, NotFinite, LinkForFamily, ResponseRange, StartFit}
 use Rattle.family.specs.Carried.{carriedFamily, carriedLink, validFor}
 use Rattle.family.specs.declared.carried.CarriedFamily.{CarriedFamily}
 use Rattle.family.specs.declared.carried.CarriedLink.{CarriedLink}
-use Rattle.family.specs.declared.carried.LinkCarried.the-variants as linkCarried
 use Rattle.table.specs.Tests.{goodCount, goodInputs, goodResults, goodWork, goodNumbers, allInRange, startFits}
 use Rattle.table.specs.declared.verdicts.LentLengths.{LentLengths}
 
@@ -41,13 +40,13 @@ module _ (r : ℕ) (t : Settings) (s : Shape) (I : Inputs) (L : LentLengths) whe
   abbrev pub PastLink : Type 0
   PastLink = PastNumbers × (validFor (t .link) (t .family) ≡ true)
 
-  -- and that of 5, with the formulas of f and l
-  abbrev pub PastCarried : CarriedFamily → CarriedLink → Type 0
-  PastCarried f l = PastLink × ((carriedFamily (t .family) ≡ f) × (carriedLink (t .link) ≡ linkCarried.Carried l))
-
   -- and that of 9
-  abbrev pub PastRange : CarriedFamily → CarriedLink → Type 0
-  PastRange f l = PastCarried f l × (allInRange (I .y) f ≡ true)
+  abbrev pub PastRange : Type 0
+  PastRange = PastLink × (allInRange (I .y) (carriedFamily (t .family)) ≡ true)
+
+  -- and that of 27: every test is passed
+  abbrev pub PastAll : Type 0
+  PastAll = PastRange × (startFits (t .start) (I .weights) (carriedFamily (t .family)) ≡ true)
 
   -- when a refusal is given
   unfoldable pub GivenWhen : Refusal → Type 0
@@ -58,14 +57,9 @@ module _ (r : ℕ) (t : Settings) (s : Shape) (I : Inputs) (L : LentLengths) whe
   GivenWhen SparseRows = PastWork × (goodRows (I .starts) (I .columns) (t .rows) (t .n) ≡ false)
   GivenWhen NotFinite = PastRows × (goodNumbers I ≡ false)
   GivenWhen LinkForFamily = PastNumbers × (validFor (t .link) (t .family) ≡ false)
-  GivenWhen NotCarried = PastLink × (carriedLink (t .link) ≡ linkCarried.NotYet)
-  GivenWhen ResponseRange = (f : CarriedFamily) × (l : CarriedLink) × (PastCarried f l × (allInRange (I .y) f ≡ false))
-  GivenWhen StartFit = (f : CarriedFamily) × (l : CarriedLink) × (PastRange f l × (startFits (t .start) (I .weights) f ≡ false))
+  GivenWhen ResponseRange = PastLink × (allInRange (I .y) (carriedFamily (t .family)) ≡ false)
+  GivenWhen StartFit = PastRange × (startFits (t .start) (I .weights) (carriedFamily (t .family)) ≡ false)
 
-  -- when a call is accepted with the formulas of f and l: every test is passed
+  -- when a call is accepted with the formulas of f and l: every test is passed, and they are those of its family and link
   abbrev pub AcceptedWhen : CarriedFamily → CarriedLink → Type 0
-  AcceptedWhen f l = PastRange f l × (startFits (t .start) (I .weights) f ≡ true)
-
-  -- when it is accepted
-  abbrev pub SomeAccepted : Type 0
-  SomeAccepted = (f : CarriedFamily) × (l : CarriedLink) × AcceptedWhen f l
+  AcceptedWhen f l = PastAll × ((carriedFamily (t .family) ≡ f) × (carriedLink (t .link) ≡ l))

@@ -8,18 +8,12 @@ use crate::numbers::responses_ok;
 use crate::numbers::start_ok;
 use family::CarriedFamily;
 use family::CarriedLink;
-use family::LinkCarried;
-use model::Family;
-use model::Link;
 use model::Refusal;
 use model::Settings;
 use model::Shape;
-use model::Start;
 ghost use mathlib.Core.Path.{_≡_};
 ghost use Rattle.model.specs.Inputs.{inputs};
-ghost use Rattle.model.specs.declared.ends.Refusal.the-variants.{ResponseRange, StartFit};
-ghost use Rattle.table.specs.Tests.{allInRange, startFits};
-ghost use Rattle.table.specs.Table.{carriedPair, tested, tableOf};
+ghost use Rattle.table.specs.Table.{tableOf};
 
 // How long the lent results and the lent work slices are.
 pub struct LentLengths {
@@ -41,46 +35,6 @@ pub struct LentLengths {
 pub enum Verdict {
     Accepted(CarriedFamily, CarriedLink),
     Refused(Refusal),
-}
-
-// Whether there are formulas for the family and for the link.
-fn carried_pair(family: Family, link: Link) -> Verdict
-    ensures { λ r. ⌜ r ≡ carriedPair family link ⌝ }
-{
-    let LinkCarried::Carried(l) = family::carried_link(link) else {
-        return Verdict::Refused(Refusal::NotCarried);
-    };
-    Verdict::Accepted(family::carried_family(family), l)
-}
-
-// The line before the last: the range is that of a family whose formulas are carried.
-fn range_tested(verdict: Verdict, y: &[f64]) -> Verdict
-    ensures { λ r. ⌜ r ≡ tested (allInRange (now (y .entry))) ResponseRange verdict ⌝ }
-{
-    match verdict {
-        Verdict::Refused(refusal) => Verdict::Refused(refusal),
-        Verdict::Accepted(f, l) => {
-            if !responses_ok(f, y) {
-                return Verdict::Refused(Refusal::ResponseRange);
-            }
-            Verdict::Accepted(f, l)
-        }
-    }
-}
-
-// The last line of the table: whether the start asked for goes with the family and the weights.
-fn start_tested(verdict: Verdict, start: Start, weights: &[f64]) -> Verdict
-    ensures { λ r. ⌜ r ≡ tested (startFits start (now (weights .entry))) StartFit verdict ⌝ }
-{
-    match verdict {
-        Verdict::Refused(refusal) => Verdict::Refused(refusal),
-        Verdict::Accepted(f, l) => {
-            if !start_ok(start, f, weights) {
-                return Verdict::Refused(Refusal::StartFit);
-            }
-            Verdict::Accepted(f, l)
-        }
-    }
 }
 
 // The first test that fails gives the refusal. Each test may rely on those before it: no product is formed of sizes or of a number of responses out of range, and no entry is read past a length.
@@ -142,7 +96,13 @@ pub fn verdict_of(
     if !family::valid_for(link, family) {
         return Verdict::Refused(Refusal::LinkForFamily);
     }
-    let ranged = range_tested(carried_pair(family, link), y);
+    let carried = family::carried_family(family);
+    if !responses_ok(carried, y) {
+        return Verdict::Refused(Refusal::ResponseRange);
+    }
     let start = settings.start;
-    start_tested(ranged, start, weights)
+    if !start_ok(start, carried, weights) {
+        return Verdict::Refused(Refusal::StartFit);
+    }
+    Verdict::Accepted(carried, family::carried_link(link))
 }

@@ -5,10 +5,10 @@ use Rattle.cases_family.proofs.ordinary.Statement.{statement}
 use Rattle.cases_family.proofs.ordinary.Tie as tie
 
 abbrev Inv-loop : tie.InvT-loop
-Inv-loop i₀ i = i ≤ 54
+Inv-loop i₀ i = i ≤ 63
 
 abbrev μ-loop : tie.MeasureT-loop
-μ-loop i₀ i = 54 - i
+μ-loop i₀ i = 63 - i
 
 loop-holds : tie.Need-loop-holds Inv-loop μ-loop
 loop-holds c = search needs

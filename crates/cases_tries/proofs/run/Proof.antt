@@ -8,8 +8,11 @@ use Rattle.cases_tries.proofs.run.Tie as tie
 number-requires : tie.Need-number-requires
 number-requires c κs = search needs
 
-next-link-requires : tie.Need-next-link-requires
-next-link-requires c κs = search needs
+link-requires : tie.Need-link-requires
+link-requires c κs = search needs
+
+carried-link-requires : tie.Need-carried-link-requires
+carried-link-requires c κs = search needs
 
 tries-requires : tie.Need-tries-requires
 tries-requires c κs =
@@ -80,7 +83,8 @@ run-spec =
     tie.close
     (tie.spec
     number-requires
-    next-link-requires
+    link-requires
+    carried-link-requires
     tries-requires
     put-tries-requires
     slice-aggregate-put-list

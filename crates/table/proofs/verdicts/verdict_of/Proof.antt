@@ -3,9 +3,9 @@ use mathlib.Core.Path.{sym, ap, _∙_}
 use native.Mathlib.Omega.{arith}
 use borrow.Author.Tests.{not-true, not-false}
 use Rattle.model.proofs.Sized.{sized}
-use Rattle.table.specs.Table.{tested}
+use Rattle.table.specs.Tests.{allInRange, startFits}
 use Rattle.table.proofs.Meant.{count-fits, inputs-fit}
-use Rattle.table.proofs.Accepting.{line-1, line-8, line-2-inputs, line-2-results, line-7, line-6, line-3, line-4, last-lines}
+use Rattle.table.proofs.Accepting.{line-1, line-8, line-2-inputs, line-2-results, line-7, line-6, line-3, line-4, line-9, line-27, past-lines}
 use Rattle.table.proofs.verdicts.verdict_of.Statement.{statement}
 use Rattle.table.proofs.verdicts.verdict_of.Tie as tie
 
@@ -150,19 +150,16 @@ returns-8 c =
     (sym (rows-ok .rows-ok .ensures) ∙ not-false _ (if6 .if6 .left)) (sym (numbers-ok .numbers-ok .ensures) ∙ not-false _ (c .before .before .if7 .left))
     (sym (c .before .valid-for .ensures) ∙ not-true _ (c .if8 .taken)))
 
-carried-pair-requires : tie.Need-carried-pair-requires
-carried-pair-requires c κs = omega arith
+carried-family-requires : tie.Need-carried-family-requires
+carried-family-requires c κs = omega arith
 
-range-tested-requires : tie.Need-range-tested-requires
-range-tested-requires c κs = omega arith
-
-start-tested-requires : tie.Need-start-tested-requires
-start-tested-requires c κs = omega arith
+responses-ok-requires : tie.Need-responses-ok-requires
+responses-ok-requires c κs = omega arith
 
 returns-9 : tie.Need-returns-9
 returns-9 c =
-    let carried-pair = c .before .before in
-    let if8 = carried-pair .before in
+    let carried-family = c .before .before in
+    let if8 = carried-family .before in
     let valid-for = if8 .before in
     let if7 = valid-for .before in
     let numbers-ok = if7 .before in
@@ -178,13 +175,79 @@ returns-9 c =
     let count-ok = if2 .before in
     let if1 = count-ok .before in
     let sizes-ok = if1 .before in
-    let ranged = c .before .range-tested .ensures ∙ ap (tested _ _) (carried-pair .carried-pair .ensures) in
-    (c .start-tested .ensures ∙ ap (tested _ _) ranged)
-    ∙ sym
-    (last-lines _ _ _ _ _ (sym (sizes-ok .sizes-ok .ensures) ∙ not-false _ (if1 .if1 .left)) (sym (count-ok .count-ok .ensures) ∙ not-false _ (if2 .if2 .left)) (sym (inputs-ok .inputs-ok .ensures) ∙ not-false _ (if3 .if3 .left))
+    let same = ap (allInRange _) (sym (carried-family .carried-family .ensures)) in
+    sym
+    (line-9 _ _ _ _ _ (sym (sizes-ok .sizes-ok .ensures) ∙ not-false _ (if1 .if1 .left)) (sym (count-ok .count-ok .ensures) ∙ not-false _ (if2 .if2 .left)) (sym (inputs-ok .inputs-ok .ensures) ∙ not-false _ (if3 .if3 .left))
     (sym (results-ok .results-ok .ensures) ∙ not-false _ (if4 .if4 .left)) (sym (work-ok .work-ok .ensures) ∙ not-false _ (if5 .if5 .left))
     (sym (rows-ok .rows-ok .ensures) ∙ not-false _ (if6 .if6 .left)) (sym (numbers-ok .numbers-ok .ensures) ∙ not-false _ (if7 .if7 .left))
-    (sym (valid-for .valid-for .ensures) ∙ not-false _ (if8 .if8 .left)))
+    (sym (valid-for .valid-for .ensures) ∙ not-false _ (if8 .if8 .left))
+    (same ∙ sym (c .before .responses-ok .ensures) ∙ not-true _ (c .if9 .taken)))
+
+start-ok-requires : tie.Need-start-ok-requires
+start-ok-requires c κs = omega arith
+
+returns-10 : tie.Need-returns-10
+returns-10 c =
+    let responses-ok = c .before .before .before in
+    let carried-family = responses-ok .before in
+    let if8 = carried-family .before in
+    let valid-for = if8 .before in
+    let if7 = valid-for .before in
+    let numbers-ok = if7 .before in
+    let if6 = numbers-ok .before in
+    let rows-ok = if6 .before in
+    let if5 = rows-ok .before in
+    let work-ok = if5 .before in
+    let if4 = work-ok .before in
+    let results-ok = if4 .before in
+    let if3 = results-ok .before in
+    let inputs-ok = if3 .before in
+    let if2 = inputs-ok .before in
+    let count-ok = if2 .before in
+    let if1 = count-ok .before in
+    let sizes-ok = if1 .before in
+    let same = sym (carried-family .carried-family .ensures) in
+    sym
+    (line-27 _ _ _ _ _ (sym (sizes-ok .sizes-ok .ensures) ∙ not-false _ (if1 .if1 .left)) (sym (count-ok .count-ok .ensures) ∙ not-false _ (if2 .if2 .left)) (sym (inputs-ok .inputs-ok .ensures) ∙ not-false _ (if3 .if3 .left))
+    (sym (results-ok .results-ok .ensures) ∙ not-false _ (if4 .if4 .left)) (sym (work-ok .work-ok .ensures) ∙ not-false _ (if5 .if5 .left))
+    (sym (rows-ok .rows-ok .ensures) ∙ not-false _ (if6 .if6 .left)) (sym (numbers-ok .numbers-ok .ensures) ∙ not-false _ (if7 .if7 .left))
+    (sym (valid-for .valid-for .ensures) ∙ not-false _ (if8 .if8 .left))
+    (ap (allInRange _) same ∙ sym (responses-ok .responses-ok .ensures) ∙ not-false _ (c .before .before .if9 .left))
+    (ap (startFits _ _) same ∙ sym (c .before .start-ok .ensures) ∙ not-true _ (c .if10 .taken)))
+
+carried-link-requires : tie.Need-carried-link-requires
+carried-link-requires c κs = omega arith
+
+returns-11 : tie.Need-returns-11
+returns-11 c =
+    let if9 = c .before .before .before in
+    let responses-ok = if9 .before in
+    let carried-family = responses-ok .before in
+    let if8 = carried-family .before in
+    let valid-for = if8 .before in
+    let if7 = valid-for .before in
+    let numbers-ok = if7 .before in
+    let if6 = numbers-ok .before in
+    let rows-ok = if6 .before in
+    let if5 = rows-ok .before in
+    let work-ok = if5 .before in
+    let if4 = work-ok .before in
+    let results-ok = if4 .before in
+    let if3 = results-ok .before in
+    let inputs-ok = if3 .before in
+    let if2 = inputs-ok .before in
+    let count-ok = if2 .before in
+    let if1 = count-ok .before in
+    let sizes-ok = if1 .before in
+    let same = sym (carried-family .carried-family .ensures) in
+    rw (carried-family .carried-family .ensures, c .carried-link .ensures)
+    (sym
+    (past-lines _ _ _ _ _ (sym (sizes-ok .sizes-ok .ensures) ∙ not-false _ (if1 .if1 .left)) (sym (count-ok .count-ok .ensures) ∙ not-false _ (if2 .if2 .left)) (sym (inputs-ok .inputs-ok .ensures) ∙ not-false _ (if3 .if3 .left))
+    (sym (results-ok .results-ok .ensures) ∙ not-false _ (if4 .if4 .left)) (sym (work-ok .work-ok .ensures) ∙ not-false _ (if5 .if5 .left))
+    (sym (rows-ok .rows-ok .ensures) ∙ not-false _ (if6 .if6 .left)) (sym (numbers-ok .numbers-ok .ensures) ∙ not-false _ (if7 .if7 .left))
+    (sym (valid-for .valid-for .ensures) ∙ not-false _ (if8 .if8 .left))
+    (ap (allInRange _) same ∙ sym (responses-ok .responses-ok .ensures) ∙ not-false _ (if9 .if9 .left))
+    (ap (startFits _ _) same ∙ sym (c .before .before .start-ok .ensures) ∙ not-false _ (c .before .if10 .left))))
 
 pub verdict-of-spec : {M : Type 1} → statement M
 verdict-of-spec =
@@ -206,7 +269,10 @@ verdict-of-spec =
     returns-7
     valid-for-requires
     returns-8
-    carried-pair-requires
-    range-tested-requires
-    start-tested-requires
-    returns-9)
+    carried-family-requires
+    responses-ok-requires
+    returns-9
+    start-ok-requires
+    returns-10
+    carried-link-requires
+    returns-11)
