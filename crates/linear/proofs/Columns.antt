@@ -1,19 +1,21 @@
 -- Laws of products with X and with the solved columns: an entry of X'WX, of u, and of the normal matrix, as the loops make them. Assumes nothing.
-use mathlib.Core.Path.{_≡_, ap, _∙_}
-use mathlib.Core.List.{List}
-use mathlib.Core.Logic.{inl}
-use Prim.Native.Nat.{ℕ, _+_, _*_, _-_, _<_, _≤_}
+use mathlib.Core.Path.{_≡_, refl, sym, ap, _∙_}
+use mathlib.Core.List.{List, [], _∷_}
+use mathlib.Core.Logic.{inl, ⊎-elim}
+use Prim.Native.Nat.{ℕ, zero, suc, _+_, _*_, _-_, _<_, _≤_}
+use native.Mathlib.Nat.{le-trans}
+use native.Mathlib.Omega.{arith}
 use lib.ListN.{length, set, take, drop}
 use lib.Ieee.{Float}
 use Rattle.base.specs.Number.{_⊖_, _⊗_}
 use Rattle.base.specs.Sum.{_!_, sumTo, productFrom}
-use Rattle.base.specs.List.{at, fillAt}
-use Rattle.base.specs.Rows.{row}
+use Rattle.base.specs.List.{at, build, fillTo, fillAt}
+use Rattle.base.specs.Rows.{row, Wrote}
 use Rattle.base.proofs.Commutes.{times-commutes}
-use Rattle.base.proofs.Sums.{sum-cong}
-use Rattle.base.proofs.Fills.{fillat-step}
-use Rattle.base.proofs.Rows.{part-row, only-row, fillat-only}
-use Rattle.linear.specs.Product.{xwAt, columnDot, solvedTerm, effectAt, mixedTerm, normalAt}
+use Rattle.base.proofs.Sums.{lt-or-ge, sum-cong}
+use Rattle.base.proofs.Fills.{build-at, fillat-step, fillat-above, fill-step, fill-end}
+use Rattle.base.proofs.Rows.{row-at, part-row, only-trans, only-row, fillat-only}
+use Rattle.linear.specs.Product.{xwAt, columnDot, solvedTerm, effectAt, mixedTerm, normalAt, fourSet, columnAfter}
 
 -- where the list starts with the column x_a·w, its product with column b of X is entry (a, b) of X'WX: the sum of (x_a·w)·x_b
 pub cross-entry : (x w xw : List Float) (n p a b : ℕ) → ((i : ℕ) → i < n → xw ! i ≡ xwAt x p w a i) → columnDot x p n xw b ≡ sumTo n (λ i. (at p x i a ⊗ (w ! i)) ⊗ at p x i b)
@@ -40,3 +42,69 @@ normal-step x p n xw W q va na m b o e c s v w apart fits l ee eo ec es q' =
 
     entry : c ⊖ s ≡ normalAt x p n xw (row va q v) W q b
     entry = rw (ec, es, unsolved, eo) (mixed x p n xw (row va q v) W q b)
+
+-- ---- four columns side by side
+
+pub four-set : (f : ℕ → Float) (b c d e : ℕ) (out : List Float) (s t u v : Float) → s ≡ f b → t ≡ f c → u ≡ f d → v ≡ f e → set (set (set (set out b s) c t) d u) e v ≡ fourSet f b c d e out
+unfolding fourSet
+four-set f b c d e out s t u v es et eu ev = rw (es, et, eu, ev) refl
+
+-- the same entry is stored once more
+set-again : (xs : List Float) (i : ℕ) (x : Float) → set (set xs i x) i x ≡ set xs i x
+set-again [] i x = refl
+set-again (y ∷ xs) zero x = refl
+set-again (y ∷ xs) (suc i) x = ap (λ (l : List Float). y ∷ l) (set-again xs i x)
+
+-- a list filled up to c, or past it by one, is with entry c stored filled up to c + 1
+fill-again : (f : ℕ → Float) (b : List Float) (k c : ℕ) (w : List Float) → w ≡ fillTo k f b → c ≤ k → k ≤ c + 1 → set w c (f c) ≡ fillTo (c + 1) f b
+fill-again f b k c w e lo hi = ⊎-elim past here (lt-or-ge c k)
+  where
+    here : k ≤ c → set w c (f c) ≡ fillTo (c + 1) f b
+    here l = fill-step f b c w (fill-end f b k c w e l lo)
+
+    past : c < k → set w c (f c) ≡ fillTo (c + 1) f b
+    past l =
+        let before : set (fillTo c f b) c (f c) ≡ fillTo (c + 1) f b = fill-step f b c (fillTo c f b) refl in
+        ap (λ (l : List Float). set l c (f c)) (fill-end f b k (c + 1) w e hi (omega arith) ∙ sym before) ∙ set-again (fillTo c f b) c (f c) ∙ before
+
+after-within : (b a c : ℕ) → b ≤ a → c ≡ columnAfter b a → (b ≤ c) × (c ≤ a)
+after-within b a c l e = (omega arith, omega arith)
+
+-- the last of four columns is not before the first
+pub four-within : (b c d e a : ℕ) → b ≤ a → c ≡ columnAfter b a → d ≡ columnAfter c a → e ≡ columnAfter d a → (b ≤ e) × (e ≤ a)
+four-within b c d e a l ec ed ee =
+    let wc : (b ≤ c) × (c ≤ a) = after-within b a c l ec in
+    let wd : (c ≤ d) × (d ≤ a) = after-within c a d (wc .1) ed in
+    let we : (d ≤ e) × (e ≤ a) = after-within d a e (wd .1) ee in
+    (le-trans (wc .0) (le-trans (wd .0) (we .0)), we .1)
+
+pub four-less : (b e a : ℕ) → (b ≤ e) × (e ≤ a) → a + 1 - (e + 1) < a + 1 - b
+four-less b e a w = omega arith
+
+-- four columns more, none behind a
+pub four-more : (f : ℕ → Float) (b c d e a : ℕ) (v w w' : List Float) → b ≤ a → c ≡ columnAfter b a → d ≡ columnAfter c a → e ≡ columnAfter d a → w ≡ fillTo b f v → w' ≡ fourSet f b c d e w
+    → w' ≡ fillTo (e + 1) f v
+unfolding fourSet
+four-more f b c d e a v w w' l ec ed ee q q' =
+    q'
+    ∙ fill-again f v (d + 1) e _
+    (fill-again f v (c + 1) d _ (fill-again f v (b + 1) c _ (fill-step f v b w q) (omega arith) (omega arith)) (omega arith) (omega arith)) (omega arith) (omega arith)
+
+-- ---- a row of X'WX, and the normal matrix's row made of it
+
+module _ (x : List Float) (p n : ℕ) (xw W : List Float) (q va na a : ℕ) (v u w : List Float) (fits : na + (a + 1) ≤ length v) (crossed : Wrote na (a + 1) (build (columnDot x p n xw) (a + 1)) v u) where
+  -- entry b of X'WX still stands where the row is written up to b
+  pub cross-read : (b : ℕ) → b ≤ a → w ≡ fillAt na b (normalAt x p n xw (row va q u) W q) u → w ! (na + b) ≡ columnDot x p n xw b
+  cross-read b l e =
+      let fits' : na + (a + 1) ≤ length u = omega (arith, crossed .only .len) in
+      ap (λ (y : List Float). y ! (na + b)) e ∙ fillat-above na b (normalAt x p n xw (row va q u) W q) u (na + b) (omega arith)
+      ∙ sym (row-at na (a + 1) u fits' b (omega arith)) ∙ ap (λ (y : List Float). y ! b) (crossed .row') ∙ build-at (columnDot x p n xw) (a + 1) b (omega arith)
+
+  -- the unsolved column was not touched
+  pub normal-wrote : va + q ≤ na → Wrote na (a + 1) (build (normalAt x p n xw (row va q u) W q) (a + 1)) u w → Wrote na (a + 1) (build (normalAt x p n xw (row va q v) W q) (a + 1)) v w
+  normal-wrote apart done =
+      let same : row va q u ≡ row va q v = only-row va q na (a + 1) (inl apart) (omega arith) (crossed .only) in
+      record {
+        row' = done .row' ∙ ap (λ (y : List Float). build (normalAt x p n xw y W q) (a + 1)) same;
+        only = only-trans (crossed .only) (done .only);
+      }

@@ -5,7 +5,7 @@ ghost use lib.ListN.{length};
 ghost use Rattle.base.specs.Sum.{productAt};
 ghost use Rattle.base.specs.List.{build, fillTo};
 ghost use Rattle.base.specs.Rows.{row, Wrote};
-ghost use Rattle.linear.specs.Product.{xBetaAt, xwAt, columnDot, effectAt, normalAt};
+ghost use Rattle.linear.specs.Product.{xBetaAt, xwAt, columnDot, effectAt, normalAt, fourSet, columnAfter};
 
 // Xβ into out.
 pub fn x_beta(x: &[f64], beta: &[f64], n: usize, p: usize, out: &mut [f64])
@@ -73,6 +73,67 @@ pub fn effects_less(wy: &[f64], solved: &[f64], beta: &[f64], q: usize, p: usize
     }
 }
 
+// v times the columns b, c, d and e of X, each into its own place of out. The four sums go side by side: none waits for another's addition.
+fn four_dots(
+    v: &[f64],
+    x: &[f64],
+    n: usize,
+    p: usize,
+    b: usize,
+    c: usize,
+    d: usize,
+    e: usize,
+    out: &mut [f64],
+)
+    requires { ⌜ (n ≤ length (now v)) × (n * p ≤ length (now x)) × (b < p) × (c < p) × (d < p) × (e < p) ⌝ }
+    requires { ⌜ (b < length (now out)) × (c < length (now out)) × (d < length (now out)) × (e < length (now out)) ⌝ }
+    ensures { λ _. ⌜ now (out .exit) ≡ fourSet (columnDot (now (x .entry)) p n (now (v .entry))) b c d e (now (out .entry)) ⌝ }
+{
+    let mut first = 0.0;
+    let mut second = 0.0;
+    let mut third = 0.0;
+    let mut fourth = 0.0;
+    let mut i = 0;
+    while i < n {
+        let o = base::offset(i, n, p);
+        first = first + v[i] * x[o + b];
+        second = second + v[i] * x[o + c];
+        third = third + v[i] * x[o + d];
+        fourth = fourth + v[i] * x[o + e];
+        i += 1;
+    }
+    out[b] = first;
+    out[c] = second;
+    out[d] = third;
+    out[e] = fourth;
+}
+
+// The column after b, but none behind a.
+fn column_after(b: usize, a: usize) -> usize
+    requires { ⌜ b ≤ a ⌝ }
+    ensures { λ r. ⌜ r ≡ columnAfter b a ⌝ }
+{
+    if b < a {
+        return b + 1;
+    }
+    a
+}
+
+// Row a of X'WX up to its diagonal into out, xw being the column x_a·w: four columns at a time, the last ones a itself where there are fewer.
+fn cross_row(x: &[f64], xw: &[f64], n: usize, p: usize, a: usize, out: &mut [f64])
+    requires { ⌜ (n * p ≤ length (now x)) × (n ≤ length (now xw)) × (a < p) × (a < length (now out)) ⌝ }
+    ensures { λ _. ⌜ now (out .exit) ≡ fillTo (a + 1) (columnDot (now (x .entry)) p n (now (xw .entry))) (now (out .entry)) ⌝ }
+{
+    let mut b = 0;
+    while b <= a {
+        let c = column_after(b, a);
+        let d = column_after(c, a);
+        let e = column_after(d, a);
+        four_dots(xw, x, n, p, b, c, d, e, out);
+        b = e + 1;
+    }
+}
+
 // Row a of the normal matrix up to its diagonal, from na on. The unsolved column a stands in the same slice, from va on.
 pub fn normal_row(
     x: &[f64],
@@ -93,12 +154,13 @@ pub fn normal_row(
         (now (t .exit)) ⌝ }
 {
     let ve = va + q;
+    let ne = na + (a + 1);
+    cross_row(x, xw, n, p, a, &mut t[na..ne]);
     let mut b = 0;
     while b <= a {
         let o = base::offset(b, p, q);
-        let cross = column_dot(xw, x, n, p, b);
         let mixed = base::dot_from(solved, o, &t[va..ve], q);
-        t[na + b] = cross - mixed;
+        t[na + b] = t[na + b] - mixed;
         b += 1;
     }
 }
