@@ -13,9 +13,9 @@ use Rattle.base.specs.List.{at, build, fillTo, fillAt}
 use Rattle.base.specs.Rows.{row, Wrote}
 use Rattle.base.proofs.Commutes.{times-commutes}
 use Rattle.base.proofs.Sums.{lt-or-ge, sum-cong}
-use Rattle.base.proofs.Fills.{build-at, fillat-step, fillat-above, fill-step, fill-end}
+use Rattle.base.proofs.Fills.{build-at, fillat-none, fillat-step, fillat-below, fillat-above, fillat-in, length-fillat, fill-step, fill-end, fill-in, fill-past, fill-is, length-fill}
 use Rattle.base.proofs.Rows.{row-at, part-row, only-trans, only-row, fillat-only}
-use Rattle.linear.specs.Product.{xwAt, columnDot, solvedTerm, effectAt, mixedTerm, normalAt, fourSet, columnAfter}
+use Rattle.linear.specs.Product.{xwAt, columnDot, solvedTerm, effectAt, mixedTerm, normalAt, fourSet, columnAfter, sixFrom}
 
 -- where the list starts with the column x_a·w, its product with column b of X is entry (a, b) of X'WX: the sum of (x_a·w)·x_b
 pub cross-entry : (x w xw : List Float) (n p a b : ℕ) → ((i : ℕ) → i < n → xw ! i ≡ xwAt x p w a i) → columnDot x p n xw b ≡ sumTo n (λ i. (at p x i a ⊗ (w ! i)) ⊗ at p x i b)
@@ -89,6 +89,61 @@ four-more f b c d e a v w w' l ec ed ee q q' =
     q'
     ∙ fill-again f v (d + 1) e _
     (fill-again f v (c + 1) d _ (fill-again f v (b + 1) c _ (fill-step f v b w q) (omega arith) (omega arith)) (omega arith) (omega arith)) (omega arith) (omega arith)
+
+-- ---- six columns side by side
+
+module _ (f : ℕ → Float) (b : ℕ) (out : List Float) (first second third fourth fifth sixth : Float) where
+  -- six stores, one behind the other
+  pub six-set : first ≡ f b → second ≡ f (b + 1) → third ≡ f (b + 2) → fourth ≡ f (b + 3) → fifth ≡ f (b + 4) → sixth ≡ f (b + 5)
+      → set (set (set (set (set (set out b first) (b + 1) second) (b + 2) third) (b + 3) fourth) (b + 4) fifth) (b + 5) sixth ≡ fillAt b 6 (λ k. f (b + k)) out
+  six-set e1 e2 e3 e4 e5 e6 =
+      let g : ℕ → Float = λ k. f (b + k) in
+      let start : b ≡ b + 0 = omega arith in
+      let s1 : set out b first ≡ fillAt b 1 g out =
+      ap (λ (y : Float). set out b y) (e1 ∙ ap f start) ∙ ap (λ (k : ℕ). set out k (f (b + 0))) start ∙ fillat-step b g out 0 out (fillat-none b g out) in
+      let s2 : set (set out b first) (b + 1) second ≡ fillAt b 2 g out = ap (λ (y : Float). set (set out b first) (b + 1) y) e2 ∙ fillat-step b g out 1 _ s1 in
+      let s3 : set (set (set out b first) (b + 1) second) (b + 2) third ≡ fillAt b 3 g out =
+      ap (λ (y : Float). set (set (set out b first) (b + 1) second) (b + 2) y) e3 ∙ fillat-step b g out 2 _ s2 in
+      let s4 : set (set (set (set out b first) (b + 1) second) (b + 2) third) (b + 3) fourth ≡ fillAt b 4 g out =
+      ap (λ (y : Float). set (set (set (set out b first) (b + 1) second) (b + 2) third) (b + 3) y) e4 ∙ fillat-step b g out 3 _ s3 in
+      let s5 : set (set (set (set (set out b first) (b + 1) second) (b + 2) third) (b + 3) fourth) (b + 4) fifth ≡ fillAt b 5 g out =
+      ap (λ (y : Float). set (set (set (set (set out b first) (b + 1) second) (b + 2) third) (b + 3) fourth) (b + 4) y) e5 ∙ fillat-step b g out 4 _ s4 in
+      ap (λ (y : Float). set (set (set (set (set (set out b first) (b + 1) second) (b + 2) third) (b + 3) fourth) (b + 4) fifth) (b + 5) y) e6 ∙ fillat-step b g out 5 _ s5
+
+-- the six columns begin at b or before it, and end behind it, but not behind a
+pub six-within : (b o a : ℕ) → 5 ≤ a → b ≤ a → o ≡ sixFrom b a → (o ≤ b) × (b < o + 6) × (o + 6 ≤ a + 1)
+six-within b o a l5 l e = (omega arith, omega arith, omega arith)
+
+pub six-less : (b o a : ℕ) → (o ≤ b) × (b < o + 6) × (o + 6 ≤ a + 1) → a + 1 - (o + 6) < a + 1 - b
+six-less b o a w = omega arith
+
+-- six columns more: those that were written before are written again
+module _ (f : ℕ → Float) (b o : ℕ) (v w w' : List Float) (from : o ≤ b) (to : b < o + 6) (fits : o + 6 ≤ length v) (before : w ≡ fillTo b f v) (after : w' ≡ fillAt o 6 (λ k. f (o + k)) w) where
+  six-long : length w ≡ length v
+  six-long = ap length before ∙ length-fill b f v
+
+  six-in : (k : ℕ) → k < 6 → w' ! (o + k) ≡ f (o + k)
+  six-in k l = ap (λ (y : List Float). y ! (o + k)) after ∙ fillat-in o 6 (λ k. f (o + k)) w (omega (arith, six-long)) k l
+
+  six-done : (i : ℕ) → i < o + 6 → w' ! i ≡ f i
+  six-done i l = ⊎-elim earlier inside (lt-or-ge i o)
+    where
+      earlier : i < o → w' ! i ≡ f i
+      earlier m =
+          ap (λ (y : List Float). y ! i) after ∙ fillat-below o 6 (λ k. f (o + k)) w i m ∙ ap (λ (y : List Float). y ! i) before
+          ∙ fill-in b f v (omega arith) i (omega arith)
+
+      inside : o ≤ i → w' ! i ≡ f i
+      inside m =
+          let e : o + (i - o) ≡ i = omega arith in
+          ap (λ (j : ℕ). w' ! j) (sym e) ∙ six-in (i - o) (omega arith) ∙ ap f e
+
+  six-rest : (i : ℕ) → o + 6 ≤ i → w' ! i ≡ v ! i
+  six-rest i l =
+      ap (λ (y : List Float). y ! i) after ∙ fillat-above o 6 (λ k. f (o + k)) w i l ∙ ap (λ (y : List Float). y ! i) before ∙ fill-past b f v i (omega arith)
+
+  pub six-more : w' ≡ fillTo (o + 6) f v
+  six-more = fill-is (o + 6) f v w' fits (ap length after ∙ length-fillat o 6 (λ k. f (o + k)) w ∙ six-long) six-done six-rest
 
 -- ---- a row of X'WX, and the normal matrix's row made of it
 

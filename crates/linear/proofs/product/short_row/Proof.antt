@@ -1,4 +1,4 @@
--- `linear::cross_row` meets its contract: before each turn the entries before column b are written; the columns that a turn takes are b and those after it, none behind a.
+-- `linear::short_row` meets its contract: before each turn the entries before column b are written; the columns that a turn takes are b and those after it, none behind a.
 use mathlib.Core.Path.{_≡_, _∙_}
 use Prim.Native.Nat.{_+_, _≤_, _-_}
 use lib.ListN.{length}
@@ -7,8 +7,8 @@ use Rattle.base.proofs.Fills.{fill-none, fill-end}
 use Rattle.linear.specs.Product.{columnDot}
 use Rattle.linear.proofs.Columns.{four-within, four-less, four-more}
 use native.Mathlib.Omega.{arith}
-use Rattle.linear.proofs.product.cross_row.Statement.{statement}
-use Rattle.linear.proofs.product.cross_row.Tie as tie
+use Rattle.linear.proofs.product.short_row.Statement.{statement}
+use Rattle.linear.proofs.product.short_row.Tie as tie
 
 abbrev Inv-loop : tie.InvT-loop
 Inv-loop x xw n p a out₀ b₀ out b = (b ≤ a + 1) × (length out ≡ length out₀) × (out ≡ fillTo b (columnDot x p n xw) out₀)
@@ -58,8 +58,8 @@ same-length c = omega arith
 returns : tie.Need-returns Inv-loop μ-loop
 returns c = fill-end _ _ _ _ _ (c .before .loop .inv .2) (omega arith) (omega arith)
 
-pub cross-row-spec : {M : Type 1} → statement M
-cross-row-spec =
+pub short-row-spec : {M : Type 1} → statement M
+short-row-spec =
     tie.close
     (tie.spec
     Inv-loop
