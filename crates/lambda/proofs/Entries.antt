@@ -4,24 +4,24 @@ use mathlib.Core.List.{List}
 use mathlib.Core.Logic.{⊎-elim}
 use mathlib.Core.Bool.{true, false}
 use Prim.Native.Nat.{ℕ, _+_, _-_, _*_, _<_, _≤_}
-use native.Mathlib.Nat.{add-zero}
+use native.Mathlib.Nat.{add-zero, le-refl}
 use native.Mathlib.Omega.{arith}
 use borrow.Author.Tests.{le-leb, lt-leb, lt-ltb, le-ltb}
 use lib.Dec.{eqb}
 use lib.ListN.{length, set, take, drop}
 use lib.Ieee.{Float}
 use Rattle.base.specs.Number.{_⊕_, _⊗_, zeroF, oneF}
-use Rattle.base.specs.Sum.{_!_, sumTo, addWhere, sumWhere, productFrom}
+use Rattle.base.specs.Sum.{_!_, _!!_, sumTo, addWhere, sumWhere, productFrom}
 use Rattle.base.specs.List.{zeroAt, at, fillTo, fillAt}
 use Rattle.base.proofs.Sums.{lt-or-ge, sum-cong, where-take, where-skip, where-stretch}
 use Rattle.base.proofs.Rows.{part-at}
-use Rattle.base.proofs.Fills.{fillat-cong, fillat-step, length-fillat, fillat-below, fillat-above, fillat-in, length-fill, fill-past, fill-in, fill-is, fill-over}
+use Rattle.base.proofs.Fills.{fillat-cong, fillat-step, length-fillat, fillat-below, fillat-above, fillat-in, length-fill, fill-step, fill-past, fill-in, fill-is, fill-over}
 use Rattle.model.specs.Shape.{effectsOf, InRange}
 use Rattle.model.specs.declared.sizes.Shape.{Shape}
-use Rattle.lambda.specs.Column.{columnOf, isEntry, lambdaAt}
-use Rattle.lambda.specs.Product.{columnAddedAt, acrossRow, downColumn, timesTerm, lambdaTimesAt, transposedTerm, lambdaTransposedAt, rightTerm, rightAt, rightColumnAt, leftTerm, systemAt, rightBy, rightOne, systemBy, systemOne}
+use Rattle.lambda.specs.Column.{columnOf, isEntry, lambdaAt, isSingle}
+use Rattle.lambda.specs.Product.{columnAddedAt, acrossRow, downColumn, timesTerm, lambdaTimesAt, transposedTerm, lambdaTransposedAt, rightTerm, rightAt, rightColumnAt, leftTerm, systemAt, rightBy, rightOne, systemBy, systemOne, scaledAt}
 use Rattle.lambda.specs.declared.column.Column.{Column}
-use Rattle.lambda.proofs.ColumnPlaces.{column-rows}
+use Rattle.lambda.proofs.ColumnPlaces.{column-rows, one-column, single-is}
 
 -- above the diagonal there is no place
 pub entry-above : (s : Shape) (i j : ℕ) → i < j → isEntry s i j ≡ false
@@ -194,3 +194,61 @@ module _ (s : Shape) (theta S : List Float) (k : Column) (q c o : ℕ) (b X : Li
 
   pub system-end-one : k .count ≡ 1 → X ≡ fillAt o q (systemOne (theta ! (k .first)) q S c) b → X ≡ fillAt (c * q) q (systemAt s theta S c) b
   system-end-one n x = system-end (x ∙ fillat-cong o q _ _ b (λ i m. rw n (system-one (k .first) theta S q c i)))
+
+-- ---- Λ is one number times the unit matrix
+module _ (s : Shape) (theta : List Float) (r : InRange s) (n : s .count ≡ 1) (k : s .k !! 0 ≡ 1) where
+  count-one : (j : ℕ) → j < effectsOf s → columnOf s j .count ≡ 1
+  count-one j l = ap (λ (c : Column). c .count) (one-column s j r n k l)
+
+  diagonal : (j : ℕ) → j < effectsOf s → lambdaAt s theta j j ≡ theta ! 0
+  diagonal j l =
+      let here : lambdaAt s theta j j ≡ theta ! (columnOf s j .first + 0) = rw (add-zero j) at (entry-at s theta j 0) in
+      let first : columnOf s j .first ≡ 0 = ap (λ (c : Column). c .first) (one-column s j r n k l) in
+      here ∙ rw first refl
+
+  pub transposed-one : (v : List Float) (j : ℕ) → j < effectsOf s → scaledAt (theta ! 0) v j ≡ lambdaTransposedAt s theta v j
+  unfolding lambdaTransposedAt transposedTerm scaledAt sumTo
+  transposed-one v j l =
+      sym (column-sum s j (transposedTerm s theta v j) r l ∙ rw (count-one j l, add-zero j, diagonal j l) refl)
+
+  pub times-one : (u : List Float) (i : ℕ) → i < effectsOf s → scaledAt (theta ! 0) u i ≡ lambdaTimesAt s theta u i
+  unfolding lambdaTimesAt acrossRow timesTerm scaledAt sumTo
+  times-one u i l =
+      sym
+      (where-stretch (λ j. isEntry s i j) (timesTerm s theta u i) (effectsOf s) i 1 (omega arith)
+      (λ j m. entry-past s i j (omega (arith, count-one j (omega arith))))
+      (λ j m. on-diagonal j m)
+      (λ j m g. entry-above s i j (omega arith))
+      ∙ rw (add-zero i, diagonal i l) refl)
+    where
+      on-diagonal : (j : ℕ) → j < 1 → isEntry s i (i + j) ≡ true
+      on-diagonal j m =
+          let z : j ≡ 0 = omega arith in
+          rw (z, add-zero i) (rw (add-zero i) at (entry-in s i 0 (omega (arith, count-one i l))))
+
+-- one number of v more is multiplied in place
+pub scaled-step : (x : Float) (v : List Float) (j : ℕ) (X : List Float) → X ≡ fillTo j (scaledAt x v) v → set X j (zeroF ⊕ (x ⊗ (X ! j))) ≡ fillTo (j + 1) (scaledAt x v) v
+unfolding scaledAt
+scaled-step x v j X e =
+    let old : X ! j ≡ v ! j = rw e (fill-past j (scaledAt x v) v j (le-refl j)) in
+    rw old (fill-step (scaledAt x v) v j X e)
+
+pub into-step : (x : Float) (u b : List Float) (j : ℕ) (X : List Float) → X ≡ fillTo j (scaledAt x u) b → set X j (zeroF ⊕ (x ⊗ (u ! j))) ≡ fillTo (j + 1) (scaledAt x u) b
+unfolding scaledAt
+into-step x u b j X e = fill-step (scaledAt x u) b j X e
+
+-- ---- the whole list, where Λ is one number times the unit matrix
+fill-same : (q : ℕ) (f g : ℕ → Float) (b X : List Float) → q ≤ length b → ((i : ℕ) → i < q → f i ≡ g i) → X ≡ fillTo q f b → X ≡ fillTo q g b
+fill-same q f g b X h p e =
+    fill-is q g b X h (ap length e ∙ length-fill q f b)
+    (λ i l. ap (λ (y : List Float). y ! i) e ∙ fill-in q f b h i l ∙ p i l)
+    (λ i l. ap (λ (y : List Float). y ! i) e ∙ fill-past q f b i l)
+
+module _ (s : Shape) (theta : List Float) (q : ℕ) (r : InRange s) (one : isSingle s ≡ true) (e : q ≡ effectsOf s) where
+  pub transposed-single : (v X : List Float) → q ≤ length v → X ≡ fillTo q (scaledAt (theta ! 0) v) v → X ≡ fillTo q (lambdaTransposedAt s theta v) v
+  transposed-single v X h x =
+      fill-same q _ _ v X h (λ i l. transposed-one s theta r (single-is s one .0) (single-is s one .1) v i (omega (arith, e))) x
+
+  pub times-single : (u b X : List Float) → q ≤ length b → X ≡ fillTo q (scaledAt (theta ! 0) u) b → X ≡ fillTo q (lambdaTimesAt s theta u) b
+  times-single u b X h x =
+      fill-same q _ _ b X h (λ i l. times-one s theta r (single-is s one .0) (single-is s one .1) u i (omega (arith, e))) x

@@ -58,6 +58,10 @@ rightColumnAt s theta S c a = rightAt s theta S a c
 unfoldable pub columnAddedAt : List Float → ℕ → Float → List Float → ℕ → ℕ → Float
 columnAddedAt theta first x b j t = (b ! (j + t)) ⊕ ((theta ! (first + t)) ⊗ x)
 
+-- x · v_i from +0.0: an entry of Λv where Λ is x times the unit matrix
+unfoldable pub scaledAt : Float → List Float → ℕ → Float
+scaledAt x v i = zeroF ⊕ (x ⊗ (v ! i))
+
 -- ---- by a column of Λ, the shape being out of sight: `count` numbers of theta from `first` on, or one number x
 
 -- entry a of column c of SΛ
