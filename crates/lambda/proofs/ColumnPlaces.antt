@@ -15,7 +15,8 @@ use Rattle.model.specs.Shape.{totalTo, blockEffects, blockThetas, firstEffect, 
 use Rattle.model.specs.declared.sizes.Shape.{Shape}
 use Rattle.model.proofs.Totals.{total-none, total-step, total-grows}
 use Rattle.model.proofs.Shapes.{thetas-twice, thetas-small, effect-step, theta-step}
-use Rattle.lambda.specs.Column.{begunBy, blockOf, groupSize, effectIn, columnLength, columnStart, columnIn, columnOf, isSingle}
+use Rattle.lambda.specs.Column.{begunBy, blockOf, groupSize, effectIn, columnLength, columnStart, columnIn, columnOf}
+use Rattle.lambda.specs.Parts.{isSingle}
 
 -- effect j is one of block i's
 pub record InBlock (s : Shape) (i j : ℕ) : Type 0 where

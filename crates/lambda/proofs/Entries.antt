@@ -18,8 +18,9 @@ use Rattle.base.proofs.Rows.{part-at}
 use Rattle.base.proofs.Fills.{fillat-cong, fillat-step, length-fillat, fillat-below, fillat-above, fillat-in, length-fill, fill-step, fill-past, fill-in, fill-is, fill-over}
 use Rattle.model.specs.Shape.{effectsOf, InRange}
 use Rattle.model.specs.declared.sizes.Shape.{Shape}
-use Rattle.lambda.specs.Column.{columnOf, isEntry, lambdaAt, isSingle}
-use Rattle.lambda.specs.Product.{columnAddedAt, acrossRow, downColumn, timesTerm, lambdaTimesAt, transposedTerm, lambdaTransposedAt, rightTerm, rightAt, rightColumnAt, leftTerm, systemAt, rightBy, rightOne, systemBy, systemOne, scaledAt}
+use Rattle.lambda.specs.Column.{columnOf, isEntry, lambdaAt}
+use Rattle.lambda.specs.Parts.{isSingle, rightBy, rightOne, systemBy, systemOne, scaledAt}
+use Rattle.lambda.specs.Product.{columnAddedAt, acrossRow, downColumn, timesTerm, lambdaTimesAt, transposedTerm, lambdaTransposedAt, rightTerm, rightAt, rightColumnAt, leftTerm, systemAt}
 use Rattle.lambda.specs.declared.column.Column.{Column}
 use Rattle.lambda.proofs.ColumnPlaces.{column-rows, one-column, single-is}
 

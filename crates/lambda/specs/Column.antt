@@ -3,7 +3,7 @@
 use mathlib.Core.List.{List}
 use mathlib.Core.Bool.{Bool, _&&_, cond}
 use Prim.Native.Nat.{ℕ, _+_, _-_, _%_}
-use lib.Dec.{leb, ltb, eqb}
+use lib.Dec.{leb, ltb}
 use lib.Ieee.{Float}
 use Rattle.base.specs.Number.{zeroF}
 use Rattle.base.specs.Sum.{_!_, _!!_}
@@ -56,7 +56,3 @@ lambdaAt s theta i j = theta ! (columnOf s j .first + (i - j))
 -- entry (i, j) of Λ as a whole matrix: +0.0 where it has no place
 unfoldable pub lambdaFull : Shape → List Float → ℕ → ℕ → Float
 lambdaFull s theta i j = cond (isEntry s i j) (lambdaAt s theta i j) zeroF
-
--- one block of one effect a group: Λ is one number times the unit matrix
-unfoldable pub isSingle : Shape → Bool
-isSingle s = eqb (s .count) 1 && eqb (groupSize s 0) 1

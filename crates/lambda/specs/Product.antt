@@ -3,8 +3,8 @@ use mathlib.Core.List.{List}
 use Prim.Native.Nat.{ℕ, _+_}
 use lib.Dec.{eqb}
 use lib.Ieee.{Float}
-use Rattle.base.specs.Number.{_⊕_, _⊗_, zeroF, oneF}
-use Rattle.base.specs.Sum.{_!_, sumTo, addWhere, sumWhere}
+use Rattle.base.specs.Number.{_⊕_, _⊗_, oneF}
+use Rattle.base.specs.Sum.{_!_, addWhere, sumWhere}
 use Rattle.base.specs.List.{at}
 use Rattle.model.specs.Shape.{effectsOf}
 use Rattle.model.specs.declared.sizes.Shape.{Shape}
@@ -57,23 +57,3 @@ rightColumnAt s theta S c a = rightAt s theta S a c
 -- what stands t places behind j in b, and x times the number of theta t places behind first
 unfoldable pub columnAddedAt : List Float → ℕ → Float → List Float → ℕ → ℕ → Float
 columnAddedAt theta first x b j t = (b ! (j + t)) ⊕ ((theta ! (first + t)) ⊗ x)
-
--- x · v_i from +0.0: an entry of Λv where Λ is x times the unit matrix
-unfoldable pub scaledAt : Float → List Float → ℕ → Float
-scaledAt x v i = zeroF ⊕ (x ⊗ (v ! i))
-
--- ---- by a column of Λ, the shape being out of sight: `count` numbers of theta from `first` on, or one number x
-
--- entry a of column c of SΛ
-unfoldable pub rightBy : ℕ → ℕ → List Float → ℕ → List Float → ℕ → ℕ → Float
-rightBy first count theta q S c a = sumTo count (λ t. at q S a (c + t) ⊗ (theta ! (first + t)))
-
-unfoldable pub rightOne : Float → ℕ → List Float → ℕ → ℕ → Float
-rightOne x q S c a = zeroF ⊕ (at q S a c ⊗ x)
-
--- entry c of row a of A
-unfoldable pub systemBy : ℕ → ℕ → List Float → ℕ → List Float → ℕ → ℕ → Float
-systemBy first count theta q K a c = addWhere (eqb a c) (sumTo count (λ t. (theta ! (first + t)) ⊗ at q K c (a + t))) oneF
-
-unfoldable pub systemOne : Float → ℕ → List Float → ℕ → ℕ → Float
-systemOne x q K a c = addWhere (eqb a c) (zeroF ⊕ (x ⊗ at q K c a)) oneF

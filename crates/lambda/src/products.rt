@@ -7,8 +7,8 @@ ghost use Prim.Native.Nat.{_+_, _≤_};
 ghost use lib.ListN.{length};
 ghost use Rattle.base.specs.List.{fillTo, fillAt};
 ghost use Rattle.model.specs.Shape.{effectsOf, thetaLength, goodShape};
-ghost use Rattle.lambda.specs.Column.{isSingle};
-ghost use Rattle.lambda.specs.Product.{scaledAt, columnAddedAt, lambdaTimesAt, lambdaTransposedAt};
+ghost use Rattle.lambda.specs.Parts.{isSingle, scaledAt};
+ghost use Rattle.lambda.specs.Product.{columnAddedAt, lambdaTimesAt, lambdaTransposedAt};
 
 // Whether every column of Λ is the one number of theta on the diagonal: one block, of one effect a group.
 fn is_single(shape: Shape) -> bool

@@ -10,7 +10,8 @@ ghost use Rattle.base.specs.Number.{oneF};
 ghost use Rattle.base.specs.Sum.{addWhere};
 ghost use Rattle.base.specs.List.{fillAt, gridTo};
 ghost use Rattle.model.specs.Shape.{effectsOf, thetaLength, goodShape};
-ghost use Rattle.lambda.specs.Product.{rightColumnAt, systemAt, rightOne, rightBy, systemOne, systemBy};
+ghost use Rattle.lambda.specs.Product.{rightColumnAt, systemAt};
+ghost use Rattle.lambda.specs.Parts.{rightOne, rightBy, systemOne, systemBy};
 
 // Column c of SΛ into the q places of out from o on, where column c of Λ is the one number x: column c of S times it.
 fn right_single(x: f64, q: usize, s: &[f64], c: usize, o: usize, out: &mut [f64])

@@ -2,7 +2,7 @@
 use mathlib.Core.Path.{refl}
 use borrow.Author.Needs.{needs}
 use borrow.Author.Tests.{eq-eqb, ne-eqb}
-use Rattle.lambda.specs.Column.{isSingle}
+use Rattle.lambda.specs.Parts.{isSingle}
 use Rattle.lambda.proofs.products.is_single.Statement.{statement}
 use Rattle.lambda.proofs.products.is_single.Tie as tie
 

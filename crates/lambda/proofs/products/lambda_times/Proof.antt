@@ -3,7 +3,7 @@ use mathlib.Core.Path.{_≡_, sym, _∙_}
 use mathlib.Core.Bool.{true}
 use native.Mathlib.Omega.{arith}
 use Rattle.model.proofs.Shapes.{in-range}
-use Rattle.lambda.specs.Column.{isSingle}
+use Rattle.lambda.specs.Parts.{isSingle}
 use Rattle.lambda.proofs.ColumnPlaces.{single-theta}
 use Rattle.lambda.proofs.Entries.{times-single}
 use borrow.Author.Needs.{needs}

@@ -6,7 +6,7 @@ use native.Mathlib.Omega.{arith}
 use Rattle.base.specs.List.{fillTo}
 use Rattle.base.proofs.Fills.{fill-none, fill-end}
 use Rattle.base.proofs.Loops.{loops}
-use Rattle.lambda.specs.Product.{scaledAt}
+use Rattle.lambda.specs.Parts.{scaledAt}
 use Rattle.lambda.proofs.Entries.{scaled-step}
 use borrow.Author.Needs.{needs}
 use Rattle.lambda.proofs.products.scale.Statement.{statement}

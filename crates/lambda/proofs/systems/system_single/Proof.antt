@@ -6,7 +6,7 @@ use native.Mathlib.Omega.{arith}
 use Rattle.base.specs.List.{fillAt}
 use Rattle.base.proofs.Fills.{fillat-none, fillat-step, fillat-end}
 use Rattle.base.proofs.Loops.{loops}
-use Rattle.lambda.specs.Product.{systemOne}
+use Rattle.lambda.specs.Parts.{systemOne}
 use Rattle.lambda.proofs.Entries.{system-single}
 use borrow.Author.Needs.{needs}
 use Rattle.lambda.proofs.systems.system_single.Statement.{statement}
