@@ -15,7 +15,8 @@ use Rattle.base.proofs.Commutes.{times-commutes}
 use Rattle.base.proofs.Sums.{lt-or-ge, sum-cong}
 use Rattle.base.proofs.Fills.{build-at, fillat-none, fillat-step, fillat-below, fillat-above, fillat-in, length-fillat, fill-step, fill-end, fill-in, fill-past, fill-is, length-fill}
 use Rattle.base.proofs.Rows.{row-at, part-row, only-trans, only-row, fillat-only}
-use Rattle.linear.specs.Product.{xwAt, columnDot, solvedTerm, effectAt, mixedTerm, normalAt, fourSet, columnAfter, sixFrom}
+use Rattle.linear.specs.Product.{xwAt, columnDot, solvedTerm, effectAt, mixedTerm, normalAt}
+use Rattle.linear.specs.SideBySide.{fourSet, columnAfter, sixFrom}
 
 -- where the list starts with the column x_a·w, its product with column b of X is entry (a, b) of X'WX: the sum of (x_a·w)·x_b
 pub cross-entry : (x w xw : List Float) (n p a b : ℕ) → ((i : ℕ) → i < n → xw ! i ≡ xwAt x p w a i) → columnDot x p n xw b ≡ sumTo n (λ i. (at p x i a ⊗ (w ! i)) ⊗ at p x i b)

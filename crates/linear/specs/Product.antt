@@ -1,7 +1,6 @@
 -- Products with X, a matrix of p columns. Document 01, "The inner fit": one rounding for each product and each addition. Assumes nothing.
 use mathlib.Core.List.{List}
-use Prim.Native.Nat.{ℕ, _+_, _-_, _*_}
-use lib.ListN.{set}
+use Prim.Native.Nat.{ℕ, _*_}
 use lib.Ieee.{Float}
 use Rattle.base.specs.Number.{_⊖_, _⊗_}
 use Rattle.base.specs.Sum.{_!_, sumTo, productFrom}
@@ -38,21 +37,3 @@ mixedTerm v W q b i = (v ! i) ⊗ at q W b i
 -- entry b of a row of the normal matrix: that of X'WX, by the column xw, less v·W_b
 unfoldable pub normalAt : List Float → ℕ → ℕ → List Float → List Float → List Float → ℕ → ℕ → Float
 normalAt x p n xw v W q b = columnDot x p n xw b ⊖ sumTo q (mixedTerm v W q b)
-
--- ---- columns side by side
-
--- out with entries b, c, d and e replaced by those of f
-unfoldable pub fourSet : (ℕ → Float) → ℕ → ℕ → ℕ → ℕ → List Float → List Float
-fourSet f b c d e out = set (set (set (set out b (f b)) c (f c)) d (f d)) e (f e)
-
--- the lesser of b + 1 and a
-abbrev pub columnAfter : ℕ → ℕ → ℕ
-columnAfter b a = b + 1 - (b + 1 - a)
-
--- v times column b + k of X
-abbrev pub columnFrom : List Float → ℕ → ℕ → List Float → ℕ → ℕ → Float
-columnFrom x p n v b k = columnDot x p n v (b + k)
-
--- the lesser of b and a - 5
-abbrev pub sixFrom : ℕ → ℕ → ℕ
-sixFrom b a = b - (b - (a - 5))

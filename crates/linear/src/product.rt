@@ -5,7 +5,8 @@ ghost use lib.ListN.{length};
 ghost use Rattle.base.specs.Sum.{productAt};
 ghost use Rattle.base.specs.List.{build, fillTo, fillAt};
 ghost use Rattle.base.specs.Rows.{row, Wrote};
-ghost use Rattle.linear.specs.Product.{xBetaAt, xwAt, columnDot, effectAt, normalAt, fourSet, columnAfter, columnFrom, sixFrom};
+ghost use Rattle.linear.specs.Product.{xBetaAt, xwAt, columnDot, effectAt, normalAt};
+ghost use Rattle.linear.specs.SideBySide.{fourSet, columnAfter, columnFrom, sixFrom};
 
 // Xβ into out.
 pub fn x_beta(x: &[f64], beta: &[f64], n: usize, p: usize, out: &mut [f64])
