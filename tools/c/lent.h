@@ -1,21 +1,7 @@
-/* What the test programs over the C library share: the bytes of a job, buffers with a pattern behind them, and the lines of an answer as fitjob prints them. */
-#include <stdio.h>
-#include <string.h>
+/* What the test programs over the C library share: buffers with a pattern behind them, and the lines of an answer as fitjob prints them. */
+#include "bytes.h"
 
-#include "glmm.h"
-
-#define GUARD 16
 static const double pattern = 9.25;
-static uint8_t job[65537];
-
-/* A field of the job; what is cut short reads as zero bits. */
-static unsigned bits(size_t length, size_t at, unsigned width)
-{
-    unsigned value = 0;
-    for (; width > 0; width--, at++)
-        value = 2 * value + (at / 8 < length ? (job[at / 8] >> (7 - at % 8)) & 1U : 0);
-    return value;
-}
 
 static uint64_t pattern_of(double x)
 {
@@ -67,15 +53,6 @@ static void first_line(const uint64_t *counts)
     for (i = 0; i < GLMM_COUNTS; i++)
         if (words[i] != NULL)
             printf("%s %u%c", words[i], (unsigned)counts[i], i + 1 < GLMM_COUNTS ? ' ' : '\n');
-}
-
-static size_t read_file(const char *name, void *to, size_t size, size_t count)
-{
-    FILE *file = fopen(name, "rb");
-    size_t length = file == NULL ? 0 : fread(to, size, count, file);
-    if (file != NULL)
-        fclose(file);
-    return length;
 }
 
 /* How deep the stack goes below a caller: `paint` covers it, a call is made, and `depth` finds the lowest byte that was written. Both have the same frame,

@@ -48,6 +48,19 @@ tells([normal[1][0]], [cross[1][0] - total(solved[1][i] * unsolved[0][i] for i i
 tells(normal[1], [total([cross[1][b]] + [-unsolved[1][i] * solved[b][i] for i in range(3)]) for b in range(2)])
 print("normal", *[text(v) for v in [9.0] + unsolved[0] + unsolved[1] + [9.0] + [normal[0][0], 9.0] + normal[1] + [9.0]])
 
+x = [[1.7, -2.3, -1.7, -1.0, -2.8, 0.9, 0.6, 1.0],
+     [-0.8, 0.6, 1.5, 2.0, -2.2, 2.5, 1.3, 1.1],
+     [-2.3, 2.8, -1.7, -2.7, 1.0, 2.9, -1.6, -0.4],
+     [-1.3, 1.0, -0.7, -2.8, -2.4, -1.2, 1.9, -1.7]]
+w, unsolved, solved = [1.8, 0.1, 0.7, 1.3], 0.3, [0.3, -1.2, -1.4, 0.6, -1.6, 1.6, 1.5, 0.3]
+turned = []
+for a in range(8):
+    xw = [x[i][a] * w[i] for i in range(4)]
+    cross = [total(xw[i] * x[i][b] for i in range(4)) for b in range(a + 1)]
+    turned.append([total(xw[i] * x[i][b] for i in reversed(range(4))) for b in range(a + 1)] != cross)
+    print("row", *[text(v) for v in [unsolved, 9.0] + [cross[b] - total([unsolved * solved[b]]) for b in range(a + 1)] + [9.0] * (8 - a)])
+assert all(turned[3:])
+
 rows = [{1: 0.1, 3: -0.7, 4: 0.3}, {}, {0: 1e16, 2: 1.1, 3: -1e16, 4: 0.9}, {1: 0.7, 3: 0.9, 4: 1.9}, {0: 2.3, 2: 0.6}]
 v, w, b = [1.0, 0.7, 3.0, 1.0, 0.3], [1.8, 0.1, 0.7, 1.3, 0.3], [0.3, 5.0, 1.1, 1.7, 0.7]
 side = [total(r[i] * v[i] for i in sorted(r)) for r in rows]

@@ -79,6 +79,63 @@ fn normal() {
     text::put_list(b"normal", &t, 13);
 }
 
+// Row a of a normal matrix of eight columns: one of each length, since the longer ones are made otherwise than the shorter ones.
+fn longer_row(a: usize)
+    requires { ⌜ a ≤ 7 ⌝ }
+{
+    let x = [
+        1.7,
+        -2.3,
+        -1.7,
+        -1.0,
+        -2.8,
+        0.9,
+        0.6,
+        1.0,
+        -0.8,
+        0.6,
+        1.5,
+        2.0,
+        -2.2,
+        2.5,
+        1.3,
+        1.1,
+        -2.3,
+        2.8,
+        -1.7,
+        -2.7,
+        1.0,
+        2.9,
+        -1.6,
+        -0.4,
+        -1.3,
+        1.0,
+        -0.7,
+        -2.8,
+        -2.4,
+        -1.2,
+        1.9,
+        -1.7,
+    ];
+    let solved = [0.3, -1.2, -1.4, 0.6, -1.6, 1.6, 1.5, 0.3];
+    let mut t = [0.3, 9.0, 9.0, 9.0, 9.0, 9.0, 9.0, 9.0, 9.0, 9.0, 9.0];
+    let mut xw = [9.0; 4];
+    linear::xw_column(&x, &[1.8, 0.1, 0.7, 1.3], 4, 8, a, &mut xw);
+    linear::normal_row(&x, &xw, &solved, 4, 8, 1, a, 0, 2, &mut t);
+    text::put_list(b"row", &t, 11);
+}
+
+fn longer_rows() {
+    longer_row(0);
+    longer_row(1);
+    longer_row(2);
+    longer_row(3);
+    longer_row(4);
+    longer_row(5);
+    longer_row(6);
+    longer_row(7);
+}
+
 fn side(starts: &[usize], columns: &[usize], values: &[f64])
     requires { ⌜ Rows (now starts) (now columns) (now values) 5 5 ⌝ }
 {
@@ -159,5 +216,6 @@ fn main() {
     cross_row(1);
     effects();
     normal();
+    longer_rows();
     stored_rows();
 }

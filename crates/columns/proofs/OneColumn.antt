@@ -31,7 +31,7 @@ use Rattle.rule.specs.Given.{Design, designOf}
 use Rattle.rule.specs.Working.{weightedColumn}
 use Rattle.rule.specs.Solve.{sideOf, unsolvedColumn, solvedColumn, normalEntry, normalSideAt}
 use Rattle.solve.specs.Ready.{Whatever}
-use Rattle.columns.specs.Columns.{WroteSide, ColumnOf}
+use Rattle.columns.specs.Columns.{WeightedLeft, WroteSide, ColumnOf}
 use Rattle.base.proofs.TwoRows.{set-only, two-of}
 
 -- the pieces of column a lie within those of all columns, and these within the work slices
@@ -74,6 +74,7 @@ pub record Placed (n p q a : ℕ) (r m t : List Float) (column working w unsolve
   pub ba-few : beta + a < 2 ^ 64
   pub column-in : column + n ≤ length r
   pub working-in : working + n ≤ length r
+  pub behind : column + n ≤ working
   pub factor-in : q * q ≤ length t
   pub w-in : w + n ≤ length t
   pub va-in : unsolved + o + q ≤ length t
@@ -97,6 +98,7 @@ placed {n} {p} {q} {a} {r} {m} {t} lent l ec ek ew eu en es ey eb eo ed =
       ba-few = omega (arith, k .matrices-few);
       column-in = omega (arith, k .rows);
       working-in = omega (arith, k .rows);
+      behind = omega arith;
       factor-in = omega (arith, k .terms);
       w-in = omega (arith, k .terms);
       va-in = omega (arith, k .unsolved, k .terms);
@@ -109,16 +111,17 @@ placed {n} {p} {q} {a} {r} {m} {t} lent l ec ek ew eu en es ey eb eo ed =
     })
 
 module _ (n p q a : ℕ) (shape : Shape) (theta x : List Float) (zt : Sparse) (r r' m m' m'' t t' t'' : List Float) (e : q ≡ effectsOf shape) (k : Within n p q a r m t) where
-  pub column-made : Wrote (columnRow n) n (build (xwAt x p (row (wPlace q) n t) a) n) r r'
+  pub column-made : (s : Float) → WeightedLeft (columnRow n) (workingRow n) n (xwAt x p (row (wPlace q) n t) a) r r' s
       → Whatever n shape theta zt (WroteSide (unsolvedPlace n q + a * q) q (row (columnRow n) n r') t t')
       → Wrote (solvedPlace q + a * q) q (ldlSolve q (row 0 (q * q) t') (row (unsolvedPlace n q + a * q) q t')) m m'
       → Wrote (normalPlace n p q + a * p) (a + 1) (build (normalAt x p n (row (columnRow n) n r') (row (unsolvedPlace n q + a * q) q t') (row (solvedPlace q) (p * q) m') q) (a + 1)) t' t''
-      → m'' ≡ set m' (betaPlace p q + a) (dotOf n (row (columnRow n) n r') (row (workingRow n) n r') ⊖ dotOf q (row (unsolvedPlace n q + a * q) q t'') (row (wyPlace p q) q m'))
+      → m'' ≡ set m' (betaPlace p q + a) (s ⊖ dotOf q (row (unsolvedPlace n q + a * q) q t'') (row (wyPlace p q) q m'))
       → ColumnOf a n p q shape theta x zt r r' m m'' t t''
   unfolding weightedColumn unsolvedColumn solvedColumn normalEntry normalSideAt
-  column-made rows-wrote side-wrote solved-wrote normal-wrote stored F offset same =
+  column-made cross weighted side-wrote solved-wrote normal-wrote stored F offset same =
       let D : Design = designOf n p shape theta offset x zt in
       let w : List Float = row (wPlace q) n t in
+      let rows-wrote : Wrote (columnRow n) n (build (xwAt x p w a) n) r r' = weighted .wrote in
       let tw : Wrote (unsolvedPlace n q + a * q) q (sideOf D (row (columnRow n) n r')) t t' = side-wrote p offset x in
       let xw : row (columnRow n) n r' ≡ weightedColumn D w a = rows-wrote .row' in
       let v : row (unsolvedPlace n q + a * q) q t' ≡ unsolvedColumn D w a = tw .row' ∙ ap (sideOf D) xw in
@@ -133,11 +136,10 @@ module _ (n p q a : ℕ) (shape : Shape) (theta x : List Float) (zt : Sparse) (r
       only-row (solvedPlace q + a * q) q (betaPlace p q + a) 1 (inl (omega (arith, k))) (omega (arith, k, solved-wrote .only .len)) so in
       let W : row (solvedPlace q) (p * q) m'' ≡ row (solvedPlace q) (p * q) m' =
       only-row (solvedPlace q) (p * q) (betaPlace p q + a) 1 (inl (omega (arith, k))) (omega (arith, k, solved-wrote .only .len)) so in
-      let target : row (workingRow n) n r' ≡ row (workingRow n) n r = only-row (workingRow n) n (columnRow n) n (inr (omega (arith, k))) (omega (arith, k)) (rows-wrote .only) in
       let wy : row (wyPlace p q) q m' ≡ row (wyPlace p q) q m = only-row (wyPlace p q) q (solvedPlace q + a * q) q (inr (omega (arith, k))) (omega (arith, k)) (solved-wrote .only) in
       record {
         solved = s'' ∙ s;
-        side = rw stored (getD-set-same m' (betaPlace p q + a) _ nan (omega (arith, k, solved-wrote .only .len)) ∙ rw (xw, target, v'', wy, e) refl);
+        side = rw stored (getD-set-same m' (betaPlace p q + a) _ nan (omega (arith, k, solved-wrote .only .len)) ∙ rw (weighted .dot, v'', wy, e) refl);
         normal = normal-wrote .row' ∙ rw (W, xw, v, e) refl;
         rows-only = rows-wrote .only;
         matrices-only = two-of (solvedPlace q + a * q) q (betaPlace p q + a) 1 (solved-wrote .only) so;
@@ -147,11 +149,11 @@ module _ (n p q a : ℕ) (shape : Shape) (theta x : List Float) (zt : Sparse) (r
   -- with the places as the code forms them
   pub column-placed : {column working w unsolved normal solved wy beta o d : ℕ} → column ≡ columnRow n → working ≡ workingRow n → w ≡ wPlace q → unsolved ≡ unsolvedPlace n q
       → normal ≡ normalPlace n p q → solved ≡ solvedPlace q → wy ≡ wyPlace p q → beta ≡ betaPlace p q → o ≡ a * q → d ≡ a * p
-      → Wrote column n (build (xwAt x p (row w n t) a) n) r r'
+      → (s : Float) → WeightedLeft column working n (xwAt x p (row w n t) a) r r' s
       → Whatever n shape theta zt (WroteSide (unsolved + o) q (row column n r') t t')
       → Wrote (solved + o) q (ldlSolve q (row 0 (q * q) t') (row (unsolved + o) q t')) m m'
       → Wrote (normal + d) (a + 1) (build (normalAt x p n (row column n r') (row (unsolved + o) q t') (row solved (p * q) m') q) (a + 1)) t' t''
-      → m'' ≡ set m' (beta + a) (dotOf n (row column n r') (row working n r') ⊖ dotOf q (row (unsolved + o) q t'') (row wy q m'))
+      → m'' ≡ set m' (beta + a) (s ⊖ dotOf q (row (unsolved + o) q t'') (row wy q m'))
       → ColumnOf a n p q shape theta x zt r r' m m'' t t''
-  column-placed ec ek ew eu en es ey eb eo ed rows-wrote side-wrote solved-wrote normal-wrote stored =
-      column-made (rw (ec, ew) at rows-wrote) (rw (ec, eu, eo) at side-wrote) (rw (es, eu, eo) at solved-wrote) (rw (ec, eu, eo, en, ed, es) at normal-wrote) (rw (ec, ek, eu, eo, ey, eb) at stored)
+  column-placed ec ek ew eu en es ey eb eo ed cross weighted side-wrote solved-wrote normal-wrote stored =
+      column-made cross (rw (ec, ek, ew) at weighted) (rw (ec, eu, eo) at side-wrote) (rw (es, eu, eo) at solved-wrote) (rw (ec, eu, eo, en, ed, es) at normal-wrote) (rw (eu, eo, ey, eb) at stored)

@@ -3,7 +3,7 @@ use mathlib.Core.Path.{_≡_}
 use mathlib.Core.List.{List}
 use Prim.Native.Nat.{ℕ, _+_, _*_}
 use lib.Ieee.{Float}
-use Rattle.base.specs.Sum.{_!_}
+use Rattle.base.specs.Sum.{_!_, dotOf}
 use Rattle.base.specs.List.{build}
 use Rattle.base.specs.Rows.{row, Only, OnlyTwo, Wrote}
 use Rattle.base.specs.Sparse.{Sparse}
@@ -14,6 +14,11 @@ use Rattle.layout.specs.WorkTerms.{factorPlace, wPlace, unsolvedPlace, normalPl
 use Rattle.factor.specs.Triangle.{SameBelow}
 use Rattle.rule.specs.Given.{Design, designOf}
 use Rattle.rule.specs.Solve.{sideOf, solvedColumn, solvedColumns, normalEntry, normalOf, normalSideAt, normalSide}
+
+-- the column with the entries f stands in its row, and s is its product with the row `working`, which is as it was
+pub record WeightedLeft (column working n : ℕ) (f : ℕ → Float) (r r' : List Float) (s : Float) : Type 0 where
+  pub wrote : Wrote column n (build f n) r r'
+  pub dot : s ≡ dotOf n (build f n) (row working n r)
 
 -- Λ'(Z'v) is the row at b, and nothing else has changed
 abbrev pub WroteSide : ℕ → ℕ → List Float → List Float → List Float → Design → Type 0

@@ -49,7 +49,7 @@ fn normal_column(
     let sa = solved + o;
     let na = normal + d;
     let ba = beta + a;
-    weighted_into(x, n, p, a, w, t, column, r);
+    let cross = weighted_into(x, n, p, a, w, t, column, working, r);
     unsolved_into(
         shape,
         theta,
@@ -65,7 +65,7 @@ fn normal_column(
     );
     solved_into(q, va, t, sa, m);
     normal_into(x, n, p, q, a, column, r, solved, m, va, na, t);
-    side_into(n, q, column, working, r, va, t, wy, ba, m);
+    side_into(cross, q, va, t, wy, ba, m);
 }
 
 // All the columns: W and the right side of the normal matrix into m, N up to its diagonal into t.

@@ -11,9 +11,10 @@ ghost use Rattle.factor.specs.Substitution.{ldlSolve};
 ghost use Rattle.linear.specs.Product.{xwAt, normalAt};
 ghost use Rattle.stored.specs.Stored.{sparse};
 ghost use Rattle.solve.specs.Ready.{Ready, Whatever};
-ghost use Rattle.columns.specs.Columns.{WroteSide};
+ghost use Rattle.columns.specs.Columns.{WeightedLeft, WroteSide};
 
-// Column a of X times the weights at w of t, into the n places of r from column on.
+// Column a of X times the weights at w of t, into the n places of r from column on. Its product with the n numbers of r from working on is told: summed beside the
+// column, it costs no pass of its own.
 pub fn weighted_into(
     x: &[f64],
     n: usize,
@@ -22,14 +23,23 @@ pub fn weighted_into(
     w: usize,
     t: &[f64],
     column: usize,
+    working: usize,
     r: &mut [f64],
-)
-    requires { ⌜ (n * p ≤ length (now x)) × (a < p) × (w + n ≤ length (now t)) × (column + n ≤ length (now r)) ⌝ }
-    ensures { λ _. ⌜ Wrote column n (build (xwAt (now (x .entry)) p (row w n (now (t .entry))) a) n) (now (r .entry)) (now (r .exit)) ⌝ }
+) -> f64
+    requires { ⌜
+        (n * p ≤ length (now x)) × (a < p) × (w + n ≤ length (now t)) × (column + n ≤ length (now r)) × (working + n ≤ length (now r)) × (column + n ≤ working) ⌝ }
+    ensures { λ s. ⌜ WeightedLeft column working n (xwAt (now (x .entry)) p (row w n (now (t .entry))) a) (now (r .entry)) (now (r .exit)) s ⌝ }
 {
-    let we = w + n;
-    let e = column + n;
-    linear::xw_column(x, &t[w..we], n, p, a, &mut r[column..e]);
+    let mut sum = 0.0;
+    let mut i = 0;
+    while i < n {
+        let o = base::offset(i, n, p);
+        let entry = x[o + a] * t[w + i];
+        r[column + i] = entry;
+        sum = sum + entry * r[working + i];
+        i += 1;
+    }
+    sum
 }
 
 // Its right side V_a, from column of r, into the q places of t from va on.
@@ -105,36 +115,13 @@ pub fn normal_into(
     linear::normal_row(x, &r[column..ce], &m[solved..se], n, p, q, a, va, na, t);
 }
 
-// Its entry of the normal matrix's right side, into m at ba.
-pub fn side_into(
-    n: usize,
-    q: usize,
-    column: usize,
-    working: usize,
-    r: &[f64],
-    va: usize,
-    t: &[f64],
-    wy: usize,
-    ba: usize,
-    m: &mut [f64],
-)
-    requires { ⌜
-        (column + n ≤ length (now r)) × (working + n ≤ length (now r)) × (va + q ≤ length (now t)) × (wy + q ≤ length (now m)) × (ba < length (now m)) ⌝ }
-    ensures { λ _. ⌜
-        now (m .exit)
-        ≡ set (now (m .entry)) ba
-        (dotOf n (row column n (now (r .entry))) (row working n (now (r .entry))) ⊖ dotOf q (row va q (now (t .entry))) (row wy q (now (m .entry)))) ⌝ }
+// Its entry of the normal matrix's right side, into m at ba: (x_a·w)·(z - offset) less V_a·wy.
+pub fn side_into(cross: f64, q: usize, va: usize, t: &[f64], wy: usize, ba: usize, m: &mut [f64])
+    requires { ⌜ (va + q ≤ length (now t)) × (wy + q ≤ length (now m)) × (ba < length (now m)) ⌝ }
+    ensures { λ _. ⌜ now (m .exit) ≡ set (now (m .entry)) ba (cross ⊖ dotOf q (row va q (now (t .entry))) (row wy q (now (m .entry)))) ⌝ }
 {
-    let ce = column + n;
-    let ze = working + n;
     let ve = va + q;
     let ye = wy + q;
-    m[ba] = solve::dot_less(
-        &r[column..ce],
-        &r[working..ze],
-        n,
-        &t[va..ve],
-        &m[wy..ye],
-        q,
-    );
+    let mixed = base::dot(&t[va..ve], &m[wy..ye], q);
+    m[ba] = cross - mixed;
 }

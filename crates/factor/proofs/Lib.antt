@@ -3,6 +3,7 @@ pub mod PivotTests
 pub mod RowByRow
 pub mod LdlRows
 pub mod CholeskyRows
+pub mod ZeroTerms
 pub mod SubstitutionSteps
 pub mod Columns
 pub mod Transposed

@@ -2,16 +2,61 @@
 ghost use mathlib.Core.Path.{_≡_};
 ghost use Prim.Native.Nat.{_+_, _*_, _≤_, _<_};
 ghost use lib.ListN.{length};
-ghost use Rattle.base.specs.Sum.{_!_, sumFrom};
-ghost use Rattle.factor.specs.Substitution.{downTerm, unitForward, overD, unitBackward, forward, backward, ldlSolve, choleskySolve};
+ghost use Rattle.base.specs.Sum.{_!_, sumTo, sumFrom, productFrom};
+ghost use Rattle.factor.specs.Substitution.{FirstOther, downTerm, unitForward, overD, unitBackward, forward, backward, ldlSolve, choleskySolve};
 
-// The sum over the rows k after i of l_ki * x_k.
+// The first k below n where l[o + k] * x[k] is not a zero, or n.
+fn zeros_before(l: &[f64], o: usize, x: &[f64], n: usize) -> usize
+    requires { ⌜ (o + n ≤ length (now l)) × (n ≤ length (now x)) ⌝ }
+    ensures { λ r. ⌜ FirstOther 0 n (productFrom (now (l .entry)) o (now (x .entry))) r ⌝ }
+{
+    let mut k = 0;
+    while k < n {
+        if l[o + k] * x[k] != 0.0 {
+            return k;
+        }
+        k += 1;
+    }
+    n
+}
+
+// The sum of l[o + k] * x[k] over k below n. Zeros at its head leave it at +0.0: they are only tested, which waits for no addition.
+fn sum_before(l: &[f64], o: usize, x: &[f64], n: usize) -> f64
+    requires { ⌜ (o + n ≤ length (now l)) × (n ≤ length (now x)) ⌝ }
+    ensures { λ r. ⌜ r ≡ sumTo n (productFrom (now (l .entry)) o (now (x .entry))) ⌝ }
+{
+    let mut sum = 0.0;
+    let mut k = zeros_before(l, o, x, n);
+    while k < n {
+        sum = sum + l[o + k] * x[k];
+        k += 1;
+    }
+    sum
+}
+
+// The first row k after i where l_ki * x_k is not a zero, or s.
+fn zeros_below(l: &[f64], s: usize, i: usize, x: &[f64]) -> usize
+    requires { ⌜ (i < s) × (s * s ≤ length (now l)) × (s ≤ length (now x)) ⌝ }
+    ensures { λ r. ⌜ FirstOther (i + 1) s (downTerm s (now (l .entry)) i (λ k. now (x .entry) ! k)) r ⌝ }
+{
+    let mut k = i + 1;
+    while k < s {
+        let o = base::offset(k, s, s);
+        if l[o + i] * x[k] != 0.0 {
+            return k;
+        }
+        k += 1;
+    }
+    s
+}
+
+// The sum over the rows k after i of l_ki * x_k, begun behind the zeros at its head.
 fn sum_below(l: &[f64], s: usize, i: usize, x: &[f64]) -> f64
     requires { ⌜ (i < s) × (s * s ≤ length (now l)) × (s ≤ length (now x)) ⌝ }
     ensures { λ r. ⌜ r ≡ sumFrom (i + 1) s (downTerm s (now (l .entry)) i (λ k. now (x .entry) ! k)) ⌝ }
 {
     let mut sum = 0.0;
-    let mut k = i + 1;
+    let mut k = zeros_below(l, s, i, x);
     while k < s {
         let o = base::offset(k, s, s);
         sum = sum + l[o + i] * x[k];
@@ -28,7 +73,7 @@ pub fn unit_forward(l: &[f64], s: usize, x: &mut [f64])
     let mut i = 0;
     while i < s {
         let o = base::offset(i, s, s);
-        let sum = base::dot_from(l, o, x, i);
+        let sum = sum_before(l, o, x, i);
         x[i] = x[i] - sum;
         i += 1;
     }

@@ -1,12 +1,14 @@
 -- Laws of Λ's columns: the block of an effect; a column lies within its group, and so within the effects, and its numbers lie within theta. Assumes nothing.
-use mathlib.Core.Path.{_≡_, refl, ap}
+use mathlib.Core.Path.{_≡_, refl, sym, ap, _∙_}
 use mathlib.Core.Logic.{⊎-elim}
+use mathlib.Core.Bool.{true}
 use Prim.Native.Nat.{ℕ, zero, suc, _+_, _-_, _*_, _/_, _%_, _<_, _≤_}
-use native.Mathlib.Nat.{mod-lt, div-add-mod', div-lt-iff-lt-mul}
+use native.Mathlib.Nat.{le-refl, mod-lt, div-add-mod', div-lt-iff-lt-mul}
 use native.Mathlib.Omega.{arith}
-use borrow.Author.Tests.{le-leb, lt-leb, leb-true, leb-false}
+use lib.Dec.{eqb}
+use borrow.Author.Tests.{le-leb, lt-leb, leb-true, leb-false, eqb-true}
 use Rattle.base.specs.Sum.{_!!_}
-use Rattle.base.proofs.Sums.{lt-or-ge}
+use Rattle.base.proofs.Sums.{lt-or-ge, and-true}
 use Rattle.base.proofs.Fills.{row-fits}
 use Rattle.base.proofs.SparseRows.{find-last, find-holds, find-past, find-below}
 use Rattle.model.specs.Shape.{totalTo, blockEffects, blockThetas, firstEffect, firstTheta, effectsOf, thetaLength, InRange}
@@ -14,6 +16,7 @@ use Rattle.model.specs.declared.sizes.Shape.{Shape}
 use Rattle.model.proofs.Totals.{total-none, total-step, total-grows}
 use Rattle.model.proofs.Shapes.{thetas-twice, thetas-small, effect-step, theta-step}
 use Rattle.lambda.specs.Column.{begunBy, blockOf, groupSize, effectIn, columnLength, columnStart, columnIn, columnOf}
+use Rattle.lambda.specs.Parts.{isSingle}
 
 -- effect j is one of block i's
 pub record InBlock (s : Shape) (i j : ℕ) : Type 0 where
@@ -173,3 +176,23 @@ passed-column {s} {j} {k} {effects} {left} {first} {i} p l =
     let b : blockOf s j ≡ i = block-is s i j (passed-in p l) in
     let e : j - firstEffect s i ≡ left = omega (arith, p .begun) in
     rw (b, e, p .size, p .thetas) refl
+
+-- one block of one effect a group: every column is its diagonal, the one number of theta
+pub one-column : (s : Shape) (j : ℕ) → InRange s → s .count ≡ 1 → s .k !! 0 ≡ 1 → j < effectsOf s → columnOf s j ≡ record { first = 0; count = 1 }
+unfolding columnStart totalTo
+one-column s j r n k l =
+    let end : effectsOf s ≡ firstEffect s 1 = ap (λ (i : ℕ). firstEffect s i) n in
+    let inside : j < (s .m !! 0) * (s .k !! 0) = omega (arith, end, effect-step s 0 (firstEffect s 0) refl, total-none (blockEffects s), l) in
+    let m : j % 1 ≡ 0 = omega (arith, mod-lt j (le-refl 1)) in
+    sym (passed-column (passed-none s j r l) inside) ∙ rw (k, m) refl
+
+pub single-is : (s : Shape) → isSingle s ≡ true → (s .count ≡ 1) × (s .k !! 0 ≡ 1)
+unfolding isSingle
+single-is s e =
+    let both : (true ≡ eqb (s .count) 1) × (true ≡ eqb (s .k !! 0) 1) = and-true (eqb (s .count) 1) (eqb (s .k !! 0) 1) (sym e) in
+    (eqb-true (s .count) 1 (sym (both .0)), eqb-true (s .k !! 0) 1 (sym (both .1)))
+
+pub single-theta : (s : Shape) → InRange s → isSingle s ≡ true → 1 ≤ thetaLength s
+single-theta s r e =
+    let one : columnOf s 0 ≡ record { first = 0; count = 1 } = one-column s 0 r (single-is s e .0) (single-is s e .1) (r .q-some) in
+    rw one at (column-theta s 0 r (r .q-some))

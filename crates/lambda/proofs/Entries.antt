@@ -4,23 +4,25 @@ use mathlib.Core.List.{List}
 use mathlib.Core.Logic.{⊎-elim}
 use mathlib.Core.Bool.{true, false}
 use Prim.Native.Nat.{ℕ, _+_, _-_, _*_, _<_, _≤_}
+use native.Mathlib.Nat.{add-zero, le-refl}
 use native.Mathlib.Omega.{arith}
 use borrow.Author.Tests.{le-leb, lt-leb, lt-ltb, le-ltb}
 use lib.Dec.{eqb}
 use lib.ListN.{length, set, take, drop}
 use lib.Ieee.{Float}
-use Rattle.base.specs.Number.{_⊕_, _⊗_, oneF}
-use Rattle.base.specs.Sum.{_!_, sumTo, addWhere, sumWhere, productFrom}
+use Rattle.base.specs.Number.{_⊕_, _⊗_, zeroF, oneF}
+use Rattle.base.specs.Sum.{_!_, _!!_, sumTo, addWhere, sumWhere, productFrom}
 use Rattle.base.specs.List.{zeroAt, at, fillTo, fillAt}
 use Rattle.base.proofs.Sums.{lt-or-ge, sum-cong, where-take, where-skip, where-stretch}
 use Rattle.base.proofs.Rows.{part-at}
-use Rattle.base.proofs.Fills.{fillat-cong, fillat-step, length-fillat, fillat-below, fillat-above, fillat-in, length-fill, fill-past, fill-in, fill-is, fill-over}
+use Rattle.base.proofs.Fills.{fillat-cong, fillat-step, length-fillat, fillat-below, fillat-above, fillat-in, length-fill, fill-step, fill-past, fill-in, fill-is, fill-over}
 use Rattle.model.specs.Shape.{effectsOf, InRange}
 use Rattle.model.specs.declared.sizes.Shape.{Shape}
 use Rattle.lambda.specs.Column.{columnOf, isEntry, lambdaAt}
+use Rattle.lambda.specs.Parts.{isSingle, rightBy, rightOne, systemBy, systemOne, scaledAt}
 use Rattle.lambda.specs.Product.{columnAddedAt, acrossRow, downColumn, timesTerm, lambdaTimesAt, transposedTerm, lambdaTransposedAt, rightTerm, rightAt, rightColumnAt, leftTerm, systemAt}
 use Rattle.lambda.specs.declared.column.Column.{Column}
-use Rattle.lambda.proofs.ColumnPlaces.{column-rows}
+use Rattle.lambda.proofs.ColumnPlaces.{column-rows, one-column, single-is}
 
 -- above the diagonal there is no place
 pub entry-above : (s : Shape) (i j : ℕ) → i < j → isEntry s i j ≡ false
@@ -71,37 +73,46 @@ added-step theta first x b j t X e =
     rw old (fillat-step j (columnAddedAt theta first x b j) b t X e)
 
 -- ---- row by row: what a column of Λ gives, the shape being out of sight
--- entry a of column c of SΛ, by the column k of Λ
-unfoldable pub rightBy : Column → List Float → ℕ → List Float → ℕ → ℕ → Float
-rightBy k theta q S c a = sumTo (k .count) (λ t. at q S a (c + t) ⊗ (theta ! (k .first + t)))
-
-pub right-by : (s : Shape) (theta S : List Float) (c a : ℕ) → InRange s → c < effectsOf s → rightBy (columnOf s c) theta (effectsOf s) S c a ≡ rightColumnAt s theta S c a
+pub right-by : (s : Shape) (theta S : List Float) (c a : ℕ) → InRange s → c < effectsOf s → rightBy (columnOf s c .first) (columnOf s c .count) theta (effectsOf s) S c a ≡ rightColumnAt s theta S c a
 unfolding rightBy rightAt rightTerm
 right-by s theta S c a r l =
     sum-cong (columnOf s c .count) _ _ (λ t g. ap (λ (x : Float). at (effectsOf s) S a (c + t) ⊗ x) (sym (entry-at s theta c t)))
     ∙ sym (column-sum s c (rightTerm s theta S a c) r l)
 
-pub right-dot : (k : Column) (theta S : List Float) (q c a i m : ℕ) (z : Float) → z ≡ sumTo (k .count) (productFrom S (i + c) (take m (drop (k .first) theta))) → i ≡ a * q → k .count ≤ m → z ≡ rightBy k theta q S c a
+pub right-dot : (first count : ℕ) (theta S : List Float) (q c a i m : ℕ) (z : Float) → z ≡ sumTo count (productFrom S (i + c) (take m (drop first theta))) → i ≡ a * q → count ≤ m → z ≡ rightBy first count theta q S c a
 unfolding rightBy
-right-dot k theta S q c a i m z e o h =
-    e ∙ sum-cong (k .count) _ _ (λ t g. let q' : i + c + t ≡ a * q + (c + t) = omega arith in rw (part-at (k .first) m t theta (omega arith), q') refl)
+right-dot first count theta S q c a i m z e o h =
+    e ∙ sum-cong count _ _ (λ t g. let q' : i + c + t ≡ a * q + (c + t) = omega arith in rw (part-at first m t theta (omega arith), q') refl)
 
--- entry c of row a of A, by the column k of Λ
-unfoldable pub systemBy : Column → List Float → ℕ → List Float → ℕ → ℕ → Float
-systemBy k theta q K a c = addWhere (eqb a c) (sumTo (k .count) (λ t. (theta ! (k .first + t)) ⊗ at q K c (a + t))) oneF
+pub right-single : (x : Float) (S : List Float) (q c a i : ℕ) → i ≡ a * q → zeroF ⊕ ((S ! (i + c)) ⊗ x) ≡ rightOne x q S c a
+unfolding rightOne
+right-single x S q c a i o = rw o refl
 
-pub system-by : (s : Shape) (theta K : List Float) (a c : ℕ) → InRange s → a < effectsOf s → systemBy (columnOf s a) theta (effectsOf s) K a c ≡ systemAt s theta K a c
+-- a column of one number
+pub right-one : (first : ℕ) (theta S : List Float) (q c a : ℕ) → rightOne (theta ! first) q S c a ≡ rightBy first 1 theta q S c a
+unfolding rightOne rightBy sumTo
+right-one first theta S q c a = rw (add-zero c, add-zero first) refl
+
+pub system-by : (s : Shape) (theta K : List Float) (a c : ℕ) → InRange s → a < effectsOf s → systemBy (columnOf s a .first) (columnOf s a .count) theta (effectsOf s) K a c ≡ systemAt s theta K a c
 unfolding systemBy systemAt leftTerm
 system-by s theta K a c r l =
     ap (λ (x : Float). addWhere (eqb a c) x oneF)
     (sum-cong (columnOf s a .count) _ _ (λ t g. ap (λ (x : Float). x ⊗ at (effectsOf s) K c (a + t)) (sym (entry-at s theta a t)))
     ∙ sym (column-sum s a (leftTerm s theta K a c) r l))
 
-pub system-dot : (k : Column) (theta K : List Float) (q a c i m : ℕ) (z : Float) → z ≡ sumTo (k .count) (productFrom theta (k .first) (take m (drop (i + a) K))) → i ≡ c * q → k .count ≤ m → addWhere (eqb a c) z oneF ≡ systemBy k theta q K a c
+pub system-dot : (first count : ℕ) (theta K : List Float) (q a c i m : ℕ) (z : Float) → z ≡ sumTo count (productFrom theta first (take m (drop (i + a) K))) → i ≡ c * q → count ≤ m → addWhere (eqb a c) z oneF ≡ systemBy first count theta q K a c
 unfolding systemBy
-system-dot k theta K q a c i m z e o h =
+system-dot first count theta K q a c i m z e o h =
     ap (λ (x : Float). addWhere (eqb a c) x oneF)
-    (e ∙ sum-cong (k .count) _ _ (λ t g. let q' : i + a + t ≡ c * q + (a + t) = omega arith in rw (part-at (i + a) m t K (omega arith), q') refl))
+    (e ∙ sum-cong count _ _ (λ t g. let q' : i + a + t ≡ c * q + (a + t) = omega arith in rw (part-at (i + a) m t K (omega arith), q') refl))
+
+pub system-single : (x : Float) (K : List Float) (q a c i : ℕ) → i ≡ c * q → addWhere (eqb a c) (zeroF ⊕ (x ⊗ (K ! (i + a)))) oneF ≡ systemOne x q K a c
+unfolding systemOne
+system-single x K q a c i o = rw o refl
+
+pub system-one : (first : ℕ) (theta K : List Float) (q a c : ℕ) → systemOne (theta ! first) q K a c ≡ systemBy first 1 theta q K a c
+unfolding systemOne systemBy sumTo
+system-one first theta K q a c = rw (add-zero a, add-zero first) refl
 
 -- ---- Λu column by column
 -- entry i of Λu, as far as the first j columns make it
@@ -171,13 +182,74 @@ module _ (s : Shape) (theta u : List Float) (q j : ℕ) (b X : List Float) (r : 
       fill-is q (timesTo s theta u (j + 1)) b W h (length-fillat j count _ X ∙ long) inside
       (λ i m. fillat-above j count _ X i (omega (arith, within)) ∙ rw x (fill-past q (timesTo s theta u j) b i m))
 
--- ---- the ends of the loops
-pub right-end : (s : Shape) (theta S : List Float) (k : Column) (q c o a : ℕ) (b X : List Float) → InRange s → k ≡ columnOf s c → q ≡ effectsOf s → c < q → o ≡ c * q → a ≡ q → X ≡ fillAt o a (rightBy k theta q S c) b → X ≡ fillAt (c * q) q (rightColumnAt s theta S c) b
-right-end s theta S k q c o a b X r ek eq l eo ea x =
-    x
-    ∙ rw (eo, ea) (fillat-cong (c * q) q _ _ b (λ i m. rw (ek, eq) (right-by s theta S c i r (omega (arith, eq)))))
+-- ---- a column of SΛ and a row of A, by the column k of Λ
+module _ (s : Shape) (theta S : List Float) (k : Column) (q c o : ℕ) (b X : List Float) (r : InRange s) (e : k ≡ columnOf s c) (eq : q ≡ effectsOf s) (l : c < q) (eo : o ≡ c * q) where
+  pub right-end : X ≡ fillAt o q (rightBy (k .first) (k .count) theta q S c) b → X ≡ fillAt (c * q) q (rightColumnAt s theta S c) b
+  right-end x = x ∙ rw eo (fillat-cong (c * q) q _ _ b (λ i m. rw (e, eq) (right-by s theta S c i r (omega (arith, eq)))))
 
-pub system-end : (s : Shape) (theta K : List Float) (k : Column) (q a o c : ℕ) (b X : List Float) → InRange s → k ≡ columnOf s a → q ≡ effectsOf s → a < q → o ≡ a * q → c ≡ q → X ≡ fillAt o c (systemBy k theta q K a) b → X ≡ fillAt (a * q) q (systemAt s theta K a) b
-system-end s theta K k q a o c b X r ek eq l eo ea x =
-    x
-    ∙ rw (eo, ea) (fillat-cong (a * q) q _ _ b (λ i m. rw (ek, eq) (system-by s theta K a i r (omega (arith, eq)))))
+  pub right-end-one : k .count ≡ 1 → X ≡ fillAt o q (rightOne (theta ! (k .first)) q S c) b → X ≡ fillAt (c * q) q (rightColumnAt s theta S c) b
+  right-end-one n x = right-end (x ∙ fillat-cong o q _ _ b (λ i m. rw n (right-one (k .first) theta S q c i)))
+
+  pub system-end : X ≡ fillAt o q (systemBy (k .first) (k .count) theta q S c) b → X ≡ fillAt (c * q) q (systemAt s theta S c) b
+  system-end x = x ∙ rw eo (fillat-cong (c * q) q _ _ b (λ i m. rw (e, eq) (system-by s theta S c i r (omega (arith, eq)))))
+
+  pub system-end-one : k .count ≡ 1 → X ≡ fillAt o q (systemOne (theta ! (k .first)) q S c) b → X ≡ fillAt (c * q) q (systemAt s theta S c) b
+  system-end-one n x = system-end (x ∙ fillat-cong o q _ _ b (λ i m. rw n (system-one (k .first) theta S q c i)))
+
+-- ---- Λ is one number times the unit matrix
+module _ (s : Shape) (theta : List Float) (r : InRange s) (n : s .count ≡ 1) (k : s .k !! 0 ≡ 1) where
+  count-one : (j : ℕ) → j < effectsOf s → columnOf s j .count ≡ 1
+  count-one j l = ap (λ (c : Column). c .count) (one-column s j r n k l)
+
+  diagonal : (j : ℕ) → j < effectsOf s → lambdaAt s theta j j ≡ theta ! 0
+  diagonal j l =
+      let here : lambdaAt s theta j j ≡ theta ! (columnOf s j .first + 0) = rw (add-zero j) at (entry-at s theta j 0) in
+      let first : columnOf s j .first ≡ 0 = ap (λ (c : Column). c .first) (one-column s j r n k l) in
+      here ∙ rw first refl
+
+  pub transposed-one : (v : List Float) (j : ℕ) → j < effectsOf s → scaledAt (theta ! 0) v j ≡ lambdaTransposedAt s theta v j
+  unfolding lambdaTransposedAt transposedTerm scaledAt sumTo
+  transposed-one v j l =
+      sym (column-sum s j (transposedTerm s theta v j) r l ∙ rw (count-one j l, add-zero j, diagonal j l) refl)
+
+  pub times-one : (u : List Float) (i : ℕ) → i < effectsOf s → scaledAt (theta ! 0) u i ≡ lambdaTimesAt s theta u i
+  unfolding lambdaTimesAt acrossRow timesTerm scaledAt sumTo
+  times-one u i l =
+      sym
+      (where-stretch (λ j. isEntry s i j) (timesTerm s theta u i) (effectsOf s) i 1 (omega arith)
+      (λ j m. entry-past s i j (omega (arith, count-one j (omega arith))))
+      (λ j m. on-diagonal j m)
+      (λ j m g. entry-above s i j (omega arith))
+      ∙ rw (add-zero i, diagonal i l) refl)
+    where
+      on-diagonal : (j : ℕ) → j < 1 → isEntry s i (i + j) ≡ true
+      on-diagonal j m =
+          let z : j ≡ 0 = omega arith in
+          rw (z, add-zero i) (rw (add-zero i) at (entry-in s i 0 (omega (arith, count-one i l))))
+
+-- one number of v more is multiplied in place
+pub scaled-step : (x : Float) (v : List Float) (j : ℕ) (X : List Float) → X ≡ fillTo j (scaledAt x v) v → set X j (zeroF ⊕ (x ⊗ (X ! j))) ≡ fillTo (j + 1) (scaledAt x v) v
+unfolding scaledAt
+scaled-step x v j X e =
+    let old : X ! j ≡ v ! j = rw e (fill-past j (scaledAt x v) v j (le-refl j)) in
+    rw old (fill-step (scaledAt x v) v j X e)
+
+pub into-step : (x : Float) (u b : List Float) (j : ℕ) (X : List Float) → X ≡ fillTo j (scaledAt x u) b → set X j (zeroF ⊕ (x ⊗ (u ! j))) ≡ fillTo (j + 1) (scaledAt x u) b
+unfolding scaledAt
+into-step x u b j X e = fill-step (scaledAt x u) b j X e
+
+-- ---- the whole list, where Λ is one number times the unit matrix
+fill-same : (q : ℕ) (f g : ℕ → Float) (b X : List Float) → q ≤ length b → ((i : ℕ) → i < q → f i ≡ g i) → X ≡ fillTo q f b → X ≡ fillTo q g b
+fill-same q f g b X h p e =
+    fill-is q g b X h (ap length e ∙ length-fill q f b)
+    (λ i l. ap (λ (y : List Float). y ! i) e ∙ fill-in q f b h i l ∙ p i l)
+    (λ i l. ap (λ (y : List Float). y ! i) e ∙ fill-past q f b i l)
+
+module _ (s : Shape) (theta : List Float) (q : ℕ) (r : InRange s) (one : isSingle s ≡ true) (e : q ≡ effectsOf s) where
+  pub transposed-single : (v X : List Float) → q ≤ length v → X ≡ fillTo q (scaledAt (theta ! 0) v) v → X ≡ fillTo q (lambdaTransposedAt s theta v) v
+  transposed-single v X h x =
+      fill-same q _ _ v X h (λ i l. transposed-one s theta r (single-is s one .0) (single-is s one .1) v i (omega (arith, e))) x
+
+  pub times-single : (u b X : List Float) → q ≤ length b → X ≡ fillTo q (scaledAt (theta ! 0) u) b → X ≡ fillTo q (lambdaTimesAt s theta u) b
+  times-single u b X h x =
+      fill-same q _ _ b X h (λ i l. times-one s theta r (single-is s one .0) (single-is s one .1) u i (omega (arith, e))) x

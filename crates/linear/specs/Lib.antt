@@ -1,2 +1,3 @@
 -- Products with X and with the solved columns, by entries. Assumes nothing.
 pub mod Product
+pub mod SideBySide

@@ -10,7 +10,6 @@ pub use betas::solve_beta;
 pub use effects::effects_into;
 pub use effects::solve_u;
 pub use effects::zb_into;
-pub use normals::dot_less;
 pub use normals::solved_copy;
 pub use sides::side;
 pub use sides::solve_side;

@@ -4,4 +4,5 @@ pub mod Parted
 pub mod Merge
 pub mod Added
 pub mod Symmetry
+pub mod Apart
 pub mod Unique

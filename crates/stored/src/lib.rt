@@ -1,5 +1,6 @@
 // Products with Z', which is stored by its rows: row starts, columns, values.
 mod effects;
+mod marks;
 mod side;
 mod weighted;
 

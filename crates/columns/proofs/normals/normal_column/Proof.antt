@@ -124,7 +124,7 @@ weighted-into-requires c κs =
     let f = placed (start .pre .1 .0) (start .pre .1 .1 .1) (column-row .column-row .ensures) (working-row .working-row .ensures) (w-at .w-at .ensures)
     (unsolved-at .unsolved-at .ensures) (normal-at .normal-at .ensures) (solved-at .solved-at .ensures) (wy-at .wy-at .ensures) (beta-at .beta-at .ensures)
     (offset .offset .ensures .0) (c .before .before .offset2 .ensures .0) in
-    (start .pre .1 .1 .0, start .pre .1 .1 .1, f .w-in, f .column-in)
+    (start .pre .1 .1 .0, start .pre .1 .1 .1, f .w-in, f .column-in, f .working-in, f .behind)
 
 unsolved-into-requires : tie.Need-unsolved-into-requires
 unsolved-into-requires c κs =
@@ -141,8 +141,8 @@ unsolved-into-requires c κs =
     let column-row = working-row .before in
     let start = column-row .before .before .before .before .before .before .before .before .before in
     let f = placed
-    (lent-kept {r' = weighted-into .weighted-into .last .1 .1 .1 .1 .1 .1 .1 .0} {m' = start .args .m .now} {t' = start .args .t .now} (start .pre .1 .0)
-    (weighted-into .weighted-into .kept .1 .1 .1 .1 .1 .1 .1 .0) refl refl) (start .pre .1 .1 .1) (column-row .column-row .ensures)
+    (lent-kept {r' = weighted-into .weighted-into .last .1 .1 .1 .1 .1 .1 .1 .1 .0} {m' = start .args .m .now} {t' = start .args .t .now} (start .pre .1 .0)
+    (weighted-into .weighted-into .kept .1 .1 .1 .1 .1 .1 .1 .1 .0) refl refl) (start .pre .1 .1 .1) (column-row .column-row .ensures)
     (working-row .working-row .ensures) (w-at .w-at .ensures) (unsolved-at .unsolved-at .ensures) (normal-at .normal-at .ensures)
     (solved-at .solved-at .ensures) (wy-at .wy-at .ensures) (beta-at .beta-at .ensures) (offset .offset .ensures .0) (offset2 .offset2 .ensures .0) in
     (start .pre .0, (f .column-in, f .va-in))
@@ -163,9 +163,9 @@ solved-into-requires c κs =
     let column-row = working-row .before in
     let start = column-row .before .before .before .before .before .before .before .before .before in
     let f = placed
-    (lent-kept {r' = weighted-into .weighted-into .last .1 .1 .1 .1 .1 .1 .1 .0} {m' = start .args .m .now}
+    (lent-kept {r' = weighted-into .weighted-into .last .1 .1 .1 .1 .1 .1 .1 .1 .0} {m' = start .args .m .now}
     {t' = unsolved-into .unsolved-into .last .1 .1 .1 .1 .1 .1 .1 .1 .1 .1 .0} (start .pre .1 .0)
-    (weighted-into .weighted-into .kept .1 .1 .1 .1 .1 .1 .1 .0) refl (unsolved-into .unsolved-into .kept .1 .1 .1 .1 .1 .1 .1 .1 .1 .1 .0))
+    (weighted-into .weighted-into .kept .1 .1 .1 .1 .1 .1 .1 .1 .0) refl (unsolved-into .unsolved-into .kept .1 .1 .1 .1 .1 .1 .1 .1 .1 .1 .0))
     (start .pre .1 .1 .1) (column-row .column-row .ensures) (working-row .working-row .ensures) (w-at .w-at .ensures) (unsolved-at .unsolved-at .ensures)
     (normal-at .normal-at .ensures) (solved-at .solved-at .ensures) (wy-at .wy-at .ensures) (beta-at .beta-at .ensures) (offset .offset .ensures .0)
     (offset2 .offset2 .ensures .0) in
@@ -188,9 +188,9 @@ normal-into-requires c κs =
     let column-row = working-row .before in
     let start = column-row .before .before .before .before .before .before .before .before .before in
     let f = placed
-    (lent-kept {r' = weighted-into .weighted-into .last .1 .1 .1 .1 .1 .1 .1 .0} {m' = solved-into .solved-into .last .1 .1 .1 .1 .0}
+    (lent-kept {r' = weighted-into .weighted-into .last .1 .1 .1 .1 .1 .1 .1 .1 .0} {m' = solved-into .solved-into .last .1 .1 .1 .1 .0}
     {t' = unsolved-into .unsolved-into .last .1 .1 .1 .1 .1 .1 .1 .1 .1 .1 .0} (start .pre .1 .0)
-    (weighted-into .weighted-into .kept .1 .1 .1 .1 .1 .1 .1 .0) (solved-into .solved-into .kept .1 .1 .1 .1 .0)
+    (weighted-into .weighted-into .kept .1 .1 .1 .1 .1 .1 .1 .1 .0) (solved-into .solved-into .kept .1 .1 .1 .1 .0)
     (unsolved-into .unsolved-into .kept .1 .1 .1 .1 .1 .1 .1 .1 .1 .1 .0)) (start .pre .1 .1 .1) (column-row .column-row .ensures)
     (working-row .working-row .ensures) (w-at .w-at .ensures) (unsolved-at .unsolved-at .ensures) (normal-at .normal-at .ensures)
     (solved-at .solved-at .ensures) (wy-at .wy-at .ensures) (beta-at .beta-at .ensures) (offset .offset .ensures .0) (offset2 .offset2 .ensures .0) in
@@ -198,7 +198,7 @@ normal-into-requires c κs =
 
 side-into-requires : tie.Need-side-into-requires
 side-into-requires c κs =
-    let normal-into = c .before .before .before .before .before in
+    let normal-into = c .before .before .before .before in
     let solved-into = normal-into .before .before .before .before .before .before in
     let unsolved-into = solved-into .before .before .before .before .before in
     let weighted-into = unsolved-into .before .before .before .before .before in
@@ -214,36 +214,34 @@ side-into-requires c κs =
     let column-row = working-row .before in
     let start = column-row .before .before .before .before .before .before .before .before .before in
     let f = placed
-    (lent-kept {r' = weighted-into .weighted-into .last .1 .1 .1 .1 .1 .1 .1 .0} {m' = solved-into .solved-into .last .1 .1 .1 .1 .0}
+    (lent-kept {r' = weighted-into .weighted-into .last .1 .1 .1 .1 .1 .1 .1 .1 .0} {m' = solved-into .solved-into .last .1 .1 .1 .1 .0}
     {t' = normal-into .normal-into .last .1 .1 .1 .1 .1 .1 .1 .1 .1 .1 .1 .0} (start .pre .1 .0)
-    (weighted-into .weighted-into .kept .1 .1 .1 .1 .1 .1 .1 .0) (solved-into .solved-into .kept .1 .1 .1 .1 .0)
+    (weighted-into .weighted-into .kept .1 .1 .1 .1 .1 .1 .1 .1 .0) (solved-into .solved-into .kept .1 .1 .1 .1 .0)
     (normal-into .normal-into .kept .1 .1 .1 .1 .1 .1 .1 .1 .1 .1 .1 .0 ∙ unsolved-into .unsolved-into .kept .1 .1 .1 .1 .1 .1 .1 .1 .1 .1 .0))
     (start .pre .1 .1 .1) (column-row .column-row .ensures) (working-row .working-row .ensures) (w-at .w-at .ensures) (unsolved-at .unsolved-at .ensures)
     (normal-at .normal-at .ensures) (solved-at .solved-at .ensures) (wy-at .wy-at .ensures) (beta-at .beta-at .ensures) (offset .offset .ensures .0)
     (offset2 .offset2 .ensures .0) in
-    (f .column-in, f .working-in, f .va-in, f .wy-in, f .ba-in)
+    (f .va-in, f .wy-in, f .ba-in)
 
 same-length : tie.Need-same-length
 same-length c =
-    let weighted-into =
-    c .before .before .before .before .before .before .before .before .before .before .before .before .before .before .before .before .before .before
-    .before .before .before .before .before .before in
-    weighted-into .weighted-into .kept .1 .1 .1 .1 .1 .1 .1 .0
+    let weighted-into = c .before .before .before .before .before .before .before .before .before .before .before .before .before .before .before .before .before .before .before .before .before .before .before in
+    weighted-into .weighted-into .kept .1 .1 .1 .1 .1 .1 .1 .1 .0
 
 same-length-2 : tie.Need-same-length-2
 same-length-2 c =
-    let solved-into = c .before .before .before .before .before .before .before .before .before .before .before .before .before .before in
-    c .before .before .side-into .kept .1 .1 .1 .1 .1 .1 .1 .1 .1 .0 ∙ solved-into .solved-into .kept .1 .1 .1 .1 .0
+    let solved-into = c .before .before .before .before .before .before .before .before .before .before .before .before .before in
+    c .before .before .side-into .kept .1 .1 .1 .1 .1 .1 .0 ∙ solved-into .solved-into .kept .1 .1 .1 .1 .0
 
 same-length-3 : tie.Need-same-length-3
 same-length-3 c =
-    let normal-into = c .before .before .before .before .before .before .before .before in
+    let normal-into = c .before .before .before .before .before .before .before in
     let unsolved-into = normal-into .before .before .before .before .before .before .before .before .before .before .before in
     normal-into .normal-into .kept .1 .1 .1 .1 .1 .1 .1 .1 .1 .1 .1 .0 ∙ unsolved-into .unsolved-into .kept .1 .1 .1 .1 .1 .1 .1 .1 .1 .1 .0
 
 returns : tie.Need-returns
 returns c =
-    let normal-into = c .before .before .before .before .before .before .before .before in
+    let normal-into = c .before .before .before .before .before .before .before in
     let solved-into = normal-into .before .before .before .before .before .before in
     let unsolved-into = solved-into .before .before .before .before .before in
     let weighted-into = unsolved-into .before .before .before .before .before in
@@ -260,12 +258,12 @@ returns c =
     let start = column-row .before .before .before .before .before .before .before .before .before in
     let args = start .args in
     column-placed (args .n) (args .p) (args .q) (args .a) (args .shape) (args .theta .now) (args .x .now) _ (args .r .now)
-    (weighted-into .weighted-into .last .1 .1 .1 .1 .1 .1 .1 .0) (args .m .now) (solved-into .solved-into .last .1 .1 .1 .1 .0)
-    (c .before .before .side-into .last .1 .1 .1 .1 .1 .1 .1 .1 .1 .0) (args .t .now) (unsolved-into .unsolved-into .last .1 .1 .1 .1 .1 .1 .1 .1 .1 .1 .0)
+    (weighted-into .weighted-into .last .1 .1 .1 .1 .1 .1 .1 .1 .0) (args .m .now) (solved-into .solved-into .last .1 .1 .1 .1 .0)
+    (c .before .before .side-into .last .1 .1 .1 .1 .1 .1 .0) (args .t .now) (unsolved-into .unsolved-into .last .1 .1 .1 .1 .1 .1 .1 .1 .1 .1 .0)
     (normal-into .normal-into .last .1 .1 .1 .1 .1 .1 .1 .1 .1 .1 .1 .0) (start .pre .0 .effects) (within (start .pre .1 .0) (start .pre .1 .1 .1))
     (column-row .column-row .ensures) (working-row .working-row .ensures) (w-at .w-at .ensures) (unsolved-at .unsolved-at .ensures)
     (normal-at .normal-at .ensures) (solved-at .solved-at .ensures) (wy-at .wy-at .ensures) (beta-at .beta-at .ensures) (offset .offset .ensures .0)
-    (offset2 .offset2 .ensures .0) (weighted-into .weighted-into .ensures) (unsolved-into .unsolved-into .ensures) (solved-into .solved-into .ensures)
+    (offset2 .offset2 .ensures .0) (weighted-into .weighted-into .result) (weighted-into .weighted-into .ensures) (unsolved-into .unsolved-into .ensures) (solved-into .solved-into .ensures)
     (normal-into .normal-into .ensures) (c .before .before .side-into .ensures)
 
 pub normal-column-spec : {M : Type 1} → statement M

@@ -1,9 +1,10 @@
--- `factor::sum_below` meets its contract: before turn k the sum is that of the rows from i + 1 to k - 1.
+-- `factor::sum_below` meets its contract: before turn k the sum is that of the rows from i + 1 to k - 1, of which the zeros at the head leave +0.0.
 use mathlib.Core.Path.{_≡_}
 use Prim.Native.Nat.{_≤_, _<_, _+_, _-_}
 use native.Mathlib.Omega.{arith}
 use Rattle.base.specs.Sum.{_!_, sumFrom}
 use Rattle.base.proofs.Sums.{from-step}
+use Rattle.factor.proofs.ZeroTerms.{head-from}
 use Rattle.factor.specs.Substitution.{downTerm}
 use Rattle.base.proofs.Loops.{loops}
 use borrow.Author.Needs.{needs}
@@ -16,11 +17,14 @@ Inv-loop l s i x sum₀ k₀ sum k = (i < k) × (k ≤ s) × (sum ≡ sumFrom (i
 abbrev μ-loop : tie.MeasureT-loop
 μ-loop l s i x sum₀ k₀ sum k = s - k
 
-add-k : tie.Need-add-k Inv-loop μ-loop
-add-k c = search (needs, loops)
+zeros-below-requires : tie.Need-zeros-below-requires Inv-loop μ-loop
+zeros-below-requires c κs = search (needs, loops)
 
 loop-holds : tie.Need-loop-holds Inv-loop μ-loop
-loop-holds c = search (needs, loops)
+loop-holds c =
+    let first = c .zeros-below .ensures in
+    let after = first .from in
+    (omega arith, first .to, head-from _ _ _ (first .zeros))
 
 offset-requires : tie.Need-offset-requires Inv-loop μ-loop
 offset-requires c κs = search (needs, loops)
@@ -40,8 +44,8 @@ mul-sum-2 c = search (needs, loops)
 shared-slice-read-sum-2 : tie.Need-shared-slice-read-sum-2 Inv-loop μ-loop
 shared-slice-read-sum-2 c = search (needs, loops)
 
-add-k-2 : tie.Need-add-k-2 Inv-loop μ-loop
-add-k-2 c = search (needs, loops)
+add-k : tie.Need-add-k Inv-loop μ-loop
+add-k c = search (needs, loops)
 
 loop-less : tie.Need-loop-less Inv-loop μ-loop
 loop-less c = search (needs, loops)
@@ -59,7 +63,7 @@ sum-below-spec =
     (tie.spec
     Inv-loop
     μ-loop
-    add-k
+    zeros-below-requires
     loop-holds
     offset-requires
     add-sum
@@ -67,7 +71,7 @@ sum-below-spec =
     shared-slice-read-sum
     mul-sum-2
     shared-slice-read-sum-2
-    add-k-2
+    add-k
     loop-less
     loop-again
     returns)

@@ -23,8 +23,8 @@ loop-holds c = search (needs, inplace)
 offset-requires : tie.Need-offset-requires Inv-loop μ-loop
 offset-requires c κs = search (needs, inplace)
 
-dot-from-requires : tie.Need-dot-from-requires Inv-loop μ-loop
-dot-from-requires c κs = search (needs, inplace)
+sum-before-requires : tie.Need-sum-before-requires Inv-loop μ-loop
+sum-before-requires c κs = search (needs, inplace)
 
 mul-x : tie.Need-mul-x Inv-loop μ-loop
 mul-x c = search (needs, inplace)
@@ -45,7 +45,7 @@ loop-less : tie.Need-loop-less Inv-loop μ-loop
 loop-less c = search (needs, inplace)
 
 loop-again : tie.Need-loop-again Inv-loop μ-loop
-loop-again c = (omega arith, simp length-set (omega arith), rw (c .before .dot-from .ensures) (unit-forward-step _ _ _ _ _ _ (c .before .before .before .offset .ensures .0) (c .before .before .before .before .before .loop .inv .2)))
+loop-again c = (omega arith, simp length-set (omega arith), rw (c .before .sum-before .ensures) (unit-forward-step _ _ _ _ _ _ (c .before .before .before .offset .ensures .0) (c .before .before .before .before .before .loop .inv .2)))
 
 same-length : tie.Need-same-length Inv-loop μ-loop
 same-length c = search (needs, inplace)
@@ -62,7 +62,7 @@ unit-forward-spec =
     μ-loop
     loop-holds
     offset-requires
-    dot-from-requires
+    sum-before-requires
     mul-x
     slice-read-x
     mul-x-2

@@ -1,98 +1,54 @@
--- `lambda::lambda_transposed` meets its contract: before column j the first j entries are done, and those that its sum needs still stand.
-use Rattle.lambda.proofs.Entries.{transposed-dot}
-use mathlib.Core.Path.{_≡_}
-use Prim.Native.Nat.{_-_, _≤_}
-use lib.ListN.{length, length-set}
+-- `lambda::lambda_transposed` meets its contract: where every column of Λ is one number on the diagonal, the numbers of v times it are Λ'v.
+use mathlib.Core.Path.{_≡_, sym, _∙_}
+use mathlib.Core.Bool.{true}
 use native.Mathlib.Omega.{arith}
-use Rattle.base.proofs.Rows.{part-long}
-use Rattle.base.specs.List.{fillTo}
-use Rattle.base.proofs.Fills.{fill-step}
 use Rattle.model.proofs.Shapes.{in-range}
-use Rattle.lambda.specs.Product.{lambdaTransposedAt}
-use Rattle.lambda.proofs.ColumnPlaces.{column-rows, column-theta}
-use Rattle.base.proofs.Loops.{loops}
+use Rattle.lambda.specs.Parts.{isSingle}
+use Rattle.lambda.proofs.ColumnPlaces.{single-theta}
+use Rattle.lambda.proofs.Entries.{transposed-single}
 use borrow.Author.Needs.{needs}
 use Rattle.lambda.proofs.products.lambda_transposed.Statement.{statement}
 use Rattle.lambda.proofs.products.lambda_transposed.Tie as tie
 
-abbrev Inv-loop : tie.InvT-loop
-Inv-loop shape theta q v₀ j₀ v j = (j ≤ q) × (length v ≡ length v₀) × (v ≡ fillTo j (lambdaTransposedAt shape theta v₀) v₀)
+is-single-requires : tie.Need-is-single-requires
+is-single-requires c κs = search needs
 
-abbrev μ-loop : tie.MeasureT-loop
-μ-loop shape theta q v₀ j₀ v j = q - j
+shared-slice-read-x : tie.Need-shared-slice-read-x
+shared-slice-read-x c =
+    let s = c .before .before .before .before .before in
+    let one : isSingle (s .args .shape) ≡ true = sym (c .before .before .is-single .ensures) ∙ c .before .if1 .taken in
+    omega (arith, single-theta (s .args .shape) (in-range (s .args .shape) (s .pre .0 .0)) one)
 
-loop-holds : tie.Need-loop-holds Inv-loop μ-loop
-loop-holds c = search (needs, loops)
+scale-requires : tie.Need-scale-requires
+scale-requires c κs = search needs
 
-column-of-requires : tie.Need-column-of-requires Inv-loop μ-loop
-column-of-requires c κs = search (needs, loops)
+same-length : tie.Need-same-length
+same-length c = search needs
 
-mul-dot-from : tie.Need-mul-dot-from Inv-loop μ-loop
-mul-dot-from c = search (needs, loops)
+returns : tie.Need-returns
+returns c =
+    let s = c .before .before .before .before .before .before .before .before .before in
+    let one : isSingle (s .args .shape) ≡ true = sym (c .before .before .before .before .before .before .is-single .ensures) ∙ c .before .before .before .before .before .if1 .taken in
+    transposed-single (s .args .shape) (s .args .theta .now) (s .args .q) (in-range (s .args .shape) (s .pre .0 .0)) one (s .pre .0 .1) (s .args .v .now) _ (s .pre .1 .1) (c .before .before .scale .ensures)
 
-sub-dot-from : tie.Need-sub-dot-from Inv-loop μ-loop
-sub-dot-from c = search (needs, loops)
+columns-transposed-requires : tie.Need-columns-transposed-requires
+columns-transposed-requires c κs = search needs
 
-part-dot-from-start : tie.Need-part-dot-from-start Inv-loop μ-loop
-part-dot-from-start c = search (needs, loops)
+same-length-2 : tie.Need-same-length-2
+same-length-2 c = search needs
 
-part-dot-from-end : tie.Need-part-dot-from-end Inv-loop μ-loop
-part-dot-from-end c = search (needs, loops)
-
-dot-from-requires : tie.Need-dot-from-requires Inv-loop μ-loop
-dot-from-requires c κs =
-    let l = c .before .before .before .before .loop in
-    let s = c .before .before .before .before .before .before .before in
-    let r = in-range (s .args .shape) (s .pre .0 .0) in
-    let rows = column-rows (s .args .shape) (l .j) r (omega arith) in
-    let theta = column-theta (s .args .shape) (l .j) r (omega arith) in
-    rw (c .before .before .column-of .ensures) (omega (arith, theta), part-long (l .j) _ (l .v) (omega (arith, rows)))
-
-mul-v : tie.Need-mul-v Inv-loop μ-loop
-mul-v c = search (needs, loops)
-
-slice-write-v : tie.Need-slice-write-v Inv-loop μ-loop
-slice-write-v c = search (needs, loops)
-
-add-j : tie.Need-add-j Inv-loop μ-loop
-add-j c = search (needs, loops)
-
-loop-less : tie.Need-loop-less Inv-loop μ-loop
-loop-less c = search (needs, loops)
-
-loop-again : tie.Need-loop-again Inv-loop μ-loop
-loop-again c =
-    let l = c .before .before .before .before .before .loop in
-    let s = c .before .before .before .before .before .before .before .before in
-    let r = in-range (s .args .shape) (s .pre .0 .0) in
-    let sum = rw (c .before .before .before .column-of .ensures) at (c .dot-from .ensures) in
-    let rows = column-rows (s .args .shape) (l .j) r (omega arith) in
-    let z = transposed-dot (s .args .shape) (s .args .theta .now) (s .args .v .now) (l .v) (l .j) (length (l .v) - l .j) (c .dot-from .result) r (omega arith) sum (l .inv .2) (omega (arith, rows)) in
-    (omega arith, simp length-set (omega arith), rw z (fill-step _ _ _ _ (l .inv .2)))
-
-same-length : tie.Need-same-length Inv-loop μ-loop
-same-length c = search (needs, loops)
-
-returns : tie.Need-returns Inv-loop μ-loop
-returns c = search (needs, loops)
+returns-2 : tie.Need-returns-2
+returns-2 c = search needs
 
 pub lambda-transposed-spec : {M : Type 1} → statement M
 lambda-transposed-spec =
     tie.close
     (tie.spec
-    Inv-loop
-    μ-loop
-    loop-holds
-    column-of-requires
-    mul-dot-from
-    sub-dot-from
-    part-dot-from-start
-    part-dot-from-end
-    dot-from-requires
-    mul-v
-    slice-write-v
-    add-j
-    loop-less
-    loop-again
+    is-single-requires
+    shared-slice-read-x
+    scale-requires
     same-length
-    returns)
+    returns
+    columns-transposed-requires
+    same-length-2
+    returns-2)

@@ -1,121 +1,78 @@
--- `lambda::system_row` meets its contract: before column c the first c entries of the row are the sums over Λ's column, with 1 more on the diagonal.
-use Rattle.lambda.proofs.Entries.{system-end, systemBy, system-dot}
-use mathlib.Core.Path.{refl, _≡_}
-use Rattle.base.proofs.Fills.{fillat-none, fillat-step}
-use Prim.Native.Nat.{_+_, _-_, _≤_}
-use lib.ListN.{length, length-set}
+-- `lambda::system_row` meets its contract: what the column of Λ gives, of one number or of several, is the row of A.
+use mathlib.Core.Path.{_≡_}
+use Prim.Native.Nat.{_+_, _≤_}
 use native.Mathlib.Omega.{arith}
-use Rattle.base.proofs.Rows.{part-long}
-use Rattle.base.specs.List.{fillAt}
+use Rattle.model.specs.Shape.{effectsOf, thetaLength}
 use Rattle.model.proofs.Shapes.{in-range}
 use Rattle.lambda.proofs.ColumnPlaces.{column-rows, column-theta}
-use Rattle.base.proofs.Loops.{loops}
+use Rattle.lambda.proofs.Entries.{system-end, system-end-one}
 use borrow.Author.Needs.{needs}
 use Rattle.lambda.proofs.systems.system_row.Statement.{statement}
 use Rattle.lambda.proofs.systems.system_row.Tie as tie
 
-abbrev Inv-loop : tie.InvT-loop
-Inv-loop theta q k a out₀ column o c₀ out c = ((c ≤ q) × (length out ≡ length out₀)) × ((column .first + column .count ≤ length theta) × (a + column .count ≤ q)) × (out ≡ fillAt o c (systemBy column theta q k a) out₀)
+column-of-requires : tie.Need-column-of-requires
+column-of-requires c κs = search needs
 
-abbrev μ-loop : tie.MeasureT-loop
-μ-loop theta q k a out₀ column o c₀ out c = q - c
+offset-requires : tie.Need-offset-requires
+offset-requires c κs = search needs
 
-column-of-requires : tie.Need-column-of-requires Inv-loop μ-loop
-column-of-requires c κs = search (needs, loops)
-
-offset-requires : tie.Need-offset-requires Inv-loop μ-loop
-offset-requires c κs = search (needs, loops)
-
-loop-holds : tie.Need-loop-holds Inv-loop μ-loop
-loop-holds c =
-    let s = c .before .before .before .before .before in
-    let r = in-range (s .args .shape) (s .pre .0 .0) in
-    let theta = column-theta (s .args .shape) (s .args .a) r (omega arith) in
-    let rows = column-rows (s .args .shape) (s .args .a) r (omega arith) in
-    ((omega arith, refl), rw (c .before .column-of .ensures) (omega (arith, theta), omega (arith, rows)), fillat-none _ _ _)
-
-offset-requires-2 : tie.Need-offset-requires-2 Inv-loop μ-loop
-offset-requires-2 c κs = search (needs, loops)
-
-add-i : tie.Need-add-i Inv-loop μ-loop
-add-i c = search (needs, loops)
-
-mul-dot-from : tie.Need-mul-dot-from Inv-loop μ-loop
-mul-dot-from c = search (needs, loops)
-
-sub-dot-from : tie.Need-sub-dot-from Inv-loop μ-loop
-sub-dot-from c = search (needs, loops)
-
-part-dot-from-start : tie.Need-part-dot-from-start Inv-loop μ-loop
-part-dot-from-start c = search (needs, loops)
-
-part-dot-from-end : tie.Need-part-dot-from-end Inv-loop μ-loop
-part-dot-from-end c = search (needs, loops)
-
-dot-from-requires : tie.Need-dot-from-requires Inv-loop μ-loop
-dot-from-requires c κs =
-    let l = c .before .before .before .loop in
-    let s = c .before .before .before .before .before .before .before .before .before in
-    (l .inv .1 .0, part-long _ _ (s .args .k .now) (omega (arith, l .inv, c .before .offset2 .ensures)))
-
-plus-unit-requires : tie.Need-plus-unit-requires Inv-loop μ-loop
-plus-unit-requires c κs = search (needs, loops)
-
-add-out : tie.Need-add-out Inv-loop μ-loop
-add-out c = search (needs, loops)
-
-mul-out : tie.Need-mul-out Inv-loop μ-loop
-mul-out c = search (needs, loops)
-
-slice-write-out : tie.Need-slice-write-out Inv-loop μ-loop
-slice-write-out c = search (needs, loops)
-
-add-c : tie.Need-add-c Inv-loop μ-loop
-add-c c = search (needs, loops)
-
-loop-less : tie.Need-loop-less Inv-loop μ-loop
-loop-less c = search (needs, loops)
-
-loop-again : tie.Need-loop-again Inv-loop μ-loop
-loop-again c =
-    let l = c .before .before .before .before .before .loop in
-    let s = c .before .before .before .before .before .before .before .before .before .before .before in
-    let k = c .before .before .before .before .before .before .before .column-of .result in
-    let i = c .before .before .before .offset2 in
-    let z = system-dot k (s .args .theta .now) (s .args .k .now) (s .args .q) (s .args .a) (l .c) _ (length (s .args .k .now) - (i .result + s .args .a)) _ (c .before .dot-from .ensures) (i .ensures .0) (omega (arith, l .inv, i .ensures)) in
-    ((omega arith, simp length-set (omega arith)), l .inv .1, rw (c .plus-unit .ensures, z) (fillat-step _ _ _ _ _ (l .inv .2)))
-
-same-length : tie.Need-same-length Inv-loop μ-loop
-same-length c = search (needs, loops)
-
-returns : tie.Need-returns Inv-loop μ-loop
-returns c =
+mul-x : tie.Need-mul-x
+mul-x c =
     let s = c .before .before .before .before .before .before .before in
     let r = in-range (s .args .shape) (s .pre .0 .0) in
-    system-end _ _ _ _ _ _ _ _ _ _ r (c .before .before .before .column-of .ensures) (s .pre .0 .1) (omega arith) (c .before .before .offset .ensures .0) (omega arith) (c .before .loop .inv .2)
+    let k = c .before .before .before .column-of in
+    let theta : k .result .first + k .result .count ≤ thetaLength (s .args .shape) = rw (k .ensures) (column-theta (s .args .shape) (s .args .a) r (omega arith)) in
+    omega (arith, theta, c .if1 .taken)
+
+shared-slice-read-x : tie.Need-shared-slice-read-x
+shared-slice-read-x c =
+    let s = c .before .before .before .before .before .before .before .before in
+    let r = in-range (s .args .shape) (s .pre .0 .0) in
+    let k = c .before .before .before .before .column-of in
+    let theta : k .result .first + k .result .count ≤ thetaLength (s .args .shape) = rw (k .ensures) (column-theta (s .args .shape) (s .args .a) r (omega arith)) in
+    omega (arith, theta, c .before .if1 .taken)
+
+system-single-requires : tie.Need-system-single-requires
+system-single-requires c κs = search needs
+
+same-length : tie.Need-same-length
+same-length c = search needs
+
+returns : tie.Need-returns
+returns c =
+    let s = c .before .before .before .before .before .before .before .before .before .before .before .before in
+    let r = in-range (s .args .shape) (s .pre .0 .0) in
+    system-end-one _ _ _ _ _ _ _ _ _ r (c .before .before .before .before .before .before .before .before .column-of .ensures) (s .pre .0 .1) (omega arith) (c .before .before .before .before .before .before .before .offset .ensures .0) (c .before .before .before .before .before .if1 .taken) (c .before .before .system-single .ensures)
+
+system-several-requires : tie.Need-system-several-requires
+system-several-requires c κs =
+    let s = c .before .before .before .before .before .before .before .before in
+    let r = in-range (s .args .shape) (s .pre .0 .0) in
+    let k = c .before .before .before .before .column-of in
+    let theta : k .result .first + k .result .count ≤ thetaLength (s .args .shape) = rw (k .ensures) (column-theta (s .args .shape) (s .args .a) r (omega arith)) in
+    let rows : s .args .a + k .result .count ≤ effectsOf (s .args .shape) = rw (k .ensures) (column-rows (s .args .shape) (s .args .a) r (omega arith)) in
+    (omega (arith, theta), omega (arith, rows), omega arith, omega arith, omega (arith, c .before .before .before .offset .ensures))
+
+same-length-2 : tie.Need-same-length-2
+same-length-2 c = search needs
+
+returns-2 : tie.Need-returns-2
+returns-2 c =
+    let s = c .before .before .before .before .before .before .before .before .before .before .before in
+    let r = in-range (s .args .shape) (s .pre .0 .0) in
+    system-end _ _ _ _ _ _ _ _ _ r (c .before .before .before .before .before .before .before .column-of .ensures) (s .pre .0 .1) (omega arith) (c .before .before .before .before .before .before .offset .ensures .0) (c .before .before .system-several .ensures)
 
 pub system-row-spec : {M : Type 1} → statement M
 system-row-spec =
     tie.close
     (tie.spec
-    Inv-loop
-    μ-loop
     column-of-requires
     offset-requires
-    loop-holds
-    offset-requires-2
-    add-i
-    mul-dot-from
-    sub-dot-from
-    part-dot-from-start
-    part-dot-from-end
-    dot-from-requires
-    plus-unit-requires
-    add-out
-    mul-out
-    slice-write-out
-    add-c
-    loop-less
-    loop-again
+    mul-x
+    shared-slice-read-x
+    system-single-requires
     same-length
-    returns)
+    returns
+    system-several-requires
+    same-length-2
+    returns-2)

@@ -10,10 +10,10 @@ use Rattle.stored.proofs.weighted.ztwz_row.Statement.{statement}
 use Rattle.stored.proofs.weighted.ztwz_row.Tie as tie
 
 abbrev Inv-loop : tie.InvT-loop
-Inv-loop starts columns values rows n w a out₀ ao b₀ out b = (b ≤ a + 1) × (length out ≡ length out₀) × (Bordered rows a b (ztwzAt (sparse starts columns values) n w) out₀ out)
+Inv-loop starts columns values rows n w a low far out₀ ao b₀ out b = (b ≤ a + 1) × (length out ≡ length out₀) × (Bordered rows a b (ztwzAt (sparse starts columns values) n w) out₀ out)
 
 abbrev μ-loop : tie.MeasureT-loop
-μ-loop starts columns values rows n w a out₀ ao b₀ out b = a + 1 - b
+μ-loop starts columns values rows n w a low far out₀ ao b₀ out b = a + 1 - b
 
 offset-requires : tie.Need-offset-requires Inv-loop μ-loop
 offset-requires c κs = omega arith
@@ -24,10 +24,10 @@ loop-holds c = (omega arith, omega arith, border-none _ _ _ _)
 offset-requires-2 : tie.Need-offset-requires-2 Inv-loop μ-loop
 offset-requires-2 c κs = omega arith
 
-both-rows-requires : tie.Need-both-rows-requires Inv-loop μ-loop
-both-rows-requires c κs =
+ztwz-entry-requires : tie.Need-ztwz-entry-requires Inv-loop μ-loop
+ztwz-entry-requires c κs =
     let s = c .before .before .before .before .before .before .before .before .before in
-    (s .pre .0, omega arith)
+    (s .pre .0, (omega arith, s .pre .1 .1))
 
 add-out : tie.Need-add-out Inv-loop μ-loop
 add-out c = omega arith
@@ -56,7 +56,7 @@ loop-less c = omega arith
 loop-again : tie.Need-loop-again Inv-loop μ-loop
 loop-again c =
     let s = c .before .before .before .before .before .before .before .before .before .before in
-    (omega arith, simp length-set (omega arith), border-step _ _ _ _ _ _ _ _ _ (c .before .before .before .before .offset .ensures .0) (c .before .offset2 .ensures .0) (c .both-rows .ensures) (s .pre .1 .0) (c .before .before .loop-test .taken) (s .pre .1 .2) (ztwz-symmetric (sparse (s .args .starts .now) (s .args .columns .now) (s .args .values .now)) (s .args .n) (s .args .w .now) _ _) (c .before .before .before .loop .inv .2))
+    (omega arith, simp length-set (omega arith), border-step _ _ _ _ _ _ _ _ _ (c .before .before .before .before .offset .ensures .0) (c .before .offset2 .ensures .0) (c .ztwz-entry .ensures) (s .pre .1 .0 .0) (c .before .before .loop-test .taken) (s .pre .1 .0 .2) (ztwz-symmetric (sparse (s .args .starts .now) (s .args .columns .now) (s .args .values .now)) (s .args .n) (s .args .w .now) _ _) (c .before .before .before .loop .inv .2))
 
 same-length : tie.Need-same-length Inv-loop μ-loop
 same-length c = omega arith
@@ -73,7 +73,7 @@ ztwz-row-spec =
     offset-requires
     loop-holds
     offset-requires-2
-    both-rows-requires
+    ztwz-entry-requires
     add-out
     mul-out
     slice-write-out
