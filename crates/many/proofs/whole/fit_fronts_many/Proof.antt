@@ -8,17 +8,24 @@ use borrow.Author.Needs.{needs}
 use Rattle.many.proofs.whole.fit_fronts_many.Statement.{statement}
 use Rattle.many.proofs.whole.fit_fronts_many.Tie as tie
 
+-- the ways back that several answers go
+abbrev start-of : tie.After-few-of → tie.Start
+start-of c = c .before .before .before .before .before .before .before .before .before .before .before .before .before .before .before
+
+abbrev fit-each-of : tie.After-slice-known11 → tie.After-fit-each
+fit-each-of c = c .before .before .before .before .before .before .before .before .before .before
+
 few-of-requires : tie.Need-few-of-requires
 few-of-requires c κs = search needs
 
 lengths-for-requires : tie.Need-lengths-for-requires
 lengths-for-requires c κs =
-    let start = c .before .before .before .before .before .before .before .before .before .before .before .before .before .before .before in
+    let start = start-of c in
     (rw (c .few-of .ensures) (few-few _), start .pre .1 .sizes)
 
 verdict-fronts-requires : tie.Need-verdict-fronts-requires
 verdict-fronts-requires c κs =
-    let start = c .before .before .before .before .before .before .before .before .before .before .before .before .before .before .before .before in
+    let start = start-of (c .before) in
     start .pre .1
 
 enum-known-verdict : tie.Need-enum-known-verdict
@@ -29,8 +36,7 @@ refusal-number-requires c κs = search needs
 
 put-refusal-requires : tie.Need-put-refusal-requires
 put-refusal-requires c κs =
-    let start = c .before .before .before .before .before .before .before .before .before .before
-    .before .before .before .before .before .before .before .before .before .before .before .before in
+    let start = start-of (c .before .before .before .before .before .before .before) in
     start .pre .0
 
 enum-told : tie.Need-enum-told
@@ -42,7 +48,7 @@ fit-each-requires c κs =
     let verdict-fronts = at-enum-told .before .before in
     let lengths-for = verdict-fronts .before in
     let few-of = lengths-for .before in
-    let start = few-of .before .before .before .before .before .before .before .before .before .before .before .before .before .before .before in
+    let start = start-of few-of in
     let a = start .args in
     roomy-by (a .responses) (a .header) (a .shape)
     (inputs (a .theta .now) (a .y .now) (a .weights .now) (a .offset .now) (a .x .now) (a .starts .now) (a .columns .now) (a .values .now))
@@ -63,7 +69,7 @@ returns c =
     let verdict-fronts = verdict .before .before in
     let lengths-for = verdict-fronts .before in
     let few-of = lengths-for .before in
-    let start = few-of .before .before .before .before .before .before .before .before .before .before .before .before .before .before .before in
+    let start = start-of few-of in
     let a = start .args in
     refused-told (a .responses) (a .header .settings) (a .shape)
     (manyFronts (a .header)
@@ -73,30 +79,38 @@ returns c =
     (c .before .before .put-refusal .ensures)
 
 same-length-2 : tie.Need-same-length-2
-same-length-2 c = c .before .before .before .before .before .before .before .before .before .before .fit-each .kept .1 .1 .1 .1 .1 .1 .1 .1 .1 .1 .1 .0
+same-length-2 c =
+    let fit-each = fit-each-of c in
+    fit-each .fit-each .kept .1 .1 .1 .1 .1 .1 .1 .1 .1 .1 .1 .0
 
 same-length-3 : tie.Need-same-length-3
-same-length-3 c = c .before .before .before .before .before .before .before .before .before .before .fit-each .kept .1 .1 .1 .1 .1 .1 .1 .1 .1 .1 .1 .1 .0
+same-length-3 c =
+    let fit-each = fit-each-of c in
+    fit-each .fit-each .kept .1 .1 .1 .1 .1 .1 .1 .1 .1 .1 .1 .1 .0
 
 same-length-4 : tie.Need-same-length-4
-same-length-4 c = c .before .before .before .before .before .before .before .before .before .before .fit-each .kept .1 .1 .1 .1 .1 .1 .1 .1 .1 .1 .1 .1 .1 .0
+same-length-4 c =
+    let fit-each = fit-each-of c in
+    fit-each .fit-each .kept .1 .1 .1 .1 .1 .1 .1 .1 .1 .1 .1 .1 .1 .0
 
 same-length-5 : tie.Need-same-length-5
-same-length-5 c = c .before .before .before .before .before .before .before .before .before .before .fit-each .kept .1 .1 .1 .1 .1 .1 .1 .1 .1 .1 .1 .1 .1 .1 .0
+same-length-5 c =
+    let fit-each = fit-each-of c in
+    fit-each .fit-each .kept .1 .1 .1 .1 .1 .1 .1 .1 .1 .1 .1 .1 .1 .1 .0
 
 same-length-6 : tie.Need-same-length-6
 same-length-6 c =
-    let fit-each = c .before .before .before .before .before .before .before .before .before .before in
+    let fit-each = fit-each-of c in
     fit-each .fit-each .kept .1 .1 .1 .1 .1 .1 .1 .1 .1 .1 .1 .1 .1 .1 .1 .0
 
 returns-2 : tie.Need-returns-2
 returns-2 c =
-    let fit-each = c .before .before .before .before .before .before .before .before .before .before in
+    let fit-each = fit-each-of c in
     let at-enum-told = fit-each .before .before .before .before .before .before in
     let verdict-fronts = at-enum-told .before .before in
     let lengths-for = verdict-fronts .before in
     let few-of = lengths-for .before in
-    let start = few-of .before .before .before .before .before .before .before .before .before .before .before .before .before .before .before in
+    let start = start-of few-of in
     let a = start .args in
     fitted-told (a .responses) (a .header .settings) (a .shape)
     (manyFronts (a .header)
