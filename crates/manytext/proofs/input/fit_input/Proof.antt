@@ -48,7 +48,12 @@ same-length-2 : tie.Need-same-length-2
 same-length-2 c = search needs
 
 returns : tie.Need-returns
-returns c = input-fit _ _ _ _ _ _ (c .before .before .before .before .before .before .before .before .before .before .before .least .ensures) (c .before .before .before .before .before .before .before .before .before .before .job-size .ensures .0) refl (c .before .before .before .before .before .before .before .before .before .least2 .ensures) refl _ _ _ (c .before .before .before .before .fit-parts .ensures)
+returns c =
+    let fit-parts = c .before .before .before .before in
+    let least2 = fit-parts .before .before .before .before .before in
+    let job-size = least2 .before in
+    let least = job-size .before in
+    input-fit _ _ _ _ _ _ (least .least .ensures) (job-size .job-size .ensures .0) refl (least2 .least2 .ensures) refl _ _ _ (fit-parts .fit-parts .ensures)
 
 pub fit-input-spec : {M : Type 1} → statement M
 fit-input-spec =

@@ -36,8 +36,10 @@ same-length-2 c = search needs
 returns : tie.Need-returns
 unfolding zeros
 returns c =
-    let start = c .before .before .before .before .before .before .before .before .before .before .before .before .before .before .before .before in
-    parts-fit _ _ _ _ _ _ _ (c .before .before .before .before .before .before .before .before .before .before .read-doubles .ensures) refl (start .pre) (c .before .before .before .before .fit-read .ensures)
+    let fit-read = c .before .before .before .before in
+    let read-doubles = fit-read .before .before .before .before .before .before in
+    let start = read-doubles .before .before .before .before .before .before in
+    parts-fit _ _ _ _ _ _ _ (read-doubles .read-doubles .ensures) refl (start .pre) (fit-read .fit-read .ensures)
 
 pub fit-parts-spec : {M : Type 1} → statement M
 fit-parts-spec =
