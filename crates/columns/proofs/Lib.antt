@@ -2,3 +2,4 @@
 pub mod Laws
 pub mod OneColumn
 pub mod AllColumns
+pub mod WeightedSums

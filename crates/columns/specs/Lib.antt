@@ -1,2 +1,3 @@
 -- What the columns of X leave in the work slices. Assumes nothing.
 pub mod Columns
+pub mod Weighted
