@@ -6,6 +6,8 @@ pub mod CholeskyRows
 pub mod ZeroTerms
 pub mod SubstitutionSteps
 pub mod Columns
+pub mod EachColumn
+pub mod ColumnsSolved
 pub mod Transposed
 pub mod LdlTextbook
 pub mod CholeskyTextbook
