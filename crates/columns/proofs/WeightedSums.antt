@@ -17,7 +17,7 @@ use Rattle.base.proofs.Fills.{build-length, build-at, build-cong, build-const, 
 use Rattle.base.proofs.Rows.{fillat-wrote, filled-part, wrote-unique}
 use Rattle.linear.specs.Product.{xwAt}
 use Rattle.stored.proofs.StoredRows.{entryTerm, zt-entries}
-use Rattle.columns.specs.Weighted.{weightedDot, weightedSide, entriesSide, weightedMore, startingAt, beginAt, Further}
+use Rattle.columns.specs.Weighted.{weightedDot, weightedSide, entriesSide, weightedMore, startingAt, Further}
 
 -- ---- what one observation adds to several sums
 
@@ -174,7 +174,3 @@ module _ (f : ℕ → Float) (p b o count : ℕ) (v w : List Float) (from : o �
 
   pub columns-further : Further f p b (o + count) v w
   columns-further = record { behind = to; within = within; filled = again-filled }
-
--- the columns that are taken begin at b or before it, and end behind it, but not behind the last
-pub begin-within : (b o count p : ℕ) → count ≤ p → 0 < count → b < p → o ≡ beginAt b count p → (o ≤ b) × (b < o + count) × (o + count ≤ p)
-begin-within b o count p l m h e = (omega arith, omega arith, omega arith)

@@ -1,7 +1,7 @@
 -- Products with the weighted columns x_a·w of X, with a list over the observations and with the rows of Z'. Document 01, "The inner fit". Assumes nothing.
 use mathlib.Core.Path.{_≡_}
 use mathlib.Core.List.{List}
-use Prim.Native.Nat.{ℕ, _+_, _-_, _≤_, _<_}
+use Prim.Native.Nat.{ℕ, _+_, _≤_, _<_}
 use lib.Ieee.{Float}
 use Rattle.base.specs.Number.{_⊕_, _⊗_}
 use Rattle.base.specs.Sum.{_!_, _!!_, sumFrom, dotOf}
@@ -31,10 +31,6 @@ weightedMore w v x o s k = (s ! k) ⊕ (v ⊗ ((x ! (o + k)) ⊗ w))
 -- the rule f from b on
 unfoldable pub startingAt : (ℕ → Float) → ℕ → ℕ → Float
 startingAt f b k = f (b + k)
-
--- the lesser of b and p - count
-abbrev pub beginAt : ℕ → ℕ → ℕ → ℕ
-beginAt b count p = b - (b - (p - count))
 
 -- a list that is filled up to b by f has become one that is filled up to r, behind b and within p
 pub record Further (f : ℕ → Float) (p b r : ℕ) (v w : List Float) : Type 0 where

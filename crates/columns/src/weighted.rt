@@ -7,7 +7,7 @@ ghost use Rattle.base.specs.Number.{zeroF};
 ghost use Rattle.base.specs.List.{build, fillTo, fillAt, gridTo};
 ghost use Rattle.base.specs.Sparse.{Rising, Rows};
 ghost use Rattle.stored.specs.Stored.{sparse};
-ghost use Rattle.columns.specs.Weighted.{weightedDot, weightedSide, weightedMore, entriesSide, startingAt, beginAt, Further};
+ghost use Rattle.columns.specs.Weighted.{weightedDot, weightedSide, weightedMore, entriesSide, startingAt, Further};
 
 // v·(x·w) more in each of the first count sums, the numbers x being those of a row from o on.
 fn add_weighted(w: f64, v: f64, x: &[f64], o: usize, count: usize, sums: &mut [f64])
@@ -19,17 +19,6 @@ fn add_weighted(w: f64, v: f64, x: &[f64], o: usize, count: usize, sums: &mut [f
         sums[k] = sums[k] + v * (x[o + k] * w);
         k += 1;
     }
-}
-
-// Where count columns begin that take column b: at b, or before it where fewer are left.
-fn begin_at(b: usize, count: usize, p: usize) -> usize
-    requires { ⌜ count ≤ p ⌝ }
-    ensures { λ r. ⌜ r ≡ beginAt b count p ⌝ }
-{
-    if b < p - count {
-        return b;
-    }
-    p - count
 }
 
 // The count weighted columns from b on times v, into sums of +0.0.
@@ -106,11 +95,11 @@ fn dots_from(
         return b + 1;
     }
     if p < 6 {
-        let o = begin_at(b, 2, p);
+        let o = linear::begin_at(b, p, 2);
         two_dots(x, w, v, n, p, o, out);
         return o + 2;
     }
-    let o = begin_at(b, 6, p);
+    let o = linear::begin_at(b, p, 6);
     six_dots(x, w, v, n, p, o, out);
     o + 6
 }
@@ -259,11 +248,11 @@ fn sides_from(
         return b + 1;
     }
     if p < 6 {
-        let o = begin_at(b, 2, p);
+        let o = linear::begin_at(b, p, 2);
         two_sides(begin, end, columns, values, x, w, n, p, o, out);
         return o + 2;
     }
-    let o = begin_at(b, 6, p);
+    let o = linear::begin_at(b, p, 6);
     six_sides(begin, end, columns, values, x, w, n, p, o, out);
     o + 6
 }

@@ -84,7 +84,7 @@ fn one(x: &[f64], w: &[f64], n: usize, p: usize, a: usize, b: usize, out: &mut [
 }
 
 // Where `count` columns that are to begin at b begin, so that they end within p: at b, or before it, and then some are summed once more.
-fn begin_at(b: usize, p: usize, count: usize) -> usize
+pub fn begin_at(b: usize, p: usize, count: usize) -> usize
     requires { ⌜ count ≤ p ⌝ }
     ensures { λ r. ⌜ r ≡ beginAt b p count ⌝ }
 {

@@ -2,6 +2,7 @@
 mod crosses;
 mod product;
 
+pub use crosses::begin_at;
 pub use crosses::cross_rows;
 pub use product::effects_less;
 pub use product::products;
