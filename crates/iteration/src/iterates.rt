@@ -59,7 +59,20 @@ pub fn iterate(
         (row (muRow n) n (now (r .entry))) (etaRow n (not «in_second»)) (now (r .entry)) (now (r .exit)) (now (m .entry)) (now (m .exit)) (now (t .entry))
         (now (t .exit)) a ⌝ }
 {
-    weigh(family, link, met, phi, y, weights, offset, n, q, in_second, r, t);
+    weigh(
+        family,
+        link,
+        met,
+        phi,
+        y,
+        weights,
+        offset,
+        n,
+        q,
+        in_second,
+        r,
+        t,
+    );
     let solving = solve_into(
         shape,
         theta,

@@ -73,6 +73,19 @@ pub fn weigh(
     let weighted = layout::weighted_row(n);
     let working = layout::working_row(n);
     let eta = holder(&r[0..second], &r[second..mu], n, in_second);
-    working_rows(family, link, met, phi, y, weights, eta, &r[mu..raw], n, w, z, t);
+    working_rows(
+        family,
+        link,
+        met,
+        phi,
+        y,
+        weights,
+        eta,
+        &r[mu..raw],
+        n,
+        w,
+        z,
+        t,
+    );
     targets_into(offset, &t[w..z], &t[z..unsolved], n, weighted, working, r);
 }
