@@ -1,4 +1,4 @@
--- One answer, one content: each contract of this crate is an equation with its definition, but `cross_rows`', which leaves open what stands above the diagonal. Assumes nothing.
+-- One answer, one content: each contract that this crate hands out is an equation with its definition, but `cross_rows`', which leaves open what stands above the diagonal. Assumes nothing.
 use mathlib.Core.Path.{_≡_}
 use mathlib.Core.List.{List}
 use Prim.Native.Nat.{ℕ, _<_, _≤_}
@@ -6,7 +6,7 @@ use lib.Ieee.{Float}
 use Rattle.base.specs.Sum.{productAt}
 use Rattle.base.specs.List.{at, fillTo}
 use Rattle.base.proofs.Unique.{one-value}
-use Rattle.linear.specs.Product.{xBetaAt, columnDot, crossAt, effectAt}
+use Rattle.linear.specs.Product.{xBetaAt, crossAt, effectAt}
 use Rattle.linear.specs.SideBySide.{CrossLeft}
 
 -- `x_beta`
@@ -16,10 +16,6 @@ x-beta-unique x p beta n before y z s t = one-value s t
 -- `products`
 pub products-unique : (a b : List Float) (n : ℕ) (before y z : List Float) → y ≡ fillTo n (productAt a b) before → z ≡ fillTo n (productAt a b) before → y ≡ z
 products-unique a b n before y z s t = one-value s t
-
--- `column_dot`
-pub column-dot-unique : (x : List Float) (p n : ℕ) (v : List Float) (b : ℕ) (r s : Float) → r ≡ columnDot x p n v b → s ≡ columnDot x p n v b → r ≡ s
-column-dot-unique x p n v b r s d e = one-value d e
 
 -- `effects_less`
 pub effects-less-unique : (wy W : List Float) (q p : ℕ) (beta before y z : List Float) → y ≡ fillTo q (effectAt wy W q p beta) before → z ≡ fillTo q (effectAt wy W q p beta) before → y ≡ z
