@@ -213,7 +213,7 @@ module _ (n p q : ℕ) (shape : Shape) (theta x : List Float) (zt : Sparse) (r m
             kept = λ j o. ⊎-elim (λ h. absurd (omega arith)) (λ h. two5 .kept j (inr (omega (arith, laid .matrices .beta, laid .matrices .beta-end))) (inr (omega (arith, laid .matrices .beta, laid .matrices .beta-end)))) o;
           };
           terms-only = only-trans (only-wide (unsolvedPlace n q) (p * q) (unsolvedPlace n q) (q * p + p * p) (omega arith) (omega (arith, turned)) (s .before .only))
-          (only-wide (normalPlace n p q) (p * p) (unsolvedPlace n q) (q * p + p * p) (omega arith) (omega arith) (s .remains .only));
+              (only-wide (normalPlace n p q) (p * p) (unsolvedPlace n q) (q * p + p * p) (omega arith) (omega arith) (s .remains .only));
         }
 
 -- with the places as the code forms them

@@ -57,7 +57,16 @@ pub fn normal_into(
     let se = solved + p * q;
     let mut a = 0;
     while a < p {
-        normal_row(&m[crossed..ce], &m[solved..se], p, q, a, unsolved, normal, t);
+        normal_row(
+            &m[crossed..ce],
+            &m[solved..se],
+            p,
+            q,
+            a,
+            unsolved,
+            normal,
+            t,
+        );
         a += 1;
     }
 }

@@ -2,17 +2,18 @@
 use mathlib.Core.Path.{_≡_, refl, ap, _∙_}
 use mathlib.Core.List.{List}
 use mathlib.Core.Bool.{Bool}
-use mathlib.Core.Logic.{inl, inr}
+use mathlib.Core.Logic.{inl}
 use Prim.Native.Nat.{ℕ, _+_, _-_, _*_, _≤_}
 use native.Mathlib.Omega.{arith}
 use lib.ListN.{length, take, drop}
 use lib.Ieee.{Float}
 use Rattle.base.specs.Sum.{productAt}
 use Rattle.base.specs.List.{build, fillAt}
-use Rattle.base.specs.Rows.{row, Only, Wrote}
+use Rattle.base.specs.Rows.{row, Only, OnlyTwo, Wrote}
 use Rattle.base.proofs.Fills.{length-fillat}
 use Rattle.base.proofs.Rows.{part-is, fillat-wrote, only-row, only-wide, only-trans}
-use Rattle.layout.specs.WorkRows.{secondEtaRow, muRow, rawRow, weightedRow, columnRow, workingRow}
+use Rattle.base.proofs.TwoRows.{two-of}
+use Rattle.layout.specs.WorkRows.{secondEtaRow, muRow, rawRow, weightedRow, workingRow}
 use Rattle.layout.specs.WorkTerms.{wPlace, zPlace, unsolvedPlace}
 use Rattle.layout.proofs.Bounds.{square-few}
 use Rattle.family.specs.declared.carried.CarriedFamily.{CarriedFamily}
@@ -37,8 +38,8 @@ module _ (a c n : ℕ) (f g : ℕ → Float) (v : List Float) (apart : a + n ≤
   back-row : row c n (fillAt c n g (fillAt a n f v)) ≡ build g n
   back-row = back-wrote .row'
 
-  between-row : (b : ℕ) → a + n ≤ b → b + n ≤ c → row b n (fillAt c n g (fillAt a n f v)) ≡ row b n v
-  between-row b l h = only-row b n c n (inl h) (omega (arith, length-fillat a n f v)) (back-wrote .only) ∙ only-row b n a n (inr l) (omega arith) (front-wrote .only)
+  both-two : OnlyTwo a n c n v (fillAt c n g (fillAt a n f v))
+  both-two = two-of a n c n (front-wrote .only) (back-wrote .only)
 
   both-only : (m : ℕ) → c + n ≤ a + m → Only a m v (fillAt c n g (fillAt a n f v))
   both-only m h = only-trans (only-wide a n a m (omega arith) (omega arith) (front-wrote .only)) (only-wide c n a m (omega arith) h (back-wrote .only))
@@ -63,8 +64,7 @@ weighed-rows G phi q eta mu r r' t t' ht hr et er =
       z = z;
       target = ap (row (workingRow n) n) er' ∙ back-row (weightedRow n) (workingRow n) n h k r (omega arith) hr;
       weighted = ap (row (weightedRow n) n) er' ∙ front-row (weightedRow n) (workingRow n) n h k r (omega arith) hr;
-      column = ap (row (columnRow n) n) er' ∙ between-row (weightedRow n) (workingRow n) n h k r (omega arith) hr (columnRow n) (omega arith) (omega arith);
-      rows-only = rw er' (both-only (weightedRow n) (workingRow n) n h k r (omega arith) hr (3 * n) (omega arith));
+      rows-only = rw er' (both-two (weightedRow n) (workingRow n) n h k r (omega arith) hr);
       terms-only = rw et (both-only (wPlace q) (zPlace n q) n f g t (omega arith) ht (n + n) (omega arith));
     }
 

@@ -199,7 +199,7 @@ returns c =
     let start = working-row .before .before .before .before .before .before .before .before .before in
     let args = start .args in
     columns-made {r = args .r .now} {m = args .m .now} {m1 = cross-into .cross-into .last .1 .1 .1 .1 .1 .1 .0} {m2 = dots-into .dots-into .last .1 .1 .1 .1 .1 .1 .1 .1 .0} {m3 = rows-into .rows-into .last .1 .1 .1 .1 .1 .1 .1 .1 .1 .1 .0} {m4 = solved-into .solved-into .last .1 .1 .1 .1 .1 .0} {m5 = sides-into .sides-into .last .1 .1 .1 .1 .1 .1 .0} {t = args .t .now} {t1 = unsolved-into .unsolved-into .last .1 .1 .1 .1 .1 .1 .1 .0} {t2 = normal-into .normal-into .last .1 .1 .1 .1 .1 .1 .1 .0} (start .pre .0 .effects) (start .pre .1 .0) (working-row .working-row .ensures) (w-at .w-at .ensures) (unsolved-at .unsolved-at .ensures) (normal-at .normal-at .ensures) (solved-at .solved-at .ensures) (root-inverse-at .root-inverse-at .ensures) (wy-at .wy-at .ensures) (beta-at .beta-at .ensures)
-    (record { crosses = cross-into .cross-into .ensures; dots = dots-into .dots-into .ensures; rows = rows-into .rows-into .ensures; before = unsolved-into .unsolved-into .ensures; after = solved-into .solved-into .ensures; remains = normal-into .normal-into .ensures; sides = sides-into .sides-into .ensures; })
+    (record { crosses = cross-into .cross-into .ensures; dots = dots-into .dots-into .ensures; rows = rows-into .rows-into .ensures; before = unsolved-into .unsolved-into .ensures; after = solved-into .solved-into .ensures; remains = normal-into .normal-into .ensures; sides = sides-into .sides-into .ensures })
 
 pub normal-columns-spec : {M : Type 1} → statement M
 normal-columns-spec =
