@@ -197,150 +197,33 @@ fn fours() {
     four(9.0, 3.0, 5.0, 1.0, 2.0, 4.0, 0.5, 1.0, inf, 8.0);
 }
 
-// Of three right sides of 4 numbers the first `count` solved in one call.
-fn sides(l: &[f64; 16], right: &[f64; 12], count: usize)
-    requires { ⌜ count ≤ 3 ⌝ }
+// Of two right sides of 4 numbers the first `count` solved in one call.
+fn sides(l: &[f64; 16], right: &[f64; 8], count: usize)
+    requires { ⌜ count ≤ 2 ⌝ }
 {
-    let mut x = [0.0; 12];
-    base::copy(right, &mut x, 12);
+    let mut x = [0.0; 8];
+    base::copy(right, &mut x, 8);
     factor::ldl_solve_columns(l, 4, count, &mut x);
-    text::put_list(b"right", right, 12);
-    text::put_list(b"solutions", &x, 12);
+    text::put_list(b"right", right, 8);
+    text::put_list(b"solutions", &x, 8);
 }
 
-// With the factor of the last pivot d, whose rows and columns have zeros of either sign at their heads:
-// finite sides; an infinity in the first or second of them; one that an overflow makes; and a NaN. A zero times what is not finite is NaN.
+// With a factor of the last pivot d, whose rows and columns have zeros of either sign at their heads: sides that are finite, with an infinity
+// or a NaN, and with an overflow on the way. A zero times what is not finite is NaN.
 fn with_zeros(d: f64) {
     let n = 0.0 / 0.0;
     let inf = base::infinity();
     let z = 0.0;
-    let l = [
-        2.0,
-        n,
-        n,
-        n,
-        z,
-        0.3,
-        n,
-        n,
-        -0.0,
-        0.5,
-        8.0,
-        n,
-        z,
-        -0.0,
-        0.25,
-        d,
-    ];
+    let m = -0.0;
+    let l = [2.0, n, n, n, z, 0.3, n, n, m, 0.5, 8.0, n, z, m, 0.25, d];
     text::put_list(b"factor", &l, 16);
-    sides(
-        &l,
-        &[
-            1.0,
-            -2.0,
-            0.3,
-            3.0,
-            0.1,
-            0.2,
-            -0.3,
-            0.7,
-            -1.0,
-            5.0,
-            7.0,
-            0.001,
-        ],
-        3,
-    );
-    sides(
-        &l,
-        &[
-            1.0,
-            -2.0,
-            0.3,
-            3.0,
-            0.1,
-            0.2,
-            -0.3,
-            0.7,
-            -1.0,
-            5.0,
-            7.0,
-            0.001,
-        ],
-        0,
-    );
-    sides(
-        &l,
-        &[
-            inf,
-            -2.0,
-            0.3,
-            3.0,
-            0.1,
-            0.2,
-            -0.3,
-            0.7,
-            -1.0,
-            5.0,
-            7.0,
-            0.001,
-        ],
-        2,
-    );
-    sides(
-        &l,
-        &[
-            1.0,
-            -2.0,
-            0.3,
-            3.0,
-            0.1,
-            -inf,
-            -0.3,
-            0.7,
-            -1.0,
-            5.0,
-            7.0,
-            0.001,
-        ],
-        2,
-    );
-    sides(
-        &l,
-        &[
-            1.0,
-            -2.0,
-            1e308,
-            3.0,
-            0.1,
-            1e308,
-            -1.7e308,
-            0.7,
-            -1.0,
-            5.0,
-            7.0,
-            0.001,
-        ],
-        3,
-    );
-    sides(
-        &l,
-        &[
-            1.0,
-            -2.0,
-            0.3,
-            3.0,
-            0.1,
-            0.2,
-            -0.3,
-            0.7,
-            -1.0,
-            n,
-            7.0,
-            0.001,
-        ],
-        3,
-    );
+    sides(&l, &[1.0, -2.0, 0.3, 3.0, 0.1, 0.2, -0.3, 0.7], 0);
+    sides(&l, &[1.0, -2.0, 0.3, 3.0, 0.1, 0.2, -0.3, 0.7], 1);
+    sides(&l, &[1.0, -2.0, 0.3, 3.0, 0.1, 0.2, -0.3, 0.7], 2);
+    sides(&l, &[inf, -2.0, 0.3, 3.0, 0.1, 0.2, -0.3, 0.7], 2);
+    sides(&l, &[1.0, -2.0, 0.3, 3.0, 0.1, -inf, -0.3, 0.7], 2);
+    sides(&l, &[1.0, -2.0, 0.3, 3.0, 0.1, 1e308, -1.7e308, 0.7], 2);
+    sides(&l, &[-1.0, n, 7.0, 1e-3, 1.0, -2.0, 1e308, 3.0], 2);
 }
 
 fn main() {

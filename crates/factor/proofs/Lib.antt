@@ -4,6 +4,7 @@ pub mod RowByRow
 pub mod LdlRows
 pub mod CholeskyRows
 pub mod ZeroTerms
+pub mod LdlHeads
 pub mod SubstitutionSteps
 pub mod Columns
 pub mod EachColumn
