@@ -7,7 +7,7 @@ use lib.ListN.{length}
 use lib.Ieee.{Float}
 use Rattle.base.specs.Sum.{_!_}
 use Rattle.base.specs.List.{at, gridTo}
-use Rattle.base.specs.InPlace.{Rule, fillBy, fillDown}
+use Rattle.base.specs.InPlace.{fillBy, fillDown}
 use Rattle.base.proofs.InPlace.{length-by}
 use Rattle.factor.specs.Substitution.{Zeros, acrossTerm, downTerm, unitForwardRule, unitBackwardRule, unitForward, overD, unitBackward, ldlSolve, columnAt, eachColumn, ldlColumnsAt}
 use Rattle.factor.proofs.EachColumn.{each-then}

@@ -1,5 +1,5 @@
 -- Zeros at the head of a sum from +0.0 leave it at +0.0, so a sum may begin behind them; a zero times a finite number is one. Assumes nothing.
-use mathlib.Core.Path.{_≡_, refl, sym, ap, _∙_}
+use mathlib.Core.Path.{_≡_, refl, sym, _∙_}
 use mathlib.Core.List.{List}
 use mathlib.Core.Bool.{Bool, true, false, not, _||_, Bool·beq}
 use mathlib.Core.Logic.{⊎-elim}
@@ -8,7 +8,7 @@ use native.Mathlib.Nat.{zero-mul, mul-one, mul-pos, one-mul, zero-div, zero-mod,
 use native.Mathlib.Omega.{arith}
 use borrow.Author.Tests.{eqb-true, not-true, not-false}
 use lib.Dec.{eqb}
-use lib.IntN.{ℤ, pos}
+use lib.IntN.{pos}
 use lib.Ieee.{Float, nan, inf, fin, binary64, up, down, level, unlike, size, span, climb, odd, units, round, sum, add, mul, eq, ne, ofBits}
 use lib.Ieee.Fits.{down-pos}
 use Rattle.base.specs.Number.{_⊕_, _⊗_, zeroF, finite}

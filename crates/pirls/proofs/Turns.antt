@@ -24,7 +24,7 @@ use Rattle.model.proofs.Accounts.{plus-assoc, plus-none}
 use Rattle.model.proofs.Tallies.{tally-append, tally-none, tally-fit, tally-solve}
 use Rattle.rule.specs.Given.{Given, nOf, qOf}
 use Rattle.rule.specs.Solve.{Solved, solved, unsolved, solveOf}
-use Rattle.rule.specs.Try.{Move, Search, foundMove, noMove, triesOf, trialOf}
+use Rattle.rule.specs.Try.{Move, foundMove, noMove, triesOf, trialOf}
 use Rattle.rule.specs.Stop.{Mode, modeOf, modeDevs, modeSum, modeFit, stops}
 use Rattle.rule.specs.Run.{stopped, failed, Outcome, State, itemsBefore, failedAfter, afterStop, moved, afterSearch, afterSolve, runFrom, startEta, startAt, runOf}
 use Rattle.working.specs.Met.{Met}

@@ -1,7 +1,7 @@
 -- What the first stage of an iteration leaves. Document 01, "The inner fit": each iteration has w and z as in `pirls_with_workspace`. Assumes nothing.
 use mathlib.Core.Path.{_≡_}
 use mathlib.Core.List.{List}
-use Prim.Native.Nat.{ℕ, _+_, _*_, _≤_}
+use Prim.Native.Nat.{ℕ, _+_, _≤_}
 use lib.ListN.{length}
 use lib.Ieee.{Float}
 use Rattle.base.specs.Rows.{row, Only, OnlyTwo}

@@ -1,6 +1,5 @@
 -- `cases_working::met_row` is safe: the only mean is made of the only predictor.
 use mathlib.Core.Path.{_≡_}
-use Prim.Native.Nat.{ℕ, _<_}
 use native.Mathlib.Omega.{arith}
 use borrow.Author.Needs.{needs}
 use Rattle.cases_working.proofs.met_row.Statement.{statement}
