@@ -20,7 +20,7 @@ use Rattle.layout.specs.Layout.{WorkRoom, LaidOut}
 use Rattle.layout.specs.WorkRows.{workingRow}
 use Rattle.layout.specs.WorkMatrices.{systemPlace, solvedPlace, rootInversePlace, wyPlace, betaPlace, matricesLength}
 use Rattle.layout.specs.WorkTerms.{factorPlace, wPlace, unsolvedPlace, normalPlace}
-use Rattle.layout.proofs.LaidOut.{laid-out}
+use Rattle.layout.proofs.LaidOut.{laid-out, lent-kept}
 use Rattle.lambda.specs.Product.{lambdaTransposedAt}
 use Rattle.factor.specs.Substitution.{ldlSolve, ldlColumnsAt}
 use Rattle.factor.specs.Triangle.{SameBelow}
@@ -216,13 +216,41 @@ module _ (n p q : ℕ) (shape : Shape) (theta x : List Float) (zt : Sparse) (r m
               (only-wide (normalPlace n p q) (p * p) (unsolvedPlace n q) (q * p + p * p) (omega arith) (omega arith) (s .remains .only));
         }
 
--- with the places as the code forms them
+-- ---- the places as the code forms them, in the work slices
+
+pub record Places (n p q : ℕ) (r m t : List Float) (working w unsolved normal solved crossed wy beta : ℕ) : Type 0 where
+  pub lent : WorkRoom n p q r m t
+  pub working-place : working ≡ workingRow n
+  pub w-place : w ≡ wPlace q
+  pub unsolved-place : unsolved ≡ unsolvedPlace n q
+  pub normal-place : normal ≡ normalPlace n p q
+  pub solved-place : solved ≡ solvedPlace q
+  pub crossed-place : crossed ≡ rootInversePlace p q
+  pub wy-place : wy ≡ wyPlace p q
+  pub beta-place : beta ≡ betaPlace p q
+
+-- a step leaves the lengths
+pub places-kept : {n p q : ℕ} {r m t m' t' : List Float} {working w unsolved normal solved crossed wy beta : ℕ} → Places n p q r m t working w unsolved normal solved crossed wy beta
+    → length m' ≡ length m → length t' ≡ length t → Places n p q r m' t' working w unsolved normal solved crossed wy beta
+places-kept a em et =
+    record {
+      lent = lent-kept (a .lent) refl em et;
+      working-place = a .working-place;
+      w-place = a .w-place;
+      unsolved-place = a .unsolved-place;
+      normal-place = a .normal-place;
+      solved-place = a .solved-place;
+      crossed-place = a .crossed-place;
+      wy-place = a .wy-place;
+      beta-place = a .beta-place;
+    }
+
 pub columns-made : {n p q : ℕ} {shape : Shape} {theta x : List Float} {zt : Sparse} {working w unsolved normal solved crossed wy beta : ℕ} {r m m1 m2 m3 m4 m5 t t1 t2 : List Float}
-    → q ≡ effectsOf shape → WorkRoom n p q r m t → working ≡ workingRow n → w ≡ wPlace q → unsolved ≡ unsolvedPlace n q → normal ≡ normalPlace n p q → solved ≡ solvedPlace q
-    → crossed ≡ rootInversePlace p q → wy ≡ wyPlace p q → beta ≡ betaPlace p q
+    → q ≡ effectsOf shape → Places n p q r m t working w unsolved normal solved crossed wy beta
     → Stepped n p q shape theta x zt working w unsolved normal solved crossed wy beta r m m1 m2 m3 m4 m5 t t1 t2 → ColumnsOf n p q shape theta x zt r m m5 t t2
-columns-made {n} {p} {q} {shape} {theta} {x} {zt} {working} {w} {unsolved} {normal} {solved} {crossed} {wy} {beta} {r} {m} {m1} {m2} {m3} {m4} {m5} {t} {t1} {t2} e lent ek ew eu en es ec ey eb s F offset same =
-    columns-left n p q shape theta x zt r m m1 m2 m3 m4 m5 t t1 t2 e lent (rw (ek, ew, eu, en, es, ec, ey, eb) at s) F offset same
+columns-made {n} {p} {q} {shape} {theta} {x} {zt} {working} {w} {unsolved} {normal} {solved} {crossed} {wy} {beta} {r} {m} {m1} {m2} {m3} {m4} {m5} {t} {t1} {t2} e a s F offset same =
+    columns-left n p q shape theta x zt r m m1 m2 m3 m4 m5 t t1 t2 e (a .lent)
+    (rw (a .working-place, a .w-place, a .unsolved-place, a .normal-place, a .solved-place, a .crossed-place, a .wy-place, a .beta-place) at s) F offset same
 
 -- ---- what the steps ask of their places
 
@@ -239,16 +267,16 @@ pub record Placed (n p q : ℕ) (r m t : List Float) (working w unsolved normal 
   pub wy-before : wy + q ≤ beta
   pub beta-in : beta + p ≤ length m
 
-pub placed : {n p q : ℕ} {r m t : List Float} {working w unsolved normal solved crossed wy beta : ℕ} → WorkRoom n p q r m t → working ≡ workingRow n → w ≡ wPlace q
-    → unsolved ≡ unsolvedPlace n q → normal ≡ normalPlace n p q → solved ≡ solvedPlace q → crossed ≡ rootInversePlace p q → wy ≡ wyPlace p q → beta ≡ betaPlace p q
+pub placed : {n p q : ℕ} {r m t : List Float} {working w unsolved normal solved crossed wy beta : ℕ} → Places n p q r m t working w unsolved normal solved crossed wy beta
     → Placed n p q r m t working w unsolved normal solved crossed wy beta
-placed {n} {p} {q} {r} {m} {t} lent ek ew eu en es ec ey eb =
+placed {n} {p} {q} {r} {m} {t} a =
+    let lent : WorkRoom n p q r m t = a .lent in
     let laid : LaidOut n p q = laid-out (lent .sizes) in
     let turned : p * q ≡ q * p = mul-comm p q in
     let rows : workingRow n + n ≤ length r = omega (arith, laid .rows .working, lent .rows-long) in
     let matrices : betaPlace p q + p ≤ length m = omega (arith, laid .matrices .beta, laid .matrices .beta-end, lent .matrices-long) in
     let terms : normalPlace n p q + p * p ≤ length t = omega (arith, laid .terms .normal, laid .terms .spare, lent .terms-long) in
-    rw (ek, ew, eu, en, es, ec, ey, eb)
+    rw (a .working-place, a .w-place, a .unsolved-place, a .normal-place, a .solved-place, a .crossed-place, a .wy-place, a .beta-place)
     (record {
       working-in = rows;
       factor-in = omega (arith, terms);
