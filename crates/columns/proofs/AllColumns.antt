@@ -22,7 +22,8 @@ use Rattle.layout.specs.WorkMatrices.{systemPlace, solvedPlace, rootInversePlac
 use Rattle.layout.specs.WorkTerms.{factorPlace, wPlace, unsolvedPlace, normalPlace}
 use Rattle.layout.proofs.LaidOut.{laid-out, lent-kept}
 use Rattle.lambda.specs.Product.{lambdaTransposedAt}
-use Rattle.factor.specs.Substitution.{ldlSolve, ldlColumnsAt}
+use Rattle.factor.specs.Substitution.{ldlSolve}
+use Rattle.factor.specs.Sides.{ldlColumnsAt}
 use Rattle.factor.specs.Triangle.{SameBelow}
 use Rattle.factor.proofs.Solved.{ldl-solve-same}
 use Rattle.stored.specs.Stored.{ztTimesAt}

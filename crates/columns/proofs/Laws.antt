@@ -20,7 +20,7 @@ use Rattle.base.proofs.Rows.{row-at, row-length, row-build, part-is, part-wrote
 use Rattle.base.proofs.TwoRows.{part-made}
 use Rattle.model.specs.declared.sizes.Shape.{Shape}
 use Rattle.lambda.specs.Product.{lambdaTransposedAt}
-use Rattle.factor.specs.Substitution.{ldlColumnsAt}
+use Rattle.factor.specs.Sides.{ldlColumnsAt}
 use Rattle.linear.specs.Product.{mixedTerm}
 use Rattle.linear.specs.SideBySide.{CrossLeft}
 use Rattle.columns.specs.Pieces.{columnAt, unsolvedAt, lessMixed, lessSolved, LowerWrote}

@@ -7,7 +7,7 @@ ghost use lib.ListN.{length};
 ghost use Rattle.base.specs.List.{build, matrix, fillTo, gridTo};
 ghost use Rattle.base.specs.Rows.{row, Wrote};
 ghost use Rattle.model.specs.Shape.{effectsOf, thetaLength, goodShape};
-ghost use Rattle.factor.specs.Substitution.{ldlColumnsAt};
+ghost use Rattle.factor.specs.Sides.{ldlColumnsAt};
 ghost use Rattle.columns.specs.Pieces.{columnAt, unsolvedAt};
 
 // Column a of the q rows of s, which are p long, into out.

@@ -9,7 +9,9 @@ use Rattle.base.specs.Sum.{_!_}
 use Rattle.base.specs.List.{at, gridTo}
 use Rattle.base.specs.InPlace.{fillBy, fillDown}
 use Rattle.base.proofs.InPlace.{length-by}
-use Rattle.factor.specs.Substitution.{Zeros, acrossTerm, downTerm, unitForwardRule, unitBackwardRule, unitForward, overD, unitBackward, ldlSolve, columnAt, eachColumn, ldlColumnsAt}
+use Rattle.factor.specs.Substitution.{acrossTerm, downTerm, unitForwardRule, unitBackwardRule, unitForward, overD, unitBackward, ldlSolve}
+use Rattle.factor.specs.Heads.{Zeros}
+use Rattle.factor.specs.Sides.{columnAt, eachColumn, ldlColumnsAt}
 use Rattle.factor.proofs.EachColumn.{each-then}
 
 -- ---- the zeros before the head, of one column lent as a part P

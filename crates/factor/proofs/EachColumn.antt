@@ -20,7 +20,7 @@ use Rattle.base.proofs.Sums.{last-or-before, and-true, all-at}
 use Rattle.base.proofs.InPlace.{length-by, length-down, down-step}
 use Rattle.base.proofs.Fills.{row-fits, grid-in, grid-past, grid-is, length-grid}
 use Rattle.base.proofs.Rows.{row-length, row-at, part-is, only-row, grid-wrote}
-use Rattle.factor.specs.Substitution.{columnAt, eachColumn, Entered, RowEntered}
+use Rattle.factor.specs.Sides.{columnAt, eachColumn, Entered, RowEntered}
 use Rattle.factor.proofs.Columns.{grid-part}
 
 -- ---- the columns

@@ -20,8 +20,8 @@ use Rattle.base.proofs.Sums.{last-or-before, and-true, all-at}
 use Rattle.base.proofs.Fills.{row-fits}
 use Rattle.base.proofs.Rows.{part-at}
 use Rattle.factor.specs.Triangle.{rowBy}
-use Rattle.factor.specs.Substitution.{Zeros}
-use Rattle.factor.specs.Factor.{ldlTerm, FineRows, ZeroHead, nextHead}
+use Rattle.factor.specs.Heads.{Zeros, FineRows, ZeroHead, nextHead}
+use Rattle.factor.specs.Factor.{ldlTerm}
 use Rattle.factor.proofs.ZeroTerms.{zero-times}
 
 -- ---- the terms that are left out

@@ -8,7 +8,8 @@ use Rattle.base.specs.Number.{_⊖_, _⊘_}
 use Rattle.base.specs.Sum.{_!_, sumTo, sumFrom, productFrom}
 use Rattle.base.specs.InPlace.{ruled, fillBy, fillDown}
 use Rattle.base.proofs.InPlace.{by-step, down-step}
-use Rattle.factor.specs.Substitution.{Zeros, acrossTerm, downTerm, unitForwardRule, unitBackwardRule, overDRule, forwardRule, backwardRule}
+use Rattle.factor.specs.Substitution.{acrossTerm, downTerm, unitForwardRule, unitBackwardRule, overDRule, forwardRule, backwardRule}
+use Rattle.factor.specs.Heads.{Zeros}
 
 module _ (s : ℕ) (L : List Float) (i o : ℕ) (b X : List Float) (eo : o ≡ i * s) where
   pub unit-forward-step : X ≡ fillBy (unitForwardRule s L) i b → set X i ((X ! i) ⊖ sumTo i (productFrom L o X)) ≡ fillBy (unitForwardRule s L) (i + 1) b

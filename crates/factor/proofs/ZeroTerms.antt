@@ -16,7 +16,8 @@ use Rattle.base.specs.Sum.{_!_, sumTo, sumFrom}
 use Rattle.base.specs.List.{at}
 use Rattle.base.proofs.Doubles.{ff}
 use Rattle.base.proofs.Sums.{and-true, last-or-before}
-use Rattle.factor.specs.Substitution.{FirstOther, Zeros, Head, acrossTerm, downTerm}
+use Rattle.factor.specs.Substitution.{acrossTerm, downTerm}
+use Rattle.factor.specs.Heads.{FirstOther, Zeros, Head}
 
 -- ---- one zero
 round-nothing : (c : ℕ) → 0 < c → round binary64 false 0 c ≡ zeroF

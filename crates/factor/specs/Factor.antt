@@ -2,16 +2,15 @@
 -- L stands below the diagonal and d on it; what stands above it is neither read nor written. Assumes nothing.
 use mathlib.Core.Path.{_≡_}
 use mathlib.Core.List.{List}
-use mathlib.Core.Bool.{Bool, true, _&&_, cond}
-use Prim.Native.Nat.{ℕ, _+_, _*_, _/_, _%_, _≤_, _<_}
-use lib.Dec.{eqb}
-use lib.Ieee.{Float, eq}
-use Rattle.base.specs.Number.{_⊖_, _⊗_, _⊘_, zeroF, finite}
+use mathlib.Core.Bool.{Bool}
+use Prim.Native.Nat.{ℕ, _*_, _/_, _%_}
+use lib.Ieee.{Float}
+use Rattle.base.specs.Number.{_⊖_, _⊗_, _⊘_}
 use Rattle.base.specs.Sum.{_!_, sumTo}
 use Rattle.base.specs.List.{at}
 use Rattle.base.specs.InPlace.{Rule, fillBy}
 use Rattle.root.specs.Sqrt.{sqrtOf}
-use Rattle.factor.specs.Triangle.{cell, rowsDot, triangle, rowBy, usable, positive, firstBad, reach}
+use Rattle.factor.specs.Triangle.{cell, rowsDot, triangle, usable, positive, firstBad, reach}
 use Rattle.factor.specs.declared.pivots.Factored.{Factored}
 
 -- ---- LDL'
@@ -35,24 +34,6 @@ ldlBelow s i j x a = (a ⊖ ldlSum s x i j) ⊘ cell s x j j
 -- entry t, which is (t / s, t % s), of the factor of A
 unfoldable pub ldlRule : ℕ → List Float → Rule
 ldlRule s A t x o = triangle (t / s) (t % s) (ldlBelow s (t / s) (t % s) x (A ! t)) (ldlPivot s (t / s) x (A ! t)) o
-
--- the rows of X before row i are finite up to their diagonals
-abbrev pub FineRows : ℕ → List Float → ℕ → Type 0
-FineRows s X i = (a k : ℕ) → a < i → k ≤ a → finite (at s X a k) ≡ true
-
--- the entries of row i of X before r are zeros of either sign, and there are none where that is not allowed
-abbrev pub ZeroHead : Bool → ℕ → ℕ → List Float → ℕ → Type 0
-ZeroHead allowed s i X r = (k : ℕ) → k < r → (allowed ≡ true) × (eq (at s X i k) zeroF ≡ true)
-
--- where the sums of a row begin once its entry j is l: behind it where it is a zero and those before it are
-unfoldable pub nextHead : Bool → ℕ → ℕ → Float → ℕ
-nextHead allowed head j l = cond (allowed && (eqb head j && eq l zeroF)) (j + 1) head
-
--- what `ldl_row` leaves in b and answers: row i up to its diagonal, and where its later sums may begin
-pub record RowLeaves (s : ℕ) (A b : List Float) (i : ℕ) (allowed : Bool) (r : ℕ) (X : List Float) : Type 0 where
-  pub list : X ≡ rowBy (ldlRule s A) (i * s) i b
-  pub within : r ≤ i
-  pub zeros : ZeroHead allowed s i X r
 
 -- the factor of A, written over b
 unfoldable pub ldlOf : ℕ → List Float → List Float → List Float

@@ -10,8 +10,8 @@ ghost use Rattle.base.specs.Number.{finite};
 ghost use Rattle.base.specs.Sum.{_!_, allTo};
 ghost use Rattle.base.specs.List.{at};
 ghost use Rattle.factor.specs.Triangle.{rowsDot, rowBy};
-ghost use Rattle.factor.specs.Substitution.{Zeros};
-ghost use Rattle.factor.specs.Factor.{ldlTerm, ldlSum, FineRows, nextHead, RowLeaves, LdlLeaves, choleskyRule, CholeskyLeaves};
+ghost use Rattle.factor.specs.Heads.{Zeros, FineRows, nextHead, RowLeaves};
+ghost use Rattle.factor.specs.Factor.{ldlTerm, ldlSum, LdlLeaves, choleskyRule, CholeskyLeaves};
 
 // The sum over the columns before j of (l_ik * l_jk) * d_k, begun at head: zeros before it leave the sum at +0.0.
 fn ldl_sum(x: &[f64], s: usize, i: usize, j: usize, head: usize) -> f64

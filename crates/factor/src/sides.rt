@@ -9,7 +9,9 @@ ghost use Prim.Native.Nat.{ℕ, _+_, _*_, _≤_, _<_};
 ghost use lib.ListN.{length};
 ghost use Rattle.base.specs.Sum.{_!_};
 ghost use Rattle.base.specs.List.{at, gridTo};
-ghost use Rattle.factor.specs.Substitution.{Zeros, Head, acrossTerm, downTerm, unitForwardRule, unitBackwardRule, unitForward, overD, unitBackward, eachColumn, ldlColumnsAt, Entered, RowEntered};
+ghost use Rattle.factor.specs.Substitution.{acrossTerm, downTerm, unitForwardRule, unitBackwardRule, unitForward, overD, unitBackward};
+ghost use Rattle.factor.specs.Heads.{Zeros, Head};
+ghost use Rattle.factor.specs.Sides.{eachColumn, ldlColumnsAt, Entered, RowEntered};
 
 // Both of two tests.
 fn both(a: bool, b: bool) -> bool

@@ -3,7 +3,8 @@ ghost use mathlib.Core.Path.{_≡_};
 ghost use Prim.Native.Nat.{_+_, _*_, _≤_, _<_};
 ghost use lib.ListN.{length};
 ghost use Rattle.base.specs.Sum.{_!_, sumTo, sumFrom, productFrom};
-ghost use Rattle.factor.specs.Substitution.{FirstOther, Zeros, downTerm, unitForward, overD, unitBackward, forward, backward, ldlSolve, choleskySolve};
+ghost use Rattle.factor.specs.Substitution.{downTerm, unitForward, overD, unitBackward, forward, backward, ldlSolve, choleskySolve};
+ghost use Rattle.factor.specs.Heads.{FirstOther, Zeros};
 
 // The first k below n where l[o + k] * x[k] is not a zero, or n.
 fn zeros_before(l: &[f64], o: usize, x: &[f64], n: usize) -> usize

@@ -10,7 +10,8 @@ use Rattle.base.specs.Sum.{_!_}
 use Rattle.base.specs.InPlace.{fillBy}
 use Rattle.base.proofs.InPlace.{by-none}
 use Rattle.factor.specs.Triangle.{firstBad}
-use Rattle.factor.specs.Factor.{ldlRule, ldlOf, ldlPasses, FineRows}
+use Rattle.factor.specs.Factor.{ldlRule, ldlOf, ldlPasses}
+use Rattle.factor.specs.Heads.{FineRows}
 use Rattle.factor.specs.declared.pivots.Factored.the-variants.{Done}
 use Rattle.factor.proofs.PivotTests.{first-none}
 use Rattle.factor.proofs.LdlRows.{ldl-stop, ldl-go, ldl-done}

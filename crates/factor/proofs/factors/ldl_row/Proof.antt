@@ -5,7 +5,8 @@ use native.Mathlib.Nat.{not-suc-le-zero}
 use native.Mathlib.Omega.{arith}
 use lib.ListN.{length, length-set}
 use Rattle.factor.specs.Triangle.{rowBy}
-use Rattle.factor.specs.Factor.{ldlRule, ZeroHead}
+use Rattle.factor.specs.Factor.{ldlRule}
+use Rattle.factor.specs.Heads.{ZeroHead}
 use Rattle.factor.proofs.RowByRow.{row-none, row-end, rowwise}
 use Rattle.factor.proofs.LdlRows.{ldl-row-step}
 use Rattle.factor.proofs.LdlHeads.{ldl-zeros, fine-kept, next-made}

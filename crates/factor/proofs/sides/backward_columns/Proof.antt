@@ -9,7 +9,8 @@ use Prim.Native.Nat.{ℕ, _+_, _≤_, _<_, _-_}
 use native.Mathlib.Nat.{not-le-of-lt}
 use Rattle.base.specs.InPlace.{fillDown}
 use Rattle.base.proofs.InPlace.{down-none}
-use Rattle.factor.specs.Substitution.{unitBackwardRule, eachColumn}
+use Rattle.factor.specs.Substitution.{unitBackwardRule}
+use Rattle.factor.specs.Sides.{eachColumn}
 use Rattle.factor.proofs.ZeroTerms.{head-bounds, down-zeros}
 use Rattle.factor.proofs.EachColumn.{each-none, each-down, fine-down}
 use Rattle.factor.proofs.ColumnsSolved.{backward-end}

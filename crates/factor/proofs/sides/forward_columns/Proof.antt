@@ -9,7 +9,8 @@ use Prim.Native.Nat.{ℕ, _≤_, _<_, _-_}
 use native.Mathlib.Nat.{not-suc-le-zero}
 use Rattle.base.specs.InPlace.{fillBy}
 use Rattle.base.proofs.InPlace.{by-none}
-use Rattle.factor.specs.Substitution.{unitForwardRule, eachColumn}
+use Rattle.factor.specs.Substitution.{unitForwardRule}
+use Rattle.factor.specs.Sides.{eachColumn}
 use Rattle.factor.proofs.ZeroTerms.{head-bounds, across-zeros}
 use Rattle.factor.proofs.EachColumn.{each-none, each-up, fine-up}
 use Rattle.factor.proofs.ColumnsSolved.{forward-end}

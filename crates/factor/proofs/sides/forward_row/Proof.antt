@@ -7,7 +7,8 @@ use borrow.Rule.Slice.PartMut.{midOf}
 use Rattle.base.specs.Number.{finite}
 use Rattle.base.specs.Sum.{allTo}
 use Rattle.base.specs.InPlace.{ruled}
-use Rattle.factor.specs.Substitution.{unitForwardRule, columnAt, eachColumn}
+use Rattle.factor.specs.Substitution.{unitForwardRule}
+use Rattle.factor.specs.Sides.{columnAt, eachColumn}
 use Rattle.base.proofs.Sums.{all-none}
 use Rattle.factor.proofs.EachColumn.{each-first, each-end, entered-list, entered-fine, flag-end, part-entry}
 use Rattle.factor.proofs.ColumnsSolved.{forward-part}

@@ -3,7 +3,8 @@ use mathlib.Core.Path.{_≡_, refl}
 use Prim.Native.Nat.{_≤_, _-_}
 use native.Mathlib.Omega.{arith}
 use lib.ListN.{length}
-use Rattle.factor.specs.Substitution.{overD, eachColumn}
+use Rattle.factor.specs.Substitution.{overD}
+use Rattle.factor.specs.Sides.{eachColumn}
 use Rattle.factor.proofs.EachColumn.{each-first, each-part, each-end}
 use Rattle.base.proofs.Loops.{loops}
 use borrow.Author.Needs.{needs}
