@@ -9,7 +9,7 @@ use lib.ListN.{length}
 use lib.Ieee.{Float}
 use Rattle.base.specs.Sum.{_!_}
 use Rattle.base.specs.List.{at, build, matrix}
-use Rattle.base.specs.Rows.{row, Only, OnlyTwo, Wrote}
+use Rattle.base.specs.Rows.{row, OnlyTwo, Wrote}
 use Rattle.base.specs.Sparse.{Sparse}
 use Rattle.base.proofs.Fills.{row-fits, build-at, build-cong, matrix-at, matrix-length}
 use Rattle.base.proofs.Rows.{row-at, only-row, only-trans, only-wide}
@@ -18,7 +18,7 @@ use Rattle.model.specs.Shape.{effectsOf}
 use Rattle.model.specs.declared.sizes.Shape.{Shape}
 use Rattle.layout.specs.Layout.{WorkRoom, LaidOut}
 use Rattle.layout.specs.WorkRows.{workingRow}
-use Rattle.layout.specs.WorkMatrices.{systemPlace, solvedPlace, rootInversePlace, wyPlace, betaPlace, matricesLength}
+use Rattle.layout.specs.WorkMatrices.{systemPlace, solvedPlace, rootInversePlace, wyPlace, betaPlace}
 use Rattle.layout.specs.WorkTerms.{factorPlace, wPlace, unsolvedPlace, normalPlace}
 use Rattle.layout.proofs.LaidOut.{laid-out, lent-kept}
 use Rattle.lambda.specs.Product.{lambdaTransposedAt}
