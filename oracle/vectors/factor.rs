@@ -114,10 +114,34 @@ fn case(size: usize, lower: &[f64]) {
     }
 }
 
+/// Two right sides of 4 numbers, and how many of them are solved.
+const SIDES: [([f64; 8], usize); 7] = [
+    ([1.0, -2.0, 0.3, 3.0, 0.1, 0.2, -0.3, 0.7], 0),
+    ([1.0, -2.0, 0.3, 3.0, 0.1, 0.2, -0.3, 0.7], 1),
+    ([1.0, -2.0, 0.3, 3.0, 0.1, 0.2, -0.3, 0.7], 2),
+    ([INF, -2.0, 0.3, 3.0, 0.1, 0.2, -0.3, 0.7], 2),
+    ([1.0, -2.0, 0.3, 3.0, 0.1, -INF, -0.3, 0.7], 2),
+    ([1.0, -2.0, 0.3, 3.0, 0.1, 1e308, -1.7e308, 0.7], 2),
+    ([-1.0, NAN, 7.0, 1e-3, 1.0, -2.0, 1e308, 3.0], 2),
+];
+
+/// A factor with zeros of either sign at the heads of its rows and columns; each right side solved by itself.
+fn with_zeros(d: f64) {
+    let f = matrix(4, &[2.0, 0.0, 0.3, -0.0, 0.5, 8.0, 0.0, -0.0, 0.25, d]);
+    put_matrix("factor", &f, 0.0);
+    for (right, count) in SIDES.iter() {
+        line("right", right.iter().copied());
+        let solved = right[..4 * count].chunks(4).flat_map(|side| sprs_ldl::solve(&f, &Array1::from_vec(side.to_vec())).iter().copied().collect::<Vec<f64>>());
+        line("solutions", solved.chain(right[4 * count..].iter().copied()));
+    }
+}
+
 pub fn put() {
     for (at, cases) in CASES.iter().enumerate() {
         for lower in cases.iter() {
             case(at + 1, lower);
         }
     }
+    with_zeros(0.5);
+    with_zeros(1e-310);
 }

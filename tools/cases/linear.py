@@ -6,15 +6,15 @@ import struct
 
 
 def text(x):
-    return "%016X" % struct.unpack(">Q", struct.pack(">d", x))[0]
+    return "%016X" % struct.unpack(">Q", struct.pack(">d", x))[0] if x == x else "7FF8000000000000"
 
 
 def show(word, xs, rest=1):
     print(word, *[text(x) for x in list(xs) + [9.0] * rest])
 
 
-def total(terms):
-    s = 0.0
+def total(terms, start=0.0):
+    s = start
     for t in terms:
         s = s + t
     return s
@@ -28,38 +28,55 @@ x, beta = [[1.0, 1e16], [0.1, -1e16], [0.7, 3.0]], [0.3, 1.0]
 show("x_beta", [total(r[j] * beta[j] for j in range(2)) for r in x])
 show("products", [a * b for a, b in zip([1.8, 0.1, -0.0], [0.7, 3.0, 1e16])])
 
-x, w = [[0.9, 2.4], [-2.3, -0.2], [-1.5, 0.3]], [1.8, 0.1, 0.7]
-xw = [[x[i][a] * w[i] for i in range(3)] for a in range(2)]
-cross = [[total(xw[a][i] * x[i][b] for i in range(3)) for b in range(2)] for a in range(2)]
-tells(cross[0], [total(x[i][0] * (w[i] * x[i][b]) for i in range(3)) for b in range(2)])
-tells([cross[0][1]], [cross[1][0]])
-for a in range(2):
-    show("xw", xw[a])
-    show("cross", cross[a], 0)
+w = [1.8, 0.1, 0.7]
+
+
+def left(xa, wi, xb):
+    return (xa * wi) * xb
+
+
+def crosses(x, p, term=left, order=range(3), start=0.0):
+    return [total((term(x[i * p + a], w[i], x[i * p + b]) for i in order), start) for a in range(p) for b in range(a + 1)]
+
+
+def put_cross(x, p):
+    entries = crosses(x, p)
+    for a in range(p):
+        show("cross", entries[a * (a + 1) // 2:][:a + 1], 0)
+
+
+def middle(xa, wi, xb):
+    return (xa * xb) * wi
+
+
+def right(xa, wi, xb):
+    return xa * (wi * xb)
+
+
+back = range(2, -1, -1)
+x = [1e8, 4.1, 1.3]
+tells(crosses(x, 1), crosses(x, 1, order=back))
+put_cross(x, 1)
+x = [0.9, 2.4, -2.3, -0.2, -1.5, 0.3]
+for term in (middle, right):
+    tells(crosses(x, 2), crosses(x, 2, term))
+put_cross(x, 2)
+x = [1e200, -0.0, 1e200, 7.0, -0.0, -1.0, 1e200, -0.0, -1e200]
+tells(crosses(x, 3), crosses(x, 3, start=-0.0))
+put_cross(x, 3)
+x, v = [], 0.3
+for i in range(39):
+    v = 3.7 * v * (1.0 - v)
+    x.append(v - 0.5)
+for p in (8, 13):
+    for other in (crosses(x, p, order=back), crosses(x, p, middle), crosses(x, p, right)):
+        tells(crosses(x, p), other)
+    put_cross(x, p)
 
 wy, solved, beta = [1.0, 0.7, 1e16], [[0.1, 1e16, 3.0], [0.3, -1e16, 0.9]], [0.7, 1.1]
 u = [wy[i] - total(solved[j][i] * beta[j] for j in range(2)) for i in range(3)]
 tells(u, [(wy[i] - solved[0][i] * beta[0]) - solved[1][i] * beta[1] for i in range(3)])
 show("effects", u)
-
-unsolved, solved = [[0.2, 0.6, 1.1], [-0.7, 0.4, 1.3]], [[0.1, 0.7, 3.0], [0.3, -0.2, 0.9]]
-normal = [[cross[a][b] - total(unsolved[a][i] * solved[b][i] for i in range(3)) for b in range(2)] for a in range(2)]
-tells([normal[1][0]], [cross[1][0] - total(solved[1][i] * unsolved[0][i] for i in range(3))])
-tells(normal[1], [total([cross[1][b]] + [-unsolved[1][i] * solved[b][i] for i in range(3)]) for b in range(2)])
-print("normal", *[text(v) for v in [9.0] + unsolved[0] + unsolved[1] + [9.0] + [normal[0][0], 9.0] + normal[1] + [9.0]])
-
-x = [[1.7, -2.3, -1.7, -1.0, -2.8, 0.9, 0.6, 1.0],
-     [-0.8, 0.6, 1.5, 2.0, -2.2, 2.5, 1.3, 1.1],
-     [-2.3, 2.8, -1.7, -2.7, 1.0, 2.9, -1.6, -0.4],
-     [-1.3, 1.0, -0.7, -2.8, -2.4, -1.2, 1.9, -1.7]]
-w, unsolved, solved = [1.8, 0.1, 0.7, 1.3], 0.3, [0.3, -1.2, -1.4, 0.6, -1.6, 1.6, 1.5, 0.3]
-turned = []
-for a in range(8):
-    xw = [x[i][a] * w[i] for i in range(4)]
-    cross = [total(xw[i] * x[i][b] for i in range(4)) for b in range(a + 1)]
-    turned.append([total(xw[i] * x[i][b] for i in reversed(range(4))) for b in range(a + 1)] != cross)
-    print("row", *[text(v) for v in [unsolved, 9.0] + [cross[b] - total([unsolved * solved[b]]) for b in range(a + 1)] + [9.0] * (8 - a)])
-assert all(turned[3:])
 
 rows = [{1: 0.1, 3: -0.7, 4: 0.3}, {}, {0: 1e16, 2: 1.1, 3: -1e16, 4: 0.9}, {1: 0.7, 3: 0.9, 4: 1.9}, {0: 2.3, 2: 0.6}]
 v, w, b = [1.0, 0.7, 3.0, 1.0, 0.3], [1.8, 0.1, 0.7, 1.3, 0.3], [0.3, 5.0, 1.1, 1.7, 0.7]

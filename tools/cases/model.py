@@ -94,8 +94,8 @@ def begins(pieces):
     return [0] + list(accumulate(pieces))[:-1]
 
 
-# pieces that no function names: what begins a slice, and what stands right behind a named piece
-UNNAMED = {"rows": [0], "matrices": [0, 8, 9], "terms": []}
+# pieces that no function names: what begins a slice, what stands right behind a named piece, and a row without a tenant
+UNNAMED = {"rows": [0, 9], "matrices": [0, 8, 9], "terms": []}
 
 
 def places(n, p, q):

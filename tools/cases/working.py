@@ -63,6 +63,19 @@ rows(GAMMA, INVERSE, 0.37, WEIGHTS)
 rows(GAMMA, LOG, 1.0, [1.0] * 12)
 
 
+def met(family, link, y, eta):
+    mu, me = link_inv(link, eta), mu_eta(link, eta)
+    for told in (False, True):  # that the mean is eta's: the same numbers
+        show("met", weight(1.0, 1.0, me, variance(family, mu)), 9.0, response(eta, y, mu, me), 9.0)
+
+
+assert E < link_inv(LOGIT, -36.0) and link_inv(LOGIT, 35.5) < 1.0 - E  # the last inside
+assert E == link_inv(LOGIT, -36.1) and link_inv(LOGIT, 36.0) == 1.0 - E  # the first at the ends
+for family, link in ((BINOMIAL, LOGIT), (BINOMIAL, CLOGLOG), (POISSON, LOG)):
+    for y, eta in zip([0.0, 1.0, 0.25, 1.0, 0.0, 1.0, 0.0, 3.0, 0.7, 1.0, 0.0], [0.3, -1.2, -0.0, 35.5, 36.0, -36.0, -36.1, -800.0, 1e200, NAN, -INF]):
+        met(family, link, y, eta)
+
+
 def plus(offset, xs):
     return [x + o for x, o in zip(xs, offset)] if offset else xs
 

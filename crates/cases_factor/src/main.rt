@@ -1,4 +1,4 @@
-// Factors small matrices, well and badly scaled, solves with the factors and inverts them, and prints every bit.
+// Factors small matrices, well and badly scaled, solves with the factors, one right side or several, and inverts them, and prints every bit.
 // What stands above a diagonal is NaN in the matrix and 9 in the buffer: the first is not read, the second stays.
 use factor::Factored;
 ghost use Prim.Native.Nat.{_*_, _≤_, _<_};
@@ -197,9 +197,40 @@ fn fours() {
     four(9.0, 3.0, 5.0, 1.0, 2.0, 4.0, 0.5, 1.0, inf, 8.0);
 }
 
+// Of two right sides of 4 numbers the first `count` solved in one call.
+fn sides(l: &[f64; 16], right: &[f64; 8], count: usize)
+    requires { ⌜ count ≤ 2 ⌝ }
+{
+    let mut x = [0.0; 8];
+    base::copy(right, &mut x, 8);
+    factor::ldl_solve_columns(l, 4, count, &mut x);
+    text::put_list(b"right", right, 8);
+    text::put_list(b"solutions", &x, 8);
+}
+
+// With a factor of the last pivot d, whose rows and columns have zeros of either sign at their heads: sides that are finite, with an infinity
+// or a NaN, and with an overflow on the way. A zero times what is not finite is NaN.
+fn with_zeros(d: f64) {
+    let n = 0.0 / 0.0;
+    let inf = base::infinity();
+    let z = 0.0;
+    let m = -0.0;
+    let l = [2.0, n, n, n, z, 0.3, n, n, m, 0.5, 8.0, n, z, m, 0.25, d];
+    text::put_list(b"factor", &l, 16);
+    sides(&l, &[1.0, -2.0, 0.3, 3.0, 0.1, 0.2, -0.3, 0.7], 0);
+    sides(&l, &[1.0, -2.0, 0.3, 3.0, 0.1, 0.2, -0.3, 0.7], 1);
+    sides(&l, &[1.0, -2.0, 0.3, 3.0, 0.1, 0.2, -0.3, 0.7], 2);
+    sides(&l, &[inf, -2.0, 0.3, 3.0, 0.1, 0.2, -0.3, 0.7], 2);
+    sides(&l, &[1.0, -2.0, 0.3, 3.0, 0.1, -inf, -0.3, 0.7], 2);
+    sides(&l, &[1.0, -2.0, 0.3, 3.0, 0.1, 1e308, -1.7e308, 0.7], 2);
+    sides(&l, &[-1.0, n, 7.0, 1e-3, 1.0, -2.0, 1e308, 3.0], 2);
+}
+
 fn main() {
     ones();
     twos();
     threes();
     fours();
+    with_zeros(0.5);
+    with_zeros(1e-310);
 }

@@ -1,6 +1,7 @@
 // Runs the products of `linear` and `stored` on small inputs whose sums depend on their order, and prints every bit.
 // Each buffer is longer than what is written and holds 9 before: the rest stays.
-ghost use Prim.Native.Nat.{_≤_};
+ghost use mathlib.Core.Path.{_≡_};
+ghost use Prim.Native.Nat.{_*_, _≤_};
 ghost use lib.ListN.{length};
 ghost use Rattle.base.specs.Sparse.{Rows};
 
@@ -23,18 +24,62 @@ fn products() {
     text::put_list(b"products", &out, 4);
 }
 
-// Column a of X times the weights, and the row of X'WX that it makes: the two rows differ in their association.
-fn cross_row(a: usize)
-    requires { ⌜ a ≤ 1 ⌝ }
+// The rows of a square up to the diagonal, a line each.
+fn put_rows(p: usize, out: &[f64])
+    requires { ⌜ p * p ≤ length (now out) ⌝ }
 {
-    let x = [0.9, 2.4, -2.3, -0.2, -1.5, 0.3];
-    let mut xw = [9.0; 4];
-    linear::xw_column(&x, &[1.8, 0.1, 0.7], 3, 2, a, &mut xw);
-    text::put_list(b"xw", &xw, 4);
-    text::put_word(b"cross");
-    text::put_double(linear::column_dot(&xw, &x, 3, 2, 0));
-    text::put_double(linear::column_dot(&xw, &x, 3, 2, 1));
-    text::end_line();
+    let mut a = 0;
+    while a < p {
+        let o = base::offset(a, p, p);
+        let e = o + p;
+        text::put_list(b"cross", &out[o..e], a + 1);
+        a += 1;
+    }
+}
+
+// X'WX up to its diagonal; nothing is promised of what stands behind. Here the buffer is as long as what is written.
+fn cross(x: &[f64], p: usize, out: &mut [f64])
+    requires { ⌜ (3 * p ≤ length (now x)) × (length (now out) ≡ p * p) ⌝ }
+{
+    linear::cross_rows(x, &[1.8, 0.1, 0.7], 3, p, out);
+    put_rows(p, out);
+}
+
+// X of one, two and three columns: those of three are summed two at a time, the last two begun earlier. Sums of 1e16 and little, of -0.0 and of infinities.
+fn few_columns() {
+    let mut one = [9.0; 1];
+    cross(&[1e8, 4.1, 1.3], 1, &mut one);
+    let mut four = [9.0; 4];
+    cross(&[0.9, 2.4, -2.3, -0.2, -1.5, 0.3], 2, &mut four);
+    let mut nine = [9.0; 9];
+    cross(
+        &[1e200, -0.0, 1e200, 7.0, -0.0, -1.0, 1e200, -0.0, -1e200],
+        3,
+        &mut nine,
+    );
+}
+
+// n numbers that do not repeat.
+fn scatter(n: usize, out: &mut [f64])
+    requires { ⌜ n ≤ length (now out) ⌝ }
+{
+    let mut v = 0.3;
+    let mut i = 0;
+    while i < n {
+        v = 3.7 * v * (1.0 - v);
+        out[i] = v - 0.5;
+        i += 1;
+    }
+}
+
+// X of eight and of thirteen columns: six and twelve at a time, the last six begun earlier.
+fn many_columns() {
+    let mut x = [9.0; 39];
+    scatter(39, &mut x);
+    let mut eight = [9.0; 64];
+    cross(&x, 8, &mut eight);
+    let mut thirteen = [9.0; 169];
+    cross(&x, 13, &mut thirteen);
 }
 
 // Two solved columns of three numbers.
@@ -49,91 +94,6 @@ fn effects() {
         &mut out,
     );
     text::put_list(b"effects", &out, 4);
-}
-
-// The unsolved columns stand from 1 on and the normal matrix from 8 on: its entry above the diagonal stays.
-fn normal() {
-    let x = [0.9, 2.4, -2.3, -0.2, -1.5, 0.3];
-    let w = [1.8, 0.1, 0.7];
-    let solved = [0.1, 0.7, 3.0, 0.3, -0.2, 0.9];
-    let mut t = [
-        9.0,
-        0.2,
-        0.6,
-        1.1,
-        -0.7,
-        0.4,
-        1.3,
-        9.0,
-        9.0,
-        9.0,
-        9.0,
-        9.0,
-        9.0,
-    ];
-    let mut xw = [9.0; 3];
-    linear::xw_column(&x, &w, 3, 2, 0, &mut xw);
-    linear::normal_row(&x, &xw, &solved, 3, 2, 3, 0, 1, 8, &mut t);
-    linear::xw_column(&x, &w, 3, 2, 1, &mut xw);
-    linear::normal_row(&x, &xw, &solved, 3, 2, 3, 1, 4, 10, &mut t);
-    text::put_list(b"normal", &t, 13);
-}
-
-// Row a of a normal matrix of eight columns: one of each length, since the longer ones are made otherwise than the shorter ones.
-fn longer_row(a: usize)
-    requires { ⌜ a ≤ 7 ⌝ }
-{
-    let x = [
-        1.7,
-        -2.3,
-        -1.7,
-        -1.0,
-        -2.8,
-        0.9,
-        0.6,
-        1.0,
-        -0.8,
-        0.6,
-        1.5,
-        2.0,
-        -2.2,
-        2.5,
-        1.3,
-        1.1,
-        -2.3,
-        2.8,
-        -1.7,
-        -2.7,
-        1.0,
-        2.9,
-        -1.6,
-        -0.4,
-        -1.3,
-        1.0,
-        -0.7,
-        -2.8,
-        -2.4,
-        -1.2,
-        1.9,
-        -1.7,
-    ];
-    let solved = [0.3, -1.2, -1.4, 0.6, -1.6, 1.6, 1.5, 0.3];
-    let mut t = [0.3, 9.0, 9.0, 9.0, 9.0, 9.0, 9.0, 9.0, 9.0, 9.0, 9.0];
-    let mut xw = [9.0; 4];
-    linear::xw_column(&x, &[1.8, 0.1, 0.7, 1.3], 4, 8, a, &mut xw);
-    linear::normal_row(&x, &xw, &solved, 4, 8, 1, a, 0, 2, &mut t);
-    text::put_list(b"row", &t, 11);
-}
-
-fn longer_rows() {
-    longer_row(0);
-    longer_row(1);
-    longer_row(2);
-    longer_row(3);
-    longer_row(4);
-    longer_row(5);
-    longer_row(6);
-    longer_row(7);
 }
 
 fn side(starts: &[usize], columns: &[usize], values: &[f64])
@@ -212,10 +172,8 @@ fn stored_rows() {
 fn main() {
     x_beta();
     products();
-    cross_row(0);
-    cross_row(1);
+    few_columns();
+    many_columns();
     effects();
-    normal();
-    longer_rows();
     stored_rows();
 }

@@ -341,7 +341,6 @@ fn rows(n: usize)
     put_size(layout::raw_row(n));
     put_quadrature_rows(n);
     put_size(layout::weighted_row(n));
-    put_size(layout::column_row(n));
     put_size(layout::working_row(n));
     put_size(layout::rows_length(n));
     text::end_line();

@@ -2,6 +2,7 @@
 // Each buffer is longer than what is written and holds 9 before: the rest stays.
 use family::CarriedFamily;
 use family::CarriedLink;
+use family::link_inv;
 use model::Start;
 ghost use Rattle.working.specs.Optional.{Optional};
 
@@ -50,11 +51,66 @@ fn working_rows(family: CarriedFamily, link: CarriedLink, phi: f64, weights: &[f
         1e-17,
     ];
     let mut t = [9.0; 27];
-    working::working_rows(family, link, phi, &y, weights, &eta, &mu, 12, 1, 14, &mut t);
+    working::working_rows(
+        family,
+        link,
+        false,
+        phi,
+        &y,
+        weights,
+        &eta,
+        &mu,
+        12,
+        1,
+        14,
+        &mut t,
+    );
     text::put_list(b"rows", &t, 27);
 }
 
-// Every link and family; a dispersion of 1, others, and two below E.
+// w and z of one observation whose mean is its predictor's.
+fn met_row(family: CarriedFamily, link: CarriedLink, met: bool, y: f64, eta: f64) {
+    let mu = [link_inv(link, eta)];
+    let mut t = [9.0; 4];
+    working::working_rows(
+        family,
+        link,
+        met,
+        1.0,
+        &[y],
+        &[],
+        &[eta],
+        &mu,
+        1,
+        0,
+        2,
+        &mut t,
+    );
+    text::put_list(b"met", &t, 4);
+}
+
+// Told that it is or not, the numbers are the same.
+fn both_ways(family: CarriedFamily, link: CarriedLink, y: f64, eta: f64) {
+    met_row(family, link, false, y, eta);
+    met_row(family, link, true, y, eta);
+}
+
+// With the logit link: well inside the ends of the clamp, the last predictors inside them, the first at them, far outside, and no number.
+fn met_rows(family: CarriedFamily, link: CarriedLink) {
+    both_ways(family, link, 0.0, 0.3);
+    both_ways(family, link, 1.0, -1.2);
+    both_ways(family, link, 0.25, -0.0);
+    both_ways(family, link, 1.0, 35.5);
+    both_ways(family, link, 0.0, 36.0);
+    both_ways(family, link, 1.0, -36.0);
+    both_ways(family, link, 0.0, -36.1);
+    both_ways(family, link, 3.0, -800.0);
+    both_ways(family, link, 0.7, 1e200);
+    both_ways(family, link, 1.0, 0.0 / 0.0);
+    both_ways(family, link, 0.0, -1.0 / 0.0);
+}
+
+// Every link and family; a dispersion of 1, others, and two below E. Then means that are the predictor's.
 fn all_working_rows() {
     let weights = [
         1.0,
@@ -83,6 +139,9 @@ fn all_working_rows() {
     working_rows(CarriedFamily::Poisson, CarriedLink::Sqrt, -2.5, &weights);
     working_rows(CarriedFamily::Gamma, CarriedLink::Inverse, 0.37, &weights);
     working_rows(CarriedFamily::Gamma, CarriedLink::Log, 1.0, &[]);
+    met_rows(CarriedFamily::Binomial, CarriedLink::Logit);
+    met_rows(CarriedFamily::Binomial, CarriedLink::Cloglog);
+    met_rows(CarriedFamily::Poisson, CarriedLink::Log);
 }
 
 // X of five rows and two columns; out holds Zb.

@@ -1,4 +1,4 @@
 -- The laws that the proofs of the columns cite. Assumes nothing.
 pub mod Laws
-pub mod OneColumn
 pub mod AllColumns
+pub mod WeightedSums

@@ -1,5 +1,8 @@
-// The columns of X, one after another: each weighted, its right side, its solution, its row of the normal matrix and its entry of the right side.
+// The columns of X, all of them step by step: the sums over the observations, the right sides and their solutions, the normal matrix and its right side.
 mod normals;
-mod pieces;
+mod remainders;
+mod solutions;
+mod sums;
+mod weighted;
 
 pub use normals::normal_columns;

@@ -4,8 +4,11 @@ pub mod RowByRow
 pub mod LdlRows
 pub mod CholeskyRows
 pub mod ZeroTerms
+pub mod LdlHeads
 pub mod SubstitutionSteps
 pub mod Columns
+pub mod EachColumn
+pub mod ColumnsSolved
 pub mod Transposed
 pub mod LdlTextbook
 pub mod CholeskyTextbook

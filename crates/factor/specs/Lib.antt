@@ -2,6 +2,8 @@
 pub mod Triangle
 pub mod Factor
 pub mod Substitution
+pub mod Heads
+pub mod Sides
 pub mod Inverse
 pub mod Transpose
 pub mod Textbook

@@ -1,11 +1,9 @@
 -- Substitution with a factor L of size s, over a right side. Document 01, "The inner fit".
 -- Of L only the lower triangle is read; LDL' has d on its diagonal and 1 for its own. Assumes nothing.
-use mathlib.Core.Path.{_≡_}
 use mathlib.Core.List.{List}
-use mathlib.Core.Bool.{true, false}
-use Prim.Native.Nat.{ℕ, _+_, _≤_, _<_}
-use lib.Ieee.{Float, eq}
-use Rattle.base.specs.Number.{_⊖_, _⊗_, _⊘_, zeroF}
+use Prim.Native.Nat.{ℕ, _+_}
+use lib.Ieee.{Float}
+use Rattle.base.specs.Number.{_⊖_, _⊗_, _⊘_}
 use Rattle.base.specs.Sum.{sumTo, sumFrom}
 use Rattle.base.specs.List.{at}
 use Rattle.base.specs.InPlace.{Rule, fillBy, fillDown}
@@ -17,13 +15,6 @@ acrossTerm s L i x k = at s L i k ⊗ x k
 -- l_ki · x_k
 unfoldable pub downTerm : ℕ → List Float → ℕ → (ℕ → Float) → ℕ → Float
 downTerm s L i x k = at s L k i ⊗ x k
-
--- r is the first index from a on below e whose term is not a zero of either sign, or e where there is none
-pub record FirstOther (a e : ℕ) (f : ℕ → Float) (r : ℕ) : Type 0 where
-  pub from : a ≤ r
-  pub to : r ≤ e
-  pub zeros : (k : ℕ) → a ≤ k → k < r → eq (f k) zeroF ≡ true
-  pub stops : r < e → eq (f r) zeroF ≡ false
 
 -- x_i of L x = b, the diagonal being 1: the right side less the sum over the entries before it
 unfoldable pub unitForwardRule : ℕ → List Float → Rule

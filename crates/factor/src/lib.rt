@@ -3,6 +3,7 @@
 mod factors;
 mod inverses;
 mod pivots;
+mod sides;
 mod substitution;
 
 pub use factors::cholesky;
@@ -11,6 +12,7 @@ pub use inverses::cholesky_inverse;
 pub use inverses::ldl_inverse;
 pub use inverses::v_at;
 pub use pivots::Factored;
+pub use sides::ldl_solve_columns;
 pub use substitution::backward;
 pub use substitution::cholesky_solve;
 pub use substitution::forward;

@@ -3,7 +3,8 @@ ghost use mathlib.Core.Path.{_≡_};
 ghost use Prim.Native.Nat.{_+_, _*_, _≤_, _<_};
 ghost use lib.ListN.{length};
 ghost use Rattle.base.specs.Sum.{_!_, sumTo, sumFrom, productFrom};
-ghost use Rattle.factor.specs.Substitution.{FirstOther, downTerm, unitForward, overD, unitBackward, forward, backward, ldlSolve, choleskySolve};
+ghost use Rattle.factor.specs.Substitution.{downTerm, unitForward, overD, unitBackward, forward, backward, ldlSolve, choleskySolve};
+ghost use Rattle.factor.specs.Heads.{FirstOther, Zeros};
 
 // The first k below n where l[o + k] * x[k] is not a zero, or n.
 fn zeros_before(l: &[f64], o: usize, x: &[f64], n: usize) -> usize
@@ -20,18 +21,27 @@ fn zeros_before(l: &[f64], o: usize, x: &[f64], n: usize) -> usize
     n
 }
 
-// The sum of l[o + k] * x[k] over k below n. Zeros at its head leave it at +0.0: they are only tested, which waits for no addition.
-fn sum_before(l: &[f64], o: usize, x: &[f64], n: usize) -> f64
-    requires { ⌜ (o + n ≤ length (now l)) × (n ≤ length (now x)) ⌝ }
+// The sum of l[o + k] * x[k] over k below n, begun at head: zeros before it leave the sum at +0.0.
+pub fn sum_behind(l: &[f64], o: usize, x: &[f64], head: usize, n: usize) -> f64
+    requires { ⌜ (o + n ≤ length (now l)) × (n ≤ length (now x)) × (head ≤ n) × Zeros 0 head (productFrom (now l) o (now x)) ⌝ }
     ensures { λ r. ⌜ r ≡ sumTo n (productFrom (now (l .entry)) o (now (x .entry))) ⌝ }
 {
     let mut sum = 0.0;
-    let mut k = zeros_before(l, o, x, n);
+    let mut k = head;
     while k < n {
         sum = sum + l[o + k] * x[k];
         k += 1;
     }
     sum
+}
+
+// The sum of l[o + k] * x[k] over k below n. The zeros at its head are only tested, which waits for no addition.
+fn sum_before(l: &[f64], o: usize, x: &[f64], n: usize) -> f64
+    requires { ⌜ (o + n ≤ length (now l)) × (n ≤ length (now x)) ⌝ }
+    ensures { λ r. ⌜ r ≡ sumTo n (productFrom (now (l .entry)) o (now (x .entry))) ⌝ }
+{
+    let head = zeros_before(l, o, x, n);
+    sum_behind(l, o, x, head, n)
 }
 
 // The first row k after i where l_ki * x_k is not a zero, or s.
@@ -50,19 +60,28 @@ fn zeros_below(l: &[f64], s: usize, i: usize, x: &[f64]) -> usize
     s
 }
 
-// The sum over the rows k after i of l_ki * x_k, begun behind the zeros at its head.
-fn sum_below(l: &[f64], s: usize, i: usize, x: &[f64]) -> f64
-    requires { ⌜ (i < s) × (s * s ≤ length (now l)) × (s ≤ length (now x)) ⌝ }
+// The sum over the rows k after i of l_ki * x_k, begun at head: zeros before it leave the sum at +0.0.
+pub fn sum_further(l: &[f64], s: usize, i: usize, x: &[f64], head: usize) -> f64
+    requires { ⌜ (i < s) × (s * s ≤ length (now l)) × (s ≤ length (now x)) × (i < head) × (head ≤ s) × Zeros (i + 1) head (downTerm s (now l) i (λ k. now x ! k)) ⌝ }
     ensures { λ r. ⌜ r ≡ sumFrom (i + 1) s (downTerm s (now (l .entry)) i (λ k. now (x .entry) ! k)) ⌝ }
 {
     let mut sum = 0.0;
-    let mut k = zeros_below(l, s, i, x);
+    let mut k = head;
     while k < s {
         let o = base::offset(k, s, s);
         sum = sum + l[o + i] * x[k];
         k += 1;
     }
     sum
+}
+
+// The sum over the rows k after i of l_ki * x_k. The zeros at its head are only tested.
+fn sum_below(l: &[f64], s: usize, i: usize, x: &[f64]) -> f64
+    requires { ⌜ (i < s) × (s * s ≤ length (now l)) × (s ≤ length (now x)) ⌝ }
+    ensures { λ r. ⌜ r ≡ sumFrom (i + 1) s (downTerm s (now (l .entry)) i (λ k. now (x .entry) ! k)) ⌝ }
+{
+    let head = zeros_below(l, s, i, x);
+    sum_further(l, s, i, x, head)
 }
 
 // L x = b, where L has 1 on its diagonal.

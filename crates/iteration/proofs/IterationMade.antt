@@ -10,8 +10,9 @@ use lib.Ieee.{Float}
 use Rattle.base.specs.Rows.{row, Out, Only, OnlyTwo}
 use Rattle.base.specs.Sparse.{Sparse}
 use Rattle.base.proofs.Rows.{only-row, only-wide, only-trans}
+use Rattle.base.proofs.TwoRows.{two-row}
 use Rattle.layout.specs.Layout.{WorkRoom}
-use Rattle.layout.specs.WorkRows.{muRow, rawRow, weightedRow, rowsLength}
+use Rattle.layout.specs.WorkRows.{muRow, rawRow, weightedRow, workingRow, rowsLength}
 use Rattle.layout.specs.WorkMatrices.{uPlace}
 use Rattle.layout.specs.WorkTerms.{wPlace, zPlace, termsLength}
 use Rattle.layout.proofs.LaidOut.{laid-out}
@@ -122,7 +123,11 @@ module _ (G : Given) (phi : Float) (second : Bool) (r r1 r2 m m2 t t1 t2 : List 
     ready = record { weights = wd .w; responses = wd .z; target = wd .target; weighted = wd .weighted }
 
     rows1 : Only 0 (rowsLength n) r r1
-    rows1 = only-wide (weightedRow n) (3 * n) 0 (rowsLength n) (omega arith) (omega arith) (wd .rows-only)
+    rows1 =
+        record {
+          len = wd .rows-only .len;
+          kept = λ j o. ⊎-elim (λ h. absurd (omega arith)) (λ h. wd .rows-only .kept j (inr (omega arith)) (inr (omega arith))) o;
+        }
 
     terms1 : Only 0 termsLength t t1
     terms1 = only-wide (wPlace q) (n + n) 0 termsLength (omega arith) (omega (arith, laid-out (lent .sizes) .terms)) (wd .terms-only)
@@ -159,7 +164,7 @@ module _ (G : Given) (phi : Float) (second : Bool) (r r1 r2 m m2 t t1 t2 : List 
       prev-kept =
           let h : etaRow n second + n ≤ muRow n = eta-before n second in
           let l : rowsLength n ≤ length r = lent .rows-long in
-          only-row (etaRow n second) n (rawRow n) (13 * n) (inl (omega arith)) (omega (arith, wd .rows-only .len)) (s .rows-only) ∙ only-row (etaRow n second) n (weightedRow n) (3 * n) (inl (omega arith)) (omega arith) (wd .rows-only)
+          only-row (etaRow n second) n (rawRow n) (13 * n) (inl (omega arith)) (omega (arith, wd .rows-only .len)) (s .rows-only) ∙ two-row (etaRow n second) n (weightedRow n) n (workingRow n) n (inl (omega arith)) (inl (omega arith)) (omega arith) (wd .rows-only)
 
       abbrev trial : Trial
       trial = trialIn (G .link) n q (etaRow n second) (rawRow n) (row (uPlace p q) q m2) (row (wPlace q) n t2) (row (zPlace n q) n t2) r2

@@ -5,3 +5,4 @@ pub mod SidesMade
 pub mod SolveMade
 pub mod StepMade
 pub mod IterationMade
+pub mod MovedMeans

@@ -28,23 +28,22 @@ use Rattle.iteration.specs.Solving.{SidesOf}
 solved-side-at : (q b : ℕ) (D : Design) (v L m m' F : List Float) → q ≡ qOf D → SolvedSide v L b m m' D → SameBelow q L F → Wrote b q (ldlSolve q F (sideOf D v)) m m'
 solved-side-at q b D v L m m' F e s same = rw e (s F (rw e at same))
 
-module _ (n p q weighted end wy : ℕ) (shape : Shape) (theta x : List Float) (zt : Sparse) (r r' m m' m'' t t' : List Float) where
+module _ (n p q weighted end wy : ℕ) (shape : Shape) (theta x : List Float) (zt : Sparse) (r m m' m'' t t' : List Float) where
   pub sides-made : q ≡ effectsOf shape → WorkRoom n p q r m t → weighted ≡ weightedRow n → end ≡ weighted + n → wy ≡ wyPlace p q
-      → Whatever n shape theta zt (SolvedSide (take (end - weighted) (drop weighted r)) (take (q * q - 0) (drop 0 t)) wy m m') → ColumnsOf n p q shape theta x zt r r' m' m'' t t'
-      → SidesOf n p q shape theta x zt r r' m m'' t t'
+      → Whatever n shape theta zt (SolvedSide (take (end - weighted) (drop weighted r)) (take (q * q - 0) (drop 0 t)) wy m m') → ColumnsOf n p q shape theta x zt r m' m'' t t'
+      → SidesOf n p q shape theta x zt r m m'' t t'
   sides-made e lent ew ee ey s c F offset same =
       let same' : SameBelow q (take (q * q - 0) (drop 0 t)) F = rw (front-is (q * q) t) same in
       let w : Wrote wy q (ldlSolve q F (sideOf (designOf n p shape theta offset x zt) (take (end - weighted) (drop weighted r)))) m m' =
       solved-side-at q wy (designOf n p shape theta offset x zt) (take (end - weighted) (drop weighted r)) (take (q * q - 0) (drop 0 t)) m m' F e (s p offset x) same' in
       let w' : Wrote wy q (ldlSolve q F (sideOf (designOf n p shape theta offset x zt) (row weighted n r))) m m' = rw (part-is weighted n end r ee) at w in
       let y : Wrote (wyPlace p q) q (ldlSolve q F (sideOf (designOf n p shape theta offset x zt) (row (weightedRow n) n r))) m m' = rw (ew, ey) at w' in
-      let l : ColumnsLeft q (designOf n p shape theta offset x zt) F (row (wPlace q) n t) (row (workingRow n) n r) (row (wyPlace p q) q m') r r' m' m'' t t' = c F offset same in
+      let l : ColumnsLeft q (designOf n p shape theta offset x zt) F (row (wPlace q) n t) (row (workingRow n) n r) (row (wyPlace p q) q m') m' m'' t t' = c F offset same in
       record {
         wy = l .wy-kept ∙ y .row';
         solved = l .solved;
         side = l .side ∙ ap (normalSide (designOf n p shape theta offset x zt) (row (wPlace q) n t) (row (workingRow n) n r)) (y .row');
         normal = l .normal;
-        rows-only = l .rows-only;
         system-kept = l .system-kept ∙ only-row systemPlace (q * q) (wyPlace p q) q (inl (omega arith)) (omega (arith, laid-out (lent .sizes) .matrices .beta-end, lent .matrices-long)) (y .only);
         matrices-only = only-trans (only-wide (wyPlace p q) q 0 (matricesLength p q) (omega arith) (omega (arith, laid-out (lent .sizes) .matrices .beta-end)) (y .only)) (l .matrices-only);
         terms-only = l .terms-only;

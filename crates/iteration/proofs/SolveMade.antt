@@ -15,7 +15,7 @@ use Rattle.factor.specs.Factor.{choleskyOf}
 use Rattle.factor.specs.declared.pivots.Factored.{Factored}
 use Rattle.factor.specs.declared.pivots.Factored.the-variants.{Done, Bad}
 use Rattle.layout.specs.Layout.{WorkRoom, MatricesLaid, TermsLaid}
-use Rattle.layout.specs.WorkRows.{rawRow, weightedRow, columnRow, workingRow}
+use Rattle.layout.specs.WorkRows.{rawRow, weightedRow, workingRow}
 use Rattle.layout.specs.WorkMatrices.{systemPlace, solvedPlace, wyPlace, uPlace, betaPlace, matricesLength}
 use Rattle.layout.specs.WorkTerms.{factorPlace, wPlace, zPlace, unsolvedPlace, normalPlace, sparePlace, termsLength}
 use Rattle.layout.proofs.LaidOut.{laid-out}
@@ -92,8 +92,8 @@ module _ (D : Design) (w z r m t : List Float) (lent : WorkRoom (D .n) (D .p) (q
         terms-only = only-wide 0 (q * q) 0 termsLength (omega arith) (omega (arith, laidT)) (s' .frame);
       }
 
-  module _ (r1 t1 m1 t2 m2 : List Float) (s : SystemLeaves (row (wPlace q) n t) t t1 m m1 Done D)
-      (x : SidesLeft q D (F D w z) (row (wPlace q) n t1) (row (workingRow n) n r) (row (weightedRow n) n r) r r1 m1 m2 t1 t2) where
+  module _ (t1 m1 t2 m2 : List Float) (s : SystemLeaves (row (wPlace q) n t) t t1 m m1 Done D)
+      (x : SidesLeft q D (F D w z) (row (wPlace q) n t1) (row (workingRow n) n r) (row (weightedRow n) n r) m1 m2 t1 t2) where
     s' : SystemLeaves w t t1 m m1 Done D
     s' = rw (ready .weights) at s
 
@@ -106,16 +106,13 @@ module _ (D : Design) (w z r m t : List Float) (lent : WorkRoom (D .n) (D .p) (q
     z1 : row (zPlace n q) n t1 ≡ z
     z1 = only-row (zPlace n q) n 0 (q * q) (inr (omega arith)) (omega (arith, laidT, lent .terms-long)) (s' .frame) ∙ ready .responses
 
-    x' : SidesLeft q D (F D w z) w (targets D z) (weightedTargets D w (targets D z)) r r1 m1 m2 t1 t2
+    x' : SidesLeft q D (F D w z) w (targets D z) (weightedTargets D w (targets D z)) m1 m2 t1 t2
     x' = rw (w1, ready .target, ready .weighted) at x
 
     -- what was made of the normal matrix that stands there
     pub rooted : (f : Factored) (m3 t3 : List Float) → RootSolved n p q m2 m3 t2 t3 f → RootLeft n p q (N D w z) m2 m3 t2 t3 f
     unfolding normalOf
     rooted f m3 t3 g = g (N D w z) (omega (arith, matrix-length p p (normalEntry D w (solvedColumns D (F D w z) w)))) (x' .normal)
-
-    rows1 : Only (rawRow n) (13 * n) r r1
-    rows1 = only-wide (columnRow n) n (rawRow n) (13 * n) (omega arith) (omega arith) (x' .rows-only)
 
     matrices2 : Only 0 (matricesLength p q) m m2
     matrices2 = only-trans (only-wide 0 (q * q) 0 (matricesLength p q) (omega arith) (omega arith) (s' .system .only)) (x' .matrices-only)
@@ -124,17 +121,17 @@ module _ (D : Design) (w z r m t : List Float) (lent : WorkRoom (D .n) (D .p) (q
     terms2 = only-trans (only-wide 0 (q * q) 0 termsLength (omega arith) (omega (arith, laidT)) (s' .frame)) (only-wide (unsolvedPlace n q) (q * p + p * p) 0 termsLength (omega arith) (omega (arith, laidT)) (x' .terms-only))
 
     -- end 11
-    pub normal-ended : (i : ℕ) (t3 m3 : List Float) → RootLeft n p q (N D w z) m2 m3 t2 t3 (Bad i) → SolveLeft D (solveWorking D w z) r r1 m m3 t t3 (Unsolved NormalPivot)
+    pub normal-ended : (i : ℕ) (t3 m3 : List Float) → RootLeft n p q (N D w z) m2 m3 t2 t3 (Bad i) → SolveLeft D (solveWorking D w z) r r m m3 t t3 (Unsolved NormalPivot)
     normal-ended i t3 m3 l =
         record {
           told = rw (rule-reduced D w z t t1 m m1 s' ∙ rule-normal D w z q i m2 m3 t2 t3 l) refl;
-          rows-only = rows1;
+          rows-only = only-none (rawRow n) (13 * n) r;
           matrices-only = only-trans matrices2 (only-wide (betaPlace p q) p 0 (matricesLength p q) (omega arith) (omega (arith, laidM .beta, laidM .beta-end)) (l .matrices-only));
           terms-only = only-trans terms2 (only-wide (normalPlace n p q) (p * p) 0 termsLength (omega arith) (omega (arith, laidT)) (l .terms-only));
         }
 
     module _ (r2 t3 m3 t4 m4 : List Float) (l : RootLeft n p q (N D w z) m2 m3 t2 t3 Done)
-        (v : RawLeft D (row (wyPlace p q) q m3) (row (solvedPlace q) (p * q) m3) (row (betaPlace p q) p m3) r1 r2 m3 m4 t3 t4) where
+        (v : RawLeft D (row (wyPlace p q) q m3) (row (solvedPlace q) (p * q) m3) (row (betaPlace p q) p m3) r r2 m3 m4 t3 t4) where
       long2 : length t2 ≡ length t
       long2 = x' .terms-only .len ∙ long1
 
@@ -198,7 +195,7 @@ module _ (D : Design) (w z r m t : List Float) (lent : WorkRoom (D .n) (D .p) (q
                   u = v .u ∙ rw (wy3, solved3, beta3) refl;
                   raw = v .raw ∙ rw (wy3, solved3, beta3) refl;
                 });
-            rows-only = only-trans rows1 (only-wide (rawRow n) n (rawRow n) (13 * n) (omega arith) (omega arith) (v .rows-only));
+            rows-only = only-wide (rawRow n) n (rawRow n) (13 * n) (omega arith) (omega arith) (v .rows-only);
             matrices-only = only-trans (only-trans matrices2 (only-wide (betaPlace p q) p 0 (matricesLength p q) (omega arith) (omega (arith, laidM .beta, laidM .beta-end)) (l .matrices-only)))
                 (only-wide (uPlace p q) (q + q) 0 (matricesLength p q) (omega arith) (omega (arith, laidM .beta, laidM .beta-end)) (v .matrices-only));
             terms-only = only-trans (only-trans terms2 (only-wide (normalPlace n p q) (p * p) 0 termsLength (omega arith) (omega (arith, laidT)) (l .terms-only)))
@@ -220,23 +217,23 @@ module _ (n p q at i : ℕ) (shape : Shape) (theta offset x : List Float) (zt : 
   pub system-ends : f ≡ Bad i → SolvesWorking D r r m m1 t t1 (Unsolved SystemPivot)
   system-ends ef w z ready = system-ended D w z r m t lent' ready i t1 m1 (rw ef at left)
 
-  module _ (r1 m2 m3 t2 t3 : List Float) (g : Factored) (ef : f ≡ Done) (sides : SidesOf n p q shape theta x zt r r1 m1 m2 t1 t2) (root : RootSolved n p q m2 m3 t2 t3 g) where
+  module _ (m2 m3 t2 t3 : List Float) (g : Factored) (ef : f ≡ Done) (sides : SidesOf n p q shape theta x zt r m1 m2 t1 t2) (root : RootSolved n p q m2 m3 t2 t3 g) where
     done : SystemLeaves (row (wPlace (qOf D)) n t) t t1 m m1 Done D
     done = rw ef at left
 
     module _ (w z : List Float) (ready : Prepared D w z r t) where
-      sided : SidesLeft (qOf D) D (F D w z) (row (wPlace (qOf D)) n t1) (row (workingRow n) n r) (row (weightedRow n) n r) r r1 m1 m2 t1 t2
+      sided : SidesLeft (qOf D) D (F D w z) (row (wPlace (qOf D)) n t1) (row (workingRow n) n r) (row (weightedRow n) n r) m1 m2 t1 t2
       sided =
-          let sides' : SidesOf n p (qOf D) shape theta x zt r r1 m1 m2 t1 t2 = rw e at sides in
+          let sides' : SidesOf n p (qOf D) shape theta x zt r m1 m2 t1 t2 = rw e at sides in
           let done' : SystemLeaves w t t1 m m1 Done D = rw (ready .weights) at done in
           sides' (F D w z) offset (done' .lower refl)
 
       root' : RootLeft n p (qOf D) (N D w z) m2 m3 t2 t3 g
-      root' = rooted D w z r m t lent' ready r1 t1 m1 t2 m2 done sided g m3 t3 (rw e at root)
+      root' = rooted D w z r m t lent' ready t1 m1 t2 m2 done sided g m3 t3 (rw e at root)
 
-    pub normal-ends : g ≡ Bad i → SolvesWorking D r r1 m m3 t t3 (Unsolved NormalPivot)
-    normal-ends eg w z ready = normal-ended D w z r m t lent' ready r1 t1 m1 t2 m2 done (sided w z ready) i t3 m3 (rw eg at (root' w z ready))
+    pub normal-ends : g ≡ Bad i → SolvesWorking D r r m m3 t t3 (Unsolved NormalPivot)
+    normal-ends eg w z ready = normal-ended D w z r m t lent' ready t1 m1 t2 m2 done (sided w z ready) i t3 m3 (rw eg at (root' w z ready))
 
-    pub solve-finds : (r2 m4 t4 : List Float) → g ≡ Done → RawLeft D (row (wyPlace p q) q m3) (row (solvedPlace q) (p * q) m3) (row (betaPlace p q) p m3) r1 r2 m3 m4 t3 t4
+    pub solve-finds : (r2 m4 t4 : List Float) → g ≡ Done → RawLeft D (row (wyPlace p q) q m3) (row (solvedPlace q) (p * q) m3) (row (betaPlace p q) p m3) r r2 m3 m4 t3 t4
         → SolvesWorking D r r2 m m4 t t4 Found
-    solve-finds r2 m4 t4 eg v w z ready = solve-found D w z r m t lent' ready r1 t1 m1 t2 m2 done (sided w z ready) r2 t3 m3 t4 m4 (rw eg at (root' w z ready)) (rw e at v)
+    solve-finds r2 m4 t4 eg v w z ready = solve-found D w z r m t lent' ready t1 m1 t2 m2 done (sided w z ready) r2 t3 m3 t4 m4 (rw eg at (root' w z ready)) (rw e at v)

@@ -11,7 +11,7 @@ use Rattle.factor.specs.Substitution.{ldlSolve, choleskySolve}
 use Rattle.factor.specs.Triangle.{SameBelow}
 use Rattle.factor.specs.declared.pivots.Factored.{Factored}
 use Rattle.factor.specs.declared.pivots.Factored.the-variants.{Done}
-use Rattle.layout.specs.WorkRows.{rawRow, weightedRow, columnRow, workingRow}
+use Rattle.layout.specs.WorkRows.{rawRow, weightedRow, workingRow}
 use Rattle.layout.specs.WorkMatrices.{systemPlace, solvedPlace, wyPlace, uPlace, betaPlace, matricesLength}
 use Rattle.layout.specs.WorkTerms.{factorPlace, wPlace, unsolvedPlace, normalPlace, sparePlace, termsLength}
 use Rattle.rule.specs.Given.{Design, qOf, designOf}
@@ -24,20 +24,19 @@ use Rattle.iteration.specs.declared.solving.Solving.the-variants.{Found,
 -- ---- the right sides
 
 -- F being the factor of A: wy, the columns W, the normal matrix and its right side; A, its factor, w and z are as they were
-pub record SidesLeft (q : ℕ) (D : Design) (F w target weighted r r' m m' t t' : List Float) : Type 0 where
+pub record SidesLeft (q : ℕ) (D : Design) (F w target weighted m m' t t' : List Float) : Type 0 where
   pub wy : row (wyPlace (D .p) q) q m' ≡ ldlSolve q F (sideOf D weighted)
   pub solved : row (solvedPlace q) (D .p * q) m' ≡ solvedColumns D F w
   pub side : row (betaPlace (D .p) q) (D .p) m' ≡ normalSide D w target (ldlSolve q F (sideOf D weighted))
   pub normal : SameBelow (D .p) (row (normalPlace (D .n) (D .p) q) (D .p * D .p) t') (normalOf D w (solvedColumns D F w))
-  pub rows-only : Only (columnRow (D .n)) (D .n) r r'
   pub system-kept : row systemPlace (q * q) m' ≡ row systemPlace (q * q) m
   pub matrices-only : Only 0 (matricesLength (D .p) q) m m'
   pub terms-only : Only (unsolvedPlace (D .n) q) (q * D .p + D .p * D .p) t t'
 
 -- for each factor whose lower triangle stands at the front of the terms
-abbrev pub SidesOf : (n p q : ℕ) → Shape → (theta x : List Float) → Sparse → (r r' m m' t t' : List Float) → Type 0
-SidesOf n p q shape theta x zt r r' m m' t t' = (F offset : List Float) → SameBelow q (row factorPlace (q * q) t) F
-    → SidesLeft q (designOf n p shape theta offset x zt) F (row (wPlace q) n t) (row (workingRow n) n r) (row (weightedRow n) n r) r r' m m' t t'
+abbrev pub SidesOf : (n p q : ℕ) → Shape → (theta x : List Float) → Sparse → (r m m' t t' : List Float) → Type 0
+SidesOf n p q shape theta x zt r m m' t t' = (F offset : List Float) → SameBelow q (row factorPlace (q * q) t) F
+    → SidesLeft q (designOf n p shape theta offset x zt) F (row (wPlace q) n t) (row (workingRow n) n r) (row (weightedRow n) n r) m m' t t'
 
 -- ---- the normal matrix's factor, and β
 

@@ -9,12 +9,14 @@ use model::End;
 use model::Shape;
 use stages::weigh;
 use tries::TriesEnd;
-ghost use mathlib.Core.Bool.{not};
+ghost use mathlib.Core.Path.{_≡_};
+ghost use mathlib.Core.Bool.{true, not};
 ghost use Rattle.base.specs.Rows.{row};
 ghost use Rattle.layout.specs.WorkRows.{muRow};
 ghost use Rattle.stored.specs.Stored.{sparse};
 ghost use Rattle.rule.specs.Given.{designOf, givenOf};
 ghost use Rattle.stages.specs.Held.{etaRow};
+ghost use Rattle.working.specs.Met.{Met};
 ghost use Rattle.iteration.specs.Iterated.{Asked, IterationLeft};
 
 // What became of an iteration: no solve, with its end; no step accepted, with the account of the tries; or moved, with PWRSS and that account.
@@ -24,10 +26,11 @@ pub enum Iteration {
     Moved(f64, Account),
 }
 
-// An iteration from the row that holds the predictor; an accepted predictor stands in the other row.
+// An iteration from the row that holds the predictor; an accepted predictor stands in the other row. met says that the means are the predictor's.
 pub fn iterate(
     family: CarriedFamily,
     link: CarriedLink,
+    met: bool,
     phi: f64,
     shape: Shape,
     theta: &[f64],
@@ -47,6 +50,7 @@ pub fn iterate(
     t: &mut [f64],
 ) -> Iteration
     requires { ⌜ Asked n p q shape (now theta) (now starts) (now columns) (now values) (now offset) (now x) (now y) (now r) (now m) (now t) ⌝ }
+    requires { ⌜ (met ≡ true → Met link n (row (etaRow n «in_second») n (now r)) (row (muRow n) n (now r))) ⌝ }
     ensures { λ a. ⌜
         IterationLeft
         (givenOf family link (now (y .entry)) (now (weights .entry))
@@ -55,7 +59,20 @@ pub fn iterate(
         (row (muRow n) n (now (r .entry))) (etaRow n (not «in_second»)) (now (r .entry)) (now (r .exit)) (now (m .entry)) (now (m .exit)) (now (t .entry))
         (now (t .exit)) a ⌝ }
 {
-    weigh(family, link, phi, y, weights, offset, n, q, in_second, r, t);
+    weigh(
+        family,
+        link,
+        met,
+        phi,
+        y,
+        weights,
+        offset,
+        n,
+        q,
+        in_second,
+        r,
+        t,
+    );
     let solving = solve_into(
         shape,
         theta,

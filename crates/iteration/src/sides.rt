@@ -22,7 +22,7 @@ pub fn right_sides(
     n: usize,
     p: usize,
     q: usize,
-    r: &mut [f64],
+    r: &[f64],
     m: &mut [f64],
     t: &mut [f64],
 )
@@ -31,7 +31,7 @@ pub fn right_sides(
     requires { ⌜ n * p ≤ length (now x) ⌝ }
     ensures { λ _. ⌜
         SidesOf n p q shape (now (theta .entry)) (now (x .entry)) (sparse (now (starts .entry)) (now (columns .entry)) (now (values .entry))) (now (r .entry))
-        (now (r .exit)) (now (m .entry)) (now (m .exit)) (now (t .entry)) (now (t .exit)) ⌝ }
+        (now (m .entry)) (now (m .exit)) (now (t .entry)) (now (t .exit)) ⌝ }
 {
     let weighted = weighted_row(n);
     let end = weighted + n;

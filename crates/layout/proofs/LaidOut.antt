@@ -21,7 +21,6 @@ rows-laid z =
       point = omega arith;
       mark = omega arith;
       weighted = omega arith;
-      column = omega arith;
       working = omega arith;
       length-few = omega arith;
     }

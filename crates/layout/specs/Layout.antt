@@ -4,7 +4,7 @@ use Prim.Native.Nat.{ℕ, _+_, _*_, _≤_}
 use lib.ListN.{length}
 use lib.Ieee.{Float}
 use Rattle.model.specs.Settings.{Sizes}
-use Rattle.layout.specs.WorkRows.{firstEtaRow, secondEtaRow, muRow, rawRow, xbetaRow, devianceRow, pointRow, markRow, weightedRow, columnRow, workingRow, rowsLength}
+use Rattle.layout.specs.WorkRows.{firstEtaRow, secondEtaRow, muRow, rawRow, xbetaRow, devianceRow, pointRow, markRow, weightedRow, workingRow, rowsLength}
 use Rattle.layout.specs.WorkMatrices.{systemPlace, inversePlace, solvedPlace, rootInversePlace, wyPlace, uPlace, bPlace, trialUPlace, trialBPlace, pointPlace, betaPlace, betaEnd, matricesLength}
 use Rattle.layout.specs.WorkTerms.{factorPlace, wPlace, zPlace, unsolvedPlace, normalPlace, sparePlace, termsLength}
 
@@ -18,8 +18,7 @@ pub record RowsLaid (n : ℕ) : Type 0 where
   pub deviance : devianceRow n + n ≤ pointRow n
   pub point : pointRow n + n ≤ markRow n
   pub mark : markRow n + n ≤ weightedRow n
-  pub weighted : weightedRow n + n ≤ columnRow n
-  pub column : columnRow n + n ≤ workingRow n
+  pub weighted : weightedRow n + n ≤ workingRow n
   pub working : workingRow n + n ≤ rowsLength n
   pub length-few : rowsLength n ≤ 8192
 

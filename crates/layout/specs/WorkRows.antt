@@ -1,4 +1,4 @@
--- Where the rows of the work slice `rows` begin: eleven rows of n numbers each. Its length: document 01, "Numbers of an answer", number 7. Assumes nothing.
+-- Where the rows of the work slice `rows` begin: ten rows of n numbers each. Its length: document 01, "Numbers of an answer", number 7. Assumes nothing.
 use Prim.Native.Nat.{ℕ, _*_}
 
 -- the predictor stands in one of two rows, the candidate in the other
@@ -37,14 +37,10 @@ markRow n = 7 * n
 abbrev pub weightedRow : ℕ → ℕ
 weightedRow n = 8 * n
 
--- one column x·w
-abbrev pub columnRow : ℕ → ℕ
-columnRow n = 9 * n
-
 -- z - offset
 abbrev pub workingRow : ℕ → ℕ
 workingRow n = 10 * n
 
--- the room that the caller must lend; five rows of it stay unused
+-- the room that the caller must lend; six rows of it stay unused
 abbrev pub rowsLength : ℕ → ℕ
 rowsLength n = 16 * n

@@ -20,7 +20,6 @@ pub use matrices::solved_at;
 pub use matrices::trial_u_at;
 pub use matrices::u_at;
 pub use matrices::wy_at;
-pub use rows::column_row;
 pub use rows::deviance_row;
 pub use rows::mark_row;
 pub use rows::mu_row;

@@ -1,7 +1,7 @@
 // Where the rows of the work slice `rows` begin. Each is n numbers long.
 ghost use mathlib.Core.Path.{_≡_};
 ghost use Prim.Native.Nat.{_≤_};
-ghost use Rattle.layout.specs.WorkRows.{secondEtaRow, muRow, rawRow, xbetaRow, devianceRow, pointRow, markRow, weightedRow, columnRow, workingRow, rowsLength};
+ghost use Rattle.layout.specs.WorkRows.{secondEtaRow, muRow, rawRow, xbetaRow, devianceRow, pointRow, markRow, weightedRow, workingRow, rowsLength};
 
 // The predictor stands in one of two rows, the candidate in the other: the first begins the slice, this is the second.
 pub fn second_eta_row(n: usize) -> usize
@@ -64,14 +64,6 @@ pub fn weighted_row(n: usize) -> usize
     ensures { λ r. ⌜ r ≡ weightedRow n ⌝ }
 {
     8 * n
-}
-
-// One column x·w.
-pub fn column_row(n: usize) -> usize
-    requires { ⌜ n ≤ 512 ⌝ }
-    ensures { λ r. ⌜ r ≡ columnRow n ⌝ }
-{
-    9 * n
 }
 
 // z - offset.

@@ -4,7 +4,7 @@ use Prim.Native.Nat.{ℕ, _*_}
 use lib.Ieee.{Float}
 use Rattle.base.specs.Number.{_⊖_, _⊗_}
 use Rattle.base.specs.Sum.{_!_, sumTo, productFrom}
-use Rattle.base.specs.List.{at}
+use Rattle.base.specs.List.{at, build}
 
 -- entry i of Xβ: row i of X times β
 abbrev pub xBetaAt : List Float → ℕ → List Float → ℕ → Float
@@ -21,6 +21,10 @@ columnTerm x p v b i = (v ! i) ⊗ at p x i b
 -- v times column b of X; where v is the column x_a·w, entry (a, b) of X'WX
 abbrev pub columnDot : List Float → ℕ → ℕ → List Float → ℕ → Float
 columnDot x p n v b = sumTo n (columnTerm x p v b)
+
+-- entry (a, b) of X'WX: the column x_a·w times column b of X
+unfoldable pub crossAt : List Float → ℕ → ℕ → List Float → ℕ → ℕ → Float
+crossAt x p n w a b = columnDot x p n (build (xwAt x p w a) n) b
 
 -- W_j[i]·β_j, the columns of W being q long and one behind the other
 abbrev pub solvedTerm : List Float → ℕ → List Float → ℕ → ℕ → Float

@@ -24,14 +24,16 @@ use Rattle.model.proofs.Accounts.{plus-assoc, plus-none}
 use Rattle.model.proofs.Tallies.{tally-append, tally-none, tally-fit, tally-solve}
 use Rattle.rule.specs.Given.{Given, nOf, qOf}
 use Rattle.rule.specs.Solve.{Solved, solved, unsolved, solveOf}
-use Rattle.rule.specs.Try.{Move, Search, foundMove, noMove, triesOf, trialOf}
+use Rattle.rule.specs.Try.{Move, foundMove, noMove, triesOf, trialOf}
 use Rattle.rule.specs.Stop.{Mode, modeOf, modeDevs, modeSum, modeFit, stops}
 use Rattle.rule.specs.Run.{stopped, failed, Outcome, State, itemsBefore, failedAfter, afterStop, moved, afterSearch, afterSolve, runFrom, startEta, startAt, runOf}
+use Rattle.working.specs.Met.{Met}
 use Rattle.stages.specs.Held.{etaRow}
 use Rattle.stages.specs.Stopped.{StopLeft}
 use Rattle.stages.specs.declared.stops.AtStop.{AtStop}
 use Rattle.iteration.specs.Iterated.{StuckAfter, MovedAfter, iterationCap}
 use Rattle.iteration.proofs.IterationMade.{eta-before}
+use Rattle.iteration.proofs.MovedMeans.{moved-met}
 use Rattle.pirls.specs.Inner.{turned, failedFit, InnerLeft}
 use Rattle.pirls.specs.declared.run.Ended.the-variants.{Stopped}
 
@@ -92,10 +94,11 @@ module _ (G : Given) (phi : Float) (L : ℕ) (mu₀ : List Float) where
   abbrev pub restAt : ℕ → Bool → List Float → Float → Outcome
   restAt k second rows old = runFrom G phi (L - k) (stateIn k second rows old)
 
-  -- after k iterations: the rest of the run ends as the whole does, and the whole's items are those counted and the rest's
+  -- after k iterations: the rest of the run ends as the whole does, the whole's items are those counted and the rest's, and after a move the means are the predictor's
   pub record Going (r₀ r m₀ m t₀ t : List Float) (old : Float) (second : Bool) (k : ℕ) (account : Account) : Type 0 where
     pub within : k ≤ L
     pub place : second ≡ turned k
+    pub met : 0 < k → Met (G .link) n (row (etaRow n second) n r) (row (muRow n) n r)
     pub few : AtMost (runTo k) account
     pub ending : whole .ending ≡ restAt k second r old .ending
     pub items : tally (aFit ∷ whole .items) ≡ account ⊞ tally (restAt k second r old .items)
@@ -115,6 +118,7 @@ module _ (G : Given) (phi : Float) (L : ℕ) (mu₀ : List Float) where
       record {
         within = omega arith;
         place = refl;
+        met = λ l'. absurd (omega arith);
         few = one-few;
         ending = ap (λ (o : Outcome). o .ending) (sym rest);
         items = rw rest (tally-append (aFit ∷ []) (whole .items) ∙ rw tally-fit refl);
@@ -225,6 +229,7 @@ module _ (G : Given) (phi : Float) (L : ℕ) (mu₀ : List Float) where
         record {
           within = omega arith;
           place = ap not (g .place) ∙ sym (turned-more k);
+          met = λ l'. moved-met G (x .v) (row (etaRow n second) n r) mv (x .items) (x .tries);
           few = few-more k account made (g .few) few;
           ending = g .ending ∙ rw o refl;
           items = g .items ∙ rw o (went-items (restAt (k + 1) (not second) r'' pwrss));

@@ -76,7 +76,7 @@ fn with_solve(account: Account, made: Account) -> Account
     account.plus(Account::one_solve().plus(made))
 }
 
-// The inner fit from the means that stand in their row.
+// The inner fit from the means that stand in their row; from the first move on they are those of the predictor.
 pub fn inner_fit(
     family: CarriedFamily,
     link: CarriedLink,
@@ -116,6 +116,7 @@ pub fn inner_fit(
         let it = iterate(
             family,
             link,
+            0 < k,
             phi,
             shape,
             theta,

@@ -2,17 +2,18 @@
 use mathlib.Core.Path.{_≡_, refl, ap, _∙_}
 use mathlib.Core.List.{List}
 use mathlib.Core.Bool.{Bool}
-use mathlib.Core.Logic.{inl, inr}
-use Prim.Native.Nat.{ℕ, _+_, _-_, _*_, _≤_}
+use mathlib.Core.Logic.{inl}
+use Prim.Native.Nat.{ℕ, _+_, _-_, _≤_}
 use native.Mathlib.Omega.{arith}
 use lib.ListN.{length, take, drop}
 use lib.Ieee.{Float}
 use Rattle.base.specs.Sum.{productAt}
 use Rattle.base.specs.List.{build, fillAt}
-use Rattle.base.specs.Rows.{row, Only, Wrote}
+use Rattle.base.specs.Rows.{row, Only, OnlyTwo, Wrote}
 use Rattle.base.proofs.Fills.{length-fillat}
 use Rattle.base.proofs.Rows.{part-is, fillat-wrote, only-row, only-wide, only-trans}
-use Rattle.layout.specs.WorkRows.{secondEtaRow, muRow, rawRow, weightedRow, columnRow, workingRow}
+use Rattle.base.proofs.TwoRows.{two-of}
+use Rattle.layout.specs.WorkRows.{secondEtaRow, muRow, rawRow, weightedRow, workingRow}
 use Rattle.layout.specs.WorkTerms.{wPlace, zPlace, unsolvedPlace}
 use Rattle.layout.proofs.Bounds.{square-few}
 use Rattle.family.specs.declared.carried.CarriedFamily.{CarriedFamily}
@@ -21,7 +22,7 @@ use Rattle.rule.specs.Given.{Given, nOf}
 use Rattle.rule.specs.Working.{workingWeightAt, workingResponseAt, targetAt, workingWeights, workingResponses, targets, weightedTargets}
 use Rattle.stages.specs.Held.{etaRow, Held}
 use Rattle.stages.specs.Weighed.{WeighRoom, Weighed, Weighs}
-use Rattle.stages.proofs.HeldRows.{held-row}
+use Rattle.stages.proofs.HeldRows.{mean-part, eta-part}
 
 -- two rows that were filled, the one at c behind the one at a
 module _ (a c n : ℕ) (f g : ℕ → Float) (v : List Float) (apart : a + n ≤ c) (fits : c + n ≤ length v) where
@@ -37,8 +38,8 @@ module _ (a c n : ℕ) (f g : ℕ → Float) (v : List Float) (apart : a + n ≤
   back-row : row c n (fillAt c n g (fillAt a n f v)) ≡ build g n
   back-row = back-wrote .row'
 
-  between-row : (b : ℕ) → a + n ≤ b → b + n ≤ c → row b n (fillAt c n g (fillAt a n f v)) ≡ row b n v
-  between-row b l h = only-row b n c n (inl h) (omega (arith, length-fillat a n f v)) (back-wrote .only) ∙ only-row b n a n (inr l) (omega arith) (front-wrote .only)
+  both-two : OnlyTwo a n c n v (fillAt c n g (fillAt a n f v))
+  both-two = two-of a n c n (front-wrote .only) (back-wrote .only)
 
   both-only : (m : ℕ) → c + n ≤ a + m → Only a m v (fillAt c n g (fillAt a n f v))
   both-only m h = only-trans (only-wide a n a m (omega arith) (omega arith) (front-wrote .only)) (only-wide c n a m (omega arith) h (back-wrote .only))
@@ -63,8 +64,7 @@ weighed-rows G phi q eta mu r r' t t' ht hr et er =
       z = z;
       target = ap (row (workingRow n) n) er' ∙ back-row (weightedRow n) (workingRow n) n h k r (omega arith) hr;
       weighted = ap (row (weightedRow n) n) er' ∙ front-row (weightedRow n) (workingRow n) n h k r (omega arith) hr;
-      column = ap (row (columnRow n) n) er' ∙ between-row (weightedRow n) (workingRow n) n h k r (omega arith) hr (columnRow n) (omega arith) (omega arith);
-      rows-only = rw er' (both-only (weightedRow n) (workingRow n) n h k r (omega arith) hr (3 * n) (omega arith));
+      rows-only = rw er' (both-two (weightedRow n) (workingRow n) n h k r (omega arith) hr);
       terms-only = rw et (both-only (wPlace q) (zPlace n q) n f g t (omega arith) ht (n + n) (omega arith));
     }
 
@@ -76,13 +76,11 @@ pub weighed-made : (family : CarriedFamily) (link : CarriedLink) (phi : Float) (
     → r' ≡ fillAt working n (targetAt offset (take (unsolved - z) (drop z t'))) (fillAt weighted n (productAt (take (z - w) (drop w t')) (build (targetAt offset (take (unsolved - z) (drop z t'))) n)) r)
     → Weighs family link phi y weights offset n q (row (etaRow n inSecond) n r) (row (muRow n) n r) r r' t t'
 weighed-made family link phi y weights offset n q inSecond second mu raw w z unsolved weighted working eta r r' t t' es em ea ew ez eu eg ek room held et er D en eo =
-    let first-part : take (second - 0) (drop 0 r) ≡ row 0 n r = part-is 0 n second r (omega arith) in
-    let second-part : take (mu - second) (drop second r) ≡ row n n r = part-is second n mu r (omega arith) ∙ rw es refl in
-    let mean-part : take (raw - mu) (drop mu r) ≡ row (muRow n) n r = part-is mu n raw r (omega arith) ∙ rw em refl in
+    let means = mean-part n inSecond second mu raw eta r es em ea (room .rows-long) in
     let w-part : take (z - w) (drop w t') ≡ row (wPlace q) n t' = part-is w n z t' (omega arith) ∙ rw ew refl in
     let z-part : take (unsolved - z) (drop z t') ≡ row (zPlace n q) n t' = part-is z n unsolved t' (omega arith) ∙ rw ez refl in
-    let at : eta ≡ row (etaRow n inSecond) n r = (rw (first-part, second-part) at (held .is)) ∙ held-row n inSecond r (omega (arith, room .rows-long)) in
-    let et' : t' ≡ fillAt (zPlace n q) n (workingResponseAt link y (row (etaRow n inSecond) n r) (row (muRow n) n r)) (fillAt (wPlace q) n (workingWeightAt family link weights phi (row (etaRow n inSecond) n r) (row (muRow n) n r)) t) = rw (mean-part, at, ez, ew) at et in
+    let at = eta-part n inSecond second mu raw eta r es em ea (room .rows-long) held in
+    let et' : t' ≡ fillAt (zPlace n q) n (workingResponseAt link y (row (etaRow n inSecond) n r) (row (muRow n) n r)) (fillAt (wPlace q) n (workingWeightAt family link weights phi (row (etaRow n inSecond) n r) (row (muRow n) n r)) t) = rw (means, at, ez, ew) at et in
     let er' : r' ≡ fillAt (workingRow n) n (targetAt offset (row (zPlace n q) n t')) (fillAt (weightedRow n) n (productAt (row (wPlace q) n t') (build (targetAt offset (row (zPlace n q) n t')) n)) r) = rw (z-part, w-part, ek, eg) at er in
     weighed-rows (record { family = family; link = link; y = y; weights = weights; design = D }) phi q (row (etaRow n inSecond) n r) (row (muRow n) n r) r r' t t'
     (rw en (omega (arith, room .terms-long, square-few (room .q-few), room .n-few)))

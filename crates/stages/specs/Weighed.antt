@@ -1,11 +1,11 @@
 -- What the first stage of an iteration leaves. Document 01, "The inner fit": each iteration has w and z as in `pirls_with_workspace`. Assumes nothing.
 use mathlib.Core.Path.{_≡_}
 use mathlib.Core.List.{List}
-use Prim.Native.Nat.{ℕ, _+_, _*_, _≤_}
+use Prim.Native.Nat.{ℕ, _+_, _≤_}
 use lib.ListN.{length}
 use lib.Ieee.{Float}
-use Rattle.base.specs.Rows.{row, Only}
-use Rattle.layout.specs.WorkRows.{weightedRow, columnRow, workingRow, rowsLength}
+use Rattle.base.specs.Rows.{row, Only, OnlyTwo}
+use Rattle.layout.specs.WorkRows.{weightedRow, workingRow, rowsLength}
 use Rattle.layout.specs.WorkTerms.{wPlace, zPlace, termsLength}
 use Rattle.family.specs.declared.carried.CarriedFamily.{CarriedFamily}
 use Rattle.family.specs.declared.carried.CarriedLink.{CarriedLink}
@@ -28,8 +28,7 @@ pub record Weighed (G : Given) (phi : Float) (q : ℕ) (eta mu r r' t t' : List 
   pub z : row (zPlace (nOf G) q) (nOf G) t' ≡ workingResponses G eta mu
   pub target : row (workingRow (nOf G)) (nOf G) r' ≡ targets (G .design) (workingResponses G eta mu)
   pub weighted : row (weightedRow (nOf G)) (nOf G) r' ≡ weightedTargets (G .design) (workingWeights G phi eta mu) (targets (G .design) (workingResponses G eta mu))
-  pub column : row (columnRow (nOf G)) (nOf G) r' ≡ row (columnRow (nOf G)) (nOf G) r
-  pub rows-only : Only (weightedRow (nOf G)) (3 * nOf G) r r'
+  pub rows-only : OnlyTwo (weightedRow (nOf G)) (nOf G) (workingRow (nOf G)) (nOf G) r r'
   pub terms-only : Only (wPlace q) (nOf G + nOf G) t t'
 
 -- for each design of n observations with this offset

@@ -5,6 +5,7 @@ use family::CarriedLink;
 use working::less_offset;
 use working::working_rows;
 ghost use mathlib.Core.Path.{_≡_};
+ghost use mathlib.Core.Bool.{true};
 ghost use Prim.Native.Nat.{_+_, _≤_};
 ghost use lib.ListN.{length};
 ghost use Rattle.base.specs.List.{build, fillAt};
@@ -12,6 +13,7 @@ ghost use Rattle.base.specs.Rows.{row};
 ghost use Rattle.base.specs.Sum.{productAt};
 ghost use Rattle.layout.specs.WorkRows.{muRow};
 ghost use Rattle.rule.specs.Working.{targetAt};
+ghost use Rattle.working.specs.Met.{Met};
 ghost use Rattle.working.specs.Optional.{Optional};
 ghost use Rattle.stages.specs.Held.{etaRow};
 ghost use Rattle.stages.specs.Weighed.{WeighRoom, Weighs};
@@ -41,10 +43,11 @@ pub fn targets_into(
     }
 }
 
-// w and z of the predictor into t, z - offset and w·(z - offset) into r, where the predictor and its means stand.
+// w and z of the predictor into t, z - offset and w·(z - offset) into r, where the predictor and its means stand; met as for `working_rows`.
 pub fn weigh(
     family: CarriedFamily,
     link: CarriedLink,
+    met: bool,
     phi: f64,
     y: &[f64],
     weights: &[f64],
@@ -56,6 +59,7 @@ pub fn weigh(
     t: &mut [f64],
 )
     requires { ⌜ WeighRoom n q (now y) (now offset) (now r) (now t) ⌝ }
+    requires { ⌜ (met ≡ true → Met link n (row (etaRow n in_second) n (now r)) (row (muRow n) n (now r))) ⌝ }
     ensures { λ _. ⌜
         Weighs family link phi (now (y .entry)) (now (weights .entry)) (now (offset .entry)) n q (row (etaRow n in_second) n (now (r .entry)))
         (row (muRow n) n (now (r .entry))) (now (r .entry)) (now (r .exit)) (now (t .entry)) (now (t .exit)) ⌝ }
@@ -69,6 +73,19 @@ pub fn weigh(
     let weighted = layout::weighted_row(n);
     let working = layout::working_row(n);
     let eta = holder(&r[0..second], &r[second..mu], n, in_second);
-    working_rows(family, link, phi, y, weights, eta, &r[mu..raw], n, w, z, t);
+    working_rows(
+        family,
+        link,
+        met,
+        phi,
+        y,
+        weights,
+        eta,
+        &r[mu..raw],
+        n,
+        w,
+        z,
+        t,
+    );
     targets_into(offset, &t[w..z], &t[z..unsolved], n, weighted, working, r);
 }

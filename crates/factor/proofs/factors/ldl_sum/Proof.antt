@@ -1,20 +1,21 @@
--- `factor::ldl_sum` meets its contract: before turn k the sum is that of the first k terms.
+-- `factor::ldl_sum` meets its contract: before turn k the sum is that of the first k terms, of which the zeros before `head` leave +0.0.
 use mathlib.Core.Path.{_≡_}
 use Prim.Native.Nat.{_≤_, _-_}
 use Rattle.base.specs.Sum.{_!_, sumTo}
 use Rattle.factor.specs.Factor.{ldlTerm, ldlSum}
 use Rattle.base.proofs.Sums.{sum-step}
 use native.Mathlib.Omega.{arith}
+use Rattle.factor.proofs.ZeroTerms.{head-to}
 use Rattle.base.proofs.Loops.{loops}
 use borrow.Author.Needs.{needs}
 use Rattle.factor.proofs.factors.ldl_sum.Statement.{statement}
 use Rattle.factor.proofs.factors.ldl_sum.Tie as tie
 
 abbrev Inv-loop : tie.InvT-loop
-Inv-loop x s i j io jo sum₀ k₀ sum k = (k ≤ j) × (sum ≡ sumTo k (ldlTerm s (λ t. x ! t) i j))
+Inv-loop x s i j head io jo sum₀ k₀ sum k = (k ≤ j) × (sum ≡ sumTo k (ldlTerm s (λ t. x ! t) i j))
 
 abbrev μ-loop : tie.MeasureT-loop
-μ-loop x s i j io jo sum₀ k₀ sum k = j - k
+μ-loop x s i j head io jo sum₀ k₀ sum k = j - k
 
 offset-requires : tie.Need-offset-requires Inv-loop μ-loop
 offset-requires c κs = search (needs, loops)
@@ -23,7 +24,7 @@ offset-requires-2 : tie.Need-offset-requires-2 Inv-loop μ-loop
 offset-requires-2 c κs = search (needs, loops)
 
 loop-holds : tie.Need-loop-holds Inv-loop μ-loop
-loop-holds c = search (needs, loops)
+loop-holds c = (omega arith, head-to _ _ (λ k l. c .before .before .before .pre .4 k (omega arith) l))
 
 offset-requires-3 : tie.Need-offset-requires-3 Inv-loop μ-loop
 offset-requires-3 c κs = search (needs, loops)

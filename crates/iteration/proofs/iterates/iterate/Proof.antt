@@ -9,24 +9,26 @@ use Rattle.iteration.proofs.iterates.iterate.Tie as tie
 weigh-requires : tie.Need-weigh-requires
 weigh-requires c κs =
     let start = c .before .before .before .before .before .before .before .before .before .before .before .before .before in
-    let pre = start .pre in
-    record {
-      n-few = pre .lent .sizes .n-few;
-      q-few = pre .lent .sizes .q-few;
-      y-long = pre .y-long;
-      offset-fits = pre .offset-fits;
-      rows-long = pre .lent .rows-long;
-      terms-long = pre .lent .terms-long;
-    }
+    let pre = start .pre .0 in (
+      record {
+        n-few = pre .lent .sizes .n-few;
+        q-few = pre .lent .sizes .q-few;
+        y-long = pre .y-long;
+        offset-fits = pre .offset-fits;
+        rows-long = pre .lent .rows-long;
+        terms-long = pre .lent .terms-long;
+      },
+      start .pre .1,
+    )
 
 solve-into-requires : tie.Need-solve-into-requires
 solve-into-requires c κs =
     let weigh = c .before .before .before .before .before .before .before in
     let start = weigh .before .before .before .before .before .before .before .before .before .before .before .before .before .before in (
-      start .pre .ready,
+      start .pre .0 .ready,
       (
-        lent-kept (start .pre .lent) (weigh .weigh .kept .1 .1 .1 .1 .1 .1 .1 .1 .1 .0) refl (weigh .weigh .kept .1 .1 .1 .1 .1 .1 .1 .1 .1 .1 .0),
-        (start .pre .offset-fits, start .pre .x-long),
+        lent-kept (start .pre .0 .lent) (weigh .weigh .kept .1 .1 .1 .1 .1 .1 .1 .1 .1 .1 .0) refl (weigh .weigh .kept .1 .1 .1 .1 .1 .1 .1 .1 .1 .1 .1 .0),
+        (start .pre .0 .offset-fits, start .pre .0 .x-long),
       ),
     )
 
@@ -49,7 +51,7 @@ returns c =
     let start = weigh .before .before .before .before .before .before .before .before .before .before .before .before .before .before in
     let args = start .args in
     iterate-unsolvable (args .family) (args .link) (args .phi) (args .n) (args .p) (args .q) (args .shape) (args .theta .now) (args .offset .now) (args .x .now)
-    (args .y .now) (args .weights .now) _ (args .in-second) _ _ _ _ _ _ _ _ _ (start .pre .ready .effects) (start .pre .lent) (weigh .weigh .ensures)
+    (args .y .now) (args .weights .now) _ (args .in-second) _ _ _ _ _ _ _ _ _ (start .pre .0 .ready .effects) (start .pre .0 .lent) (weigh .weigh .ensures)
     (solve-into .solve-into .ensures) _ (c .before .solving .given .1)
 
 enum-told : tie.Need-enum-told
@@ -60,9 +62,9 @@ step-requires c κs =
     let solve-into = c .before .before .before .before .before .before .before .before .before .before .before in
     let weigh = solve-into .before .before .before .before .before .before .before .before in
     let start = weigh .before .before .before .before .before .before .before .before .before .before .before .before .before .before in
-    lent-kept (start .pre .lent) (solve-into .solve-into .kept .1 .1 .1 .1 .1 .1 .1 .1 .1 .1 .0 ∙ weigh .weigh .kept .1 .1 .1 .1 .1 .1 .1 .1 .1 .0)
+    lent-kept (start .pre .0 .lent) (solve-into .solve-into .kept .1 .1 .1 .1 .1 .1 .1 .1 .1 .1 .0 ∙ weigh .weigh .kept .1 .1 .1 .1 .1 .1 .1 .1 .1 .1 .0)
     (solve-into .solve-into .kept .1 .1 .1 .1 .1 .1 .1 .1 .1 .1 .1 .0)
-    (solve-into .solve-into .kept .1 .1 .1 .1 .1 .1 .1 .1 .1 .1 .1 .1 .0 ∙ weigh .weigh .kept .1 .1 .1 .1 .1 .1 .1 .1 .1 .1 .0)
+    (solve-into .solve-into .kept .1 .1 .1 .1 .1 .1 .1 .1 .1 .1 .1 .1 .0 ∙ weigh .weigh .kept .1 .1 .1 .1 .1 .1 .1 .1 .1 .1 .1 .0)
 
 enum-known-end : tie.Need-enum-known-end
 enum-known-end c = search needs
@@ -72,7 +74,7 @@ same-length-4 c =
     let step = c .before .before .before .before .before in
     let solve-into = step .before .before .before .before .before .before .before .before .before .before .before .before in
     let weigh = solve-into .before .before .before .before .before .before .before .before in
-    step .step .kept .1 .1 .1 .1 .1 .1 .1 .0 ∙ solve-into .solve-into .kept .1 .1 .1 .1 .1 .1 .1 .1 .1 .1 .0 ∙ weigh .weigh .kept .1 .1 .1 .1 .1 .1 .1 .1 .1 .0
+    step .step .kept .1 .1 .1 .1 .1 .1 .1 .0 ∙ solve-into .solve-into .kept .1 .1 .1 .1 .1 .1 .1 .1 .1 .1 .0 ∙ weigh .weigh .kept .1 .1 .1 .1 .1 .1 .1 .1 .1 .1 .0
 
 same-length-5 : tie.Need-same-length-5
 same-length-5 c = search needs
@@ -89,7 +91,7 @@ returns-2 c =
     let start = weigh .before .before .before .before .before .before .before .before .before .before .before .before .before .before in
     let args = start .args in
     iterate-moved (args .family) (args .link) (args .phi) (args .n) (args .p) (args .q) (args .shape) (args .theta .now) (args .offset .now) (args .x .now)
-    (args .y .now) (args .weights .now) _ (args .in-second) _ _ _ _ _ _ _ _ _ (start .pre .ready .effects) (start .pre .lent) (weigh .weigh .ensures)
+    (args .y .now) (args .weights .now) _ (args .in-second) _ _ _ _ _ _ _ _ _ (start .pre .0 .ready .effects) (start .pre .0 .lent) (weigh .weigh .ensures)
     (solve-into .solve-into .ensures) _ _ _ _ (at-enum-told .enum-told .given .1) (c .before .end .given .1) (step .step .ensures)
 
 enum-known-end-2 : tie.Need-enum-known-end-2
@@ -113,7 +115,7 @@ returns-3 c =
     let start = weigh .before .before .before .before .before .before .before .before .before .before .before .before .before .before in
     let args = start .args in
     iterate-stuck (args .family) (args .link) (args .phi) (args .n) (args .p) (args .q) (args .shape) (args .theta .now) (args .offset .now) (args .x .now)
-    (args .y .now) (args .weights .now) _ (args .in-second) _ _ _ _ _ _ _ _ _ (start .pre .ready .effects) (start .pre .lent) (weigh .weigh .ensures)
+    (args .y .now) (args .weights .now) _ (args .in-second) _ _ _ _ _ _ _ _ _ (start .pre .0 .ready .effects) (start .pre .0 .lent) (weigh .weigh .ensures)
     (solve-into .solve-into .ensures) _ _ _ (at-enum-told .enum-told .given .1) (c .before .end2 .given .1) (step .step .ensures)
 
 pub iterate-spec : {M : Type 1} → statement M

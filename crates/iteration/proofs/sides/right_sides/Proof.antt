@@ -44,7 +44,7 @@ part-solve-side-start-2 c = search needs
 
 part-solve-side-end-2 : tie.Need-part-solve-side-end-2
 part-solve-side-end-2 c =
-    let start = c .before .before .before .before .before .before .before .before .before .before .before .before .before in
+    let start = c .before .before .before .before .before .before .before .before .before .before .before .before in
     omega (arith, factor-in (start .pre .1 .0 .sizes) {k = 0} (start .args .t .now) refl (start .pre .1 .0 .terms-long))
 
 solve-side-requires : tie.Need-solve-side-requires
@@ -52,32 +52,29 @@ solve-side-requires c κs = search needs
 
 normal-columns-requires : tie.Need-normal-columns-requires
 normal-columns-requires c κs =
-    let solve-side = c .before .before .before .before .before in
-    let start = solve-side .before .before .before .before .before .before .before .before .before .before .before .before .before .before .before .before in
+    let solve-side = c .before .before .before .before in
+    let start = solve-side .before .before .before .before .before .before .before .before .before .before .before .before .before .before .before in
     (start .pre .0, (lent-kept (start .pre .1 .0) refl (solve-side .solve-side .kept .1 .1 .1 .1 .1 .1 .1 .1 .1 .1 .0) refl, start .pre .1 .1))
 
 same-length : tie.Need-same-length
-same-length c = c .before .before .before .before .before .before .normal-columns .kept .1 .1 .1 .1 .1 .1 .1 .1 .1 .0
-
-same-length-2 : tie.Need-same-length-2
-same-length-2 c =
-    let normal-columns = c .before .before .before .before .before .before in
-    let solve-side = normal-columns .before .before .before .before .before .before in
+same-length c =
+    let normal-columns = c .before .before .before .before in
+    let solve-side = normal-columns .before .before .before .before .before in
     normal-columns .normal-columns .kept .1 .1 .1 .1 .1 .1 .1 .1 .1 .1 .0 ∙ solve-side .solve-side .kept .1 .1 .1 .1 .1 .1 .1 .1 .1 .1 .0
 
-same-length-3 : tie.Need-same-length-3
-same-length-3 c = c .before .before .before .before .before .before .normal-columns .kept .1 .1 .1 .1 .1 .1 .1 .1 .1 .1 .1 .0
+same-length-2 : tie.Need-same-length-2
+same-length-2 c = c .before .before .before .before .normal-columns .kept .1 .1 .1 .1 .1 .1 .1 .1 .1 .1 .1 .0
 
 returns : tie.Need-returns
 returns c =
-    let normal-columns = c .before .before .before .before .before .before in
-    let solve-side = normal-columns .before .before .before .before .before .before in
-    let wy-at = solve-side .before .before .before .before .before .before in
+    let normal-columns = c .before .before .before .before in
+    let solve-side = normal-columns .before .before .before .before .before in
+    let wy-at = solve-side .before .before .before .before .before in
     let weighted-row = wy-at .before in
     let start = weighted-row .before .before .before .before .before .before .before .before .before in
     let args = start .args in
     sides-made (args .n) (args .p) (args .q) (weighted-row .weighted-row .result) _ (wy-at .wy-at .result) (args .shape) (args .theta .now) (args .x .now) _ _ _
-    _ _ _ _ _ (start .pre .0 .effects) (start .pre .1 .0) (weighted-row .weighted-row .ensures) refl (wy-at .wy-at .ensures) (solve-side .solve-side .ensures)
+    _ _ _ _ (start .pre .0 .effects) (start .pre .1 .0) (weighted-row .weighted-row .ensures) refl (wy-at .wy-at .ensures) (solve-side .solve-side .ensures)
     (normal-columns .normal-columns .ensures)
 
 pub right-sides-spec : {M : Type 1} → statement M
@@ -99,5 +96,4 @@ right-sides-spec =
     normal-columns-requires
     same-length
     same-length-2
-    same-length-3
     returns)

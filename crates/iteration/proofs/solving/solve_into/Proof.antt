@@ -57,7 +57,7 @@ right-sides-requires c κs =
 
 solve-root-requires : tie.Need-solve-root-requires
 solve-root-requires c κs =
-    let right-sides = c .before .before .before .before .before .before .before .before in
+    let right-sides = c .before .before .before .before .before .before in
     let factor-system = right-sides .before .before .before .before .before .before .before .before .before .before in
     let start = factor-system .before .before .before .before .before .before .before .before .before .before .before .before .before in (
       start .pre .1 .0 .sizes,
@@ -84,14 +84,14 @@ same-length-5 c = search needs
 returns-2 : tie.Need-returns-2
 returns-2 c =
     let solve-root = c .before .before .before .before .before .before in
-    let right-sides = solve-root .before .before .before .before .before .before .before .before .before in
+    let right-sides = solve-root .before .before .before .before .before .before .before in
     let enum-told2 = right-sides .before .before .before .before in
     let factor-system = enum-told2 .before .before .before .before .before .before in
     let w-at = factor-system .before .before .before in
     let start = w-at .before .before .before .before .before .before .before .before .before .before in
     let args = start .args in
     normal-ends (args .n) (args .p) (args .q) (w-at .w-at .result) _ (args .shape) (args .theta .now) (args .offset .now) (args .x .now) _ _ _ _ _ _ _
-    (start .pre .0 .effects) (start .pre .1 .0) (w-at .w-at .ensures) (factor-system .factor-system .ensures) _ _ _ _ _ _ (enum-told2 .enum-told2 .given .1)
+    (start .pre .0 .effects) (start .pre .1 .0) (w-at .w-at .ensures) (factor-system .factor-system .ensures) _ _ _ _ _ (enum-told2 .enum-told2 .given .1)
     (right-sides .right-sides .ensures) (solve-root .solve-root .ensures) (c .enum-told3 .given .1)
 
 enum-told-4 : tie.Need-enum-told-4
@@ -100,12 +100,12 @@ enum-told-4 c = search needs
 raw-into-requires : tie.Need-raw-into-requires
 raw-into-requires c κs =
     let solve-root = c .before .before .before .before .before .before .before .before .before in
-    let right-sides = solve-root .before .before .before .before .before .before .before .before .before in
+    let right-sides = solve-root .before .before .before .before .before .before .before in
     let factor-system = right-sides .before .before .before .before .before .before .before .before .before .before in
     let start = factor-system .before .before .before .before .before .before .before .before .before .before .before .before .before in (
       start .pre .0,
       (
-        lent-kept (start .pre .1 .0) (right-sides .right-sides .kept .1 .1 .1 .1 .1 .1 .1 .1 .1 .0)
+        lent-kept (start .pre .1 .0) refl
             (solve-root .solve-root .kept .1 .1 .1 .0 ∙ right-sides .right-sides .kept .1 .1 .1 .1 .1 .1 .1 .1 .1 .1 .0
             ∙ factor-system .factor-system .kept .1 .1 .1 .1 .1 .1 .1 .1 .1 .0)
             (solve-root .solve-root .kept .1 .1 .1 .1 .0 ∙ right-sides .right-sides .kept .1 .1 .1 .1 .1 .1 .1 .1 .1 .1 .1 .0
@@ -116,16 +116,13 @@ raw-into-requires c κs =
 
 same-length-6 : tie.Need-same-length-6
 same-length-6 c =
-    let raw-into = c .before .before .before .before .before .before in
-    let right-sides = raw-into .before .before .before .before .before .before .before .before .before
-    .before .before .before .before .before .before .before .before .before .before in
-    raw-into .raw-into .kept .1 .1 .1 .1 .1 .1 .1 .1 .1 .1 .0 ∙ right-sides .right-sides .kept .1 .1 .1 .1 .1 .1 .1 .1 .1 .0
+    c .before .before .before .before .before .before .raw-into .kept .1 .1 .1 .1 .1 .1 .1 .1 .1 .1 .0
 
 same-length-7 : tie.Need-same-length-7
 same-length-7 c =
     let raw-into = c .before .before .before .before .before .before in
     let solve-root = raw-into .before .before .before .before .before .before .before .before .before .before in
-    let right-sides = solve-root .before .before .before .before .before .before .before .before .before in
+    let right-sides = solve-root .before .before .before .before .before .before .before in
     let factor-system = right-sides .before .before .before .before .before .before .before .before .before .before in
     raw-into .raw-into .kept .1 .1 .1 .1 .1 .1 .1 .1 .1 .1 .1 .0 ∙ solve-root .solve-root .kept .1 .1 .1 .0
     ∙ right-sides .right-sides .kept .1 .1 .1 .1 .1 .1 .1 .1 .1 .1 .0 ∙ factor-system .factor-system .kept .1 .1 .1 .1 .1 .1 .1 .1 .1 .0
@@ -134,7 +131,7 @@ same-length-8 : tie.Need-same-length-8
 same-length-8 c =
     let raw-into = c .before .before .before .before .before .before in
     let solve-root = raw-into .before .before .before .before .before .before .before .before .before .before in
-    let right-sides = solve-root .before .before .before .before .before .before .before .before .before in
+    let right-sides = solve-root .before .before .before .before .before .before .before in
     let factor-system = right-sides .before .before .before .before .before .before .before .before .before .before in
     raw-into .raw-into .kept .1 .1 .1 .1 .1 .1 .1 .1 .1 .1 .1 .1 .0 ∙ solve-root .solve-root .kept .1 .1 .1 .1 .0
     ∙ right-sides .right-sides .kept .1 .1 .1 .1 .1 .1 .1 .1 .1 .1 .1 .0 ∙ factor-system .factor-system .kept .1 .1 .1 .1 .1 .1 .1 .1 .0
@@ -144,14 +141,14 @@ returns-3 c =
     let raw-into = c .before .before .before .before .before .before in
     let enum-told4 = raw-into .before .before .before .before in
     let solve-root = enum-told4 .before .before .before .before .before .before in
-    let right-sides = solve-root .before .before .before .before .before .before .before .before .before in
+    let right-sides = solve-root .before .before .before .before .before .before .before in
     let enum-told2 = right-sides .before .before .before .before in
     let factor-system = enum-told2 .before .before .before .before .before .before in
     let w-at = factor-system .before .before .before in
     let start = w-at .before .before .before .before .before .before .before .before .before .before in
     let args = start .args in
     solve-finds (args .n) (args .p) (args .q) (w-at .w-at .result) 0 (args .shape) (args .theta .now) (args .offset .now) (args .x .now) _ _ _ _ _ _ _
-    (start .pre .0 .effects) (start .pre .1 .0) (w-at .w-at .ensures) (factor-system .factor-system .ensures) _ _ _ _ _ _ (enum-told2 .enum-told2 .given .1)
+    (start .pre .0 .effects) (start .pre .1 .0) (w-at .w-at .ensures) (factor-system .factor-system .ensures) _ _ _ _ _ (enum-told2 .enum-told2 .given .1)
     (right-sides .right-sides .ensures) (solve-root .solve-root .ensures) _ _ _ (enum-told4 .enum-told4 .given .1) (raw-into .raw-into .ensures)
 
 pub solve-into-spec : {M : Type 1} → statement M

@@ -4,6 +4,7 @@ use mathlib.Core.Logic.{inr}
 use Prim.Native.Nat.{_-_}
 use native.Mathlib.Omega.{arith}
 use borrow.Author.Needs.{needs}
+use borrow.Author.Tests.{ltb-true}
 use Rattle.base.specs.Rows.{row}
 use Rattle.layout.specs.WorkRows.{muRow}
 use Rattle.layout.proofs.Inside.{first-eta-in, mu-in}
@@ -54,9 +55,11 @@ iterate-requires : tie.Need-iterate-requires Inv-loop μ-loop
 iterate-requires c κs =
     let loop = c .before .before .before .before in
     let start-eta = loop .before .before .before .before in
-    let start = start-eta .before .before .before .before .before .before .before .before .before .before .before .before .before .before in
-    asked-kept (start .pre .0) (loop .loop .inv .rows-only .len ∙ start-eta .start-eta .ensures .only .len) (loop .loop .inv .matrices-only .len)
-    (loop .loop .inv .terms-only .len)
+    let start = start-eta .before .before .before .before .before .before .before .before .before .before .before .before .before .before in (
+      asked-kept (start .pre .0) (loop .loop .inv .rows-only .len ∙ start-eta .start-eta .ensures .only .len) (loop .loop .inv .matrices-only .len)
+          (loop .loop .inv .terms-only .len),
+      λ e. loop .loop .inv .met (ltb-true _ _ e),
+    )
 
 enum-known-it : tie.Need-enum-known-it Inv-loop μ-loop
 enum-known-it c = search needs
@@ -69,19 +72,19 @@ same-length c =
     let iterate = c .before .before .before .before .before .before .before .before .before .before in
     let loop = iterate .before .before .before .before .before in
     let start-eta = loop .before .before .before .before in
-    iterate .iterate .kept .1 .1 .1 .1 .1 .1 .1 .1 .1 .1 .1 .1 .1 .1 .1 .1 .0 ∙ (loop .loop .inv .rows-only .len ∙ start-eta .start-eta .ensures .only .len)
+    iterate .iterate .kept .1 .1 .1 .1 .1 .1 .1 .1 .1 .1 .1 .1 .1 .1 .1 .1 .1 .0 ∙ (loop .loop .inv .rows-only .len ∙ start-eta .start-eta .ensures .only .len)
 
 same-length-2 : tie.Need-same-length-2 Inv-loop μ-loop
 same-length-2 c =
     let iterate = c .before .before .before .before .before .before .before .before .before .before in
     let loop = iterate .before .before .before .before .before in
-    iterate .iterate .kept .1 .1 .1 .1 .1 .1 .1 .1 .1 .1 .1 .1 .1 .1 .1 .1 .1 .0 ∙ loop .loop .inv .matrices-only .len
+    iterate .iterate .kept .1 .1 .1 .1 .1 .1 .1 .1 .1 .1 .1 .1 .1 .1 .1 .1 .1 .1 .0 ∙ loop .loop .inv .matrices-only .len
 
 same-length-3 : tie.Need-same-length-3 Inv-loop μ-loop
 same-length-3 c =
     let iterate = c .before .before .before .before .before .before .before .before .before .before in
     let loop = iterate .before .before .before .before .before in
-    iterate .iterate .kept .1 .1 .1 .1 .1 .1 .1 .1 .1 .1 .1 .1 .1 .1 .1 .1 .1 .1 .0 ∙ loop .loop .inv .terms-only .len
+    iterate .iterate .kept .1 .1 .1 .1 .1 .1 .1 .1 .1 .1 .1 .1 .1 .1 .1 .1 .1 .1 .1 .0 ∙ loop .loop .inv .terms-only .len
 
 returns : tie.Need-returns Inv-loop μ-loop
 returns c =
@@ -117,19 +120,19 @@ same-length-4 c =
     let iterate = c .before .before .before .before .before .before .before .before .before .before .before in
     let loop = iterate .before .before .before .before .before in
     let start-eta = loop .before .before .before .before in
-    iterate .iterate .kept .1 .1 .1 .1 .1 .1 .1 .1 .1 .1 .1 .1 .1 .1 .1 .1 .0 ∙ (loop .loop .inv .rows-only .len ∙ start-eta .start-eta .ensures .only .len)
+    iterate .iterate .kept .1 .1 .1 .1 .1 .1 .1 .1 .1 .1 .1 .1 .1 .1 .1 .1 .1 .0 ∙ (loop .loop .inv .rows-only .len ∙ start-eta .start-eta .ensures .only .len)
 
 same-length-5 : tie.Need-same-length-5 Inv-loop μ-loop
 same-length-5 c =
     let iterate = c .before .before .before .before .before .before .before .before .before .before .before in
     let loop = iterate .before .before .before .before .before in
-    iterate .iterate .kept .1 .1 .1 .1 .1 .1 .1 .1 .1 .1 .1 .1 .1 .1 .1 .1 .1 .0 ∙ loop .loop .inv .matrices-only .len
+    iterate .iterate .kept .1 .1 .1 .1 .1 .1 .1 .1 .1 .1 .1 .1 .1 .1 .1 .1 .1 .1 .0 ∙ loop .loop .inv .matrices-only .len
 
 same-length-6 : tie.Need-same-length-6 Inv-loop μ-loop
 same-length-6 c =
     let iterate = c .before .before .before .before .before .before .before .before .before .before .before in
     let loop = iterate .before .before .before .before .before in
-    iterate .iterate .kept .1 .1 .1 .1 .1 .1 .1 .1 .1 .1 .1 .1 .1 .1 .1 .1 .1 .1 .0 ∙ loop .loop .inv .terms-only .len
+    iterate .iterate .kept .1 .1 .1 .1 .1 .1 .1 .1 .1 .1 .1 .1 .1 .1 .1 .1 .1 .1 .1 .0 ∙ loop .loop .inv .terms-only .len
 
 returns-2 : tie.Need-returns-2 Inv-loop μ-loop
 returns-2 c =
@@ -173,9 +176,9 @@ stop-requires c κs =
     let start-eta = loop .before .before .before .before in
     let start = start-eta .before .before .before .before .before .before .before .before .before .before .before .before .before .before in (
       lent-kept (start .pre .0 .lent)
-          (iterate .iterate .kept .1 .1 .1 .1 .1 .1 .1 .1 .1 .1 .1 .1 .1 .1 .1 .1 .0 ∙ (loop .loop .inv .rows-only .len ∙ start-eta .start-eta .ensures .only .len))
-          (iterate .iterate .kept .1 .1 .1 .1 .1 .1 .1 .1 .1 .1 .1 .1 .1 .1 .1 .1 .1 .0 ∙ loop .loop .inv .matrices-only .len)
-          (iterate .iterate .kept .1 .1 .1 .1 .1 .1 .1 .1 .1 .1 .1 .1 .1 .1 .1 .1 .1 .1 .0 ∙ loop .loop .inv .terms-only .len),
+          (iterate .iterate .kept .1 .1 .1 .1 .1 .1 .1 .1 .1 .1 .1 .1 .1 .1 .1 .1 .1 .0 ∙ (loop .loop .inv .rows-only .len ∙ start-eta .start-eta .ensures .only .len))
+          (iterate .iterate .kept .1 .1 .1 .1 .1 .1 .1 .1 .1 .1 .1 .1 .1 .1 .1 .1 .1 .1 .0 ∙ loop .loop .inv .matrices-only .len)
+          (iterate .iterate .kept .1 .1 .1 .1 .1 .1 .1 .1 .1 .1 .1 .1 .1 .1 .1 .1 .1 .1 .1 .0 ∙ loop .loop .inv .terms-only .len),
       start .pre .0 .y-long,
     )
 
@@ -188,20 +191,20 @@ same-length-7 c =
     let iterate = stop .before .before .before .before .before .before .before .before .before .before .before .before .before .before .before .before in
     let loop = iterate .before .before .before .before .before in
     let start-eta = loop .before .before .before .before in
-    stop .stop .kept .1 .1 .1 .1 .1 .1 .0 ∙ iterate .iterate .kept .1 .1 .1 .1 .1 .1 .1 .1 .1 .1 .1 .1 .1 .1 .1 .1 .0 ∙ (loop .loop .inv .rows-only .len ∙ start-eta .start-eta .ensures .only .len)
+    stop .stop .kept .1 .1 .1 .1 .1 .1 .0 ∙ iterate .iterate .kept .1 .1 .1 .1 .1 .1 .1 .1 .1 .1 .1 .1 .1 .1 .1 .1 .1 .0 ∙ (loop .loop .inv .rows-only .len ∙ start-eta .start-eta .ensures .only .len)
 
 same-length-8 : tie.Need-same-length-8 Inv-loop μ-loop
 same-length-8 c =
     let stop = c .before .before .before .before .before in
     let iterate = stop .before .before .before .before .before .before .before .before .before .before .before .before .before .before .before .before in
     let loop = iterate .before .before .before .before .before in
-    stop .stop .kept .1 .1 .1 .1 .1 .1 .1 .0 ∙ iterate .iterate .kept .1 .1 .1 .1 .1 .1 .1 .1 .1 .1 .1 .1 .1 .1 .1 .1 .1 .0 ∙ loop .loop .inv .matrices-only .len
+    stop .stop .kept .1 .1 .1 .1 .1 .1 .1 .0 ∙ iterate .iterate .kept .1 .1 .1 .1 .1 .1 .1 .1 .1 .1 .1 .1 .1 .1 .1 .1 .1 .1 .0 ∙ loop .loop .inv .matrices-only .len
 
 same-length-9 : tie.Need-same-length-9 Inv-loop μ-loop
 same-length-9 c =
     let iterate = c .before .before .before .before .before .before .before .before .before .before .before .before .before .before .before .before .before .before .before .before .before in
     let loop = iterate .before .before .before .before .before in
-    iterate .iterate .kept .1 .1 .1 .1 .1 .1 .1 .1 .1 .1 .1 .1 .1 .1 .1 .1 .1 .1 .0 ∙ loop .loop .inv .terms-only .len
+    iterate .iterate .kept .1 .1 .1 .1 .1 .1 .1 .1 .1 .1 .1 .1 .1 .1 .1 .1 .1 .1 .1 .0 ∙ loop .loop .inv .terms-only .len
 
 returns-3 : tie.Need-returns-3 Inv-loop μ-loop
 returns-3 c =
@@ -222,9 +225,9 @@ returns-3 c =
     (start-eta .start-eta .ensures) _ _ _ _ _ _ _ (loop .loop .inv) _ _ _ _ (loop-test .loop-test .taken) (iterate .iterate .ensures) _ _ _ (it3 .it3 .given .1)
     (with-solve2 .with-solve2 .ensures) _ _ _ _ (sym (stops .stops .ensures) ∙ if1 .if1 .taken)
     (lent-kept (start .pre .0 .lent)
-    (iterate .iterate .kept .1 .1 .1 .1 .1 .1 .1 .1 .1 .1 .1 .1 .1 .1 .1 .1 .0 ∙ (loop .loop .inv .rows-only .len ∙ start-eta .start-eta .ensures .only .len))
-    (iterate .iterate .kept .1 .1 .1 .1 .1 .1 .1 .1 .1 .1 .1 .1 .1 .1 .1 .1 .1 .0 ∙ loop .loop .inv .matrices-only .len)
-    (iterate .iterate .kept .1 .1 .1 .1 .1 .1 .1 .1 .1 .1 .1 .1 .1 .1 .1 .1 .1 .1 .0 ∙ loop .loop .inv .terms-only .len)) (stop .stop .ensures)
+    (iterate .iterate .kept .1 .1 .1 .1 .1 .1 .1 .1 .1 .1 .1 .1 .1 .1 .1 .1 .1 .0 ∙ (loop .loop .inv .rows-only .len ∙ start-eta .start-eta .ensures .only .len))
+    (iterate .iterate .kept .1 .1 .1 .1 .1 .1 .1 .1 .1 .1 .1 .1 .1 .1 .1 .1 .1 .1 .0 ∙ loop .loop .inv .matrices-only .len)
+    (iterate .iterate .kept .1 .1 .1 .1 .1 .1 .1 .1 .1 .1 .1 .1 .1 .1 .1 .1 .1 .1 .1 .0 ∙ loop .loop .inv .terms-only .len)) (stop .stop .ensures)
     (c .stopped-fit .ensures)
 
 loop-less : tie.Need-loop-less Inv-loop μ-loop

@@ -1,6 +1,7 @@
 -- `stages::weigh` meets its contract: the predictor's row gives w and z, and their rows what X and Z are fitted to.
 use native.Mathlib.Omega.{arith}
 use Rattle.layout.proofs.Bounds.{square-few}
+use Rattle.stages.proofs.HeldRows.{parts-met}
 use Rattle.stages.proofs.WeighedRows.{weighed-made}
 use Rattle.stages.proofs.weighing.weigh.Statement.{statement}
 use Rattle.stages.proofs.weighing.weigh.Tie as tie
@@ -67,15 +68,23 @@ part-working-rows-end c = omega arith
 
 working-rows-requires : tie.Need-working-rows-requires
 working-rows-requires c κs =
+    let w = c .before .before .before .before .before .before .before .before .before .before .w-at .ensures in
+    let z = c .before .before .before .before .before .before .before .before .before .z-at .ensures in
     let start = c .before .before .before .before .before .before .before .before
-    .before .before .before .before .before .before .before .before .before .before .before in
-    omega (arith, square-few (start .pre .q-few))
+    .before .before .before .before .before .before .before .before .before .before .before in (
+      omega (arith, square-few (start .pre .0 .q-few), w, z),
+      λ e.
+          let raw-row = c .before .before .before .before .before .before .before .before .before .before .before in
+          let mu-row = raw-row .before in
+          parts-met (start .args .n) (start .args .in-second) _ _ _ _ (start .args .r .now) (mu-row .before .second-eta-row .ensures) (mu-row .mu-row .ensures)
+          (raw-row .raw-row .ensures) (start .pre .0 .rows-long) (c .before .before .holder .ensures) (start .args .link) (start .pre .1 e),
+    )
 
 mul-targets-into : tie.Need-mul-targets-into
 mul-targets-into c =
     let start = c .before .before .before .before .before .before .before .before .before .before
     .before .before .before .before .before .before .before .before .before .before .before .before in
-    omega (arith, square-few (start .pre .q-few))
+    omega (arith, square-few (start .pre .0 .q-few))
 
 sub-targets-into : tie.Need-sub-targets-into
 sub-targets-into c = omega arith
@@ -87,13 +96,13 @@ part-targets-into-end : tie.Need-part-targets-into-end
 part-targets-into-end c =
     let start = c .before .before .before .before .before .before .before .before .before .before
     .before .before .before .before .before .before .before .before .before .before .before .before .before in
-    omega (arith, square-few (start .pre .q-few))
+    omega (arith, square-few (start .pre .0 .q-few))
 
 mul-targets-into-2 : tie.Need-mul-targets-into-2
 mul-targets-into-2 c =
     let start = c .before .before .before .before .before .before .before .before .before .before .before
     .before .before .before .before .before .before .before .before .before .before .before .before .before in
-    omega (arith, square-few (start .pre .q-few))
+    omega (arith, square-few (start .pre .0 .q-few))
 
 sub-targets-into-2 : tie.Need-sub-targets-into-2
 sub-targets-into-2 c = omega arith
@@ -105,7 +114,7 @@ part-targets-into-end-2 : tie.Need-part-targets-into-end-2
 part-targets-into-end-2 c =
     let start = c .before .before .before .before .before .before .before .before .before .before .before
     .before .before .before .before .before .before .before .before .before .before .before .before .before in
-    omega (arith, square-few (start .pre .q-few))
+    omega (arith, square-few (start .pre .0 .q-few))
 
 targets-into-requires : tie.Need-targets-into-requires
 targets-into-requires c κs =
@@ -115,9 +124,9 @@ targets-into-requires c κs =
     .w-at .ensures in
     let z = c .before .before .before .before .before .before .before .before .before .before .before .before .before .before .before .before .z-at .ensures in
     let u = c .before .before .before .before .before .before .before .before .before .before .before .before .before .before .before .unsolved-at .ensures in (
-      start .pre .offset-fits,
-      omega (arith, square-few (start .pre .q-few), w, z, u),
-      omega (arith, square-few (start .pre .q-few), w, z, u),
+      start .pre .0 .offset-fits,
+      omega (arith, square-few (start .pre .0 .q-few), w, z, u),
+      omega (arith, square-few (start .pre .0 .q-few), w, z, u),
       omega arith,
       omega arith,
     )
@@ -143,9 +152,9 @@ returns c =
     let start = second-eta-row .before .before .before .before .before .before in
     let args = start .args in
     weighed-made (args .family) (args .link) (args .phi) (args .y .now) (args .weights .now) (args .offset .now) (args .n) (args .q) (args .in-second) _ _ _ _ _
-    _ _ _ _ (args .r .now) _ (args .t .now) (working-rows .working-rows .last .1 .1 .1 .1 .1 .1 .1 .1 .1 .1 .0) (second-eta-row .second-eta-row .ensures)
+    _ _ _ _ (args .r .now) _ (args .t .now) (working-rows .working-rows .last .1 .1 .1 .1 .1 .1 .1 .1 .1 .1 .1 .0) (second-eta-row .second-eta-row .ensures)
     (mu-row .mu-row .ensures) (raw-row .raw-row .ensures) (w-at .w-at .ensures) (z-at .z-at .ensures) (unsolved-at .unsolved-at .ensures)
-    (weighted-row .weighted-row .ensures) (working-row .working-row .ensures) (start .pre) (holder .holder .ensures) (working-rows .working-rows .ensures)
+    (weighted-row .weighted-row .ensures) (working-row .working-row .ensures) (start .pre .0) (holder .holder .ensures) (working-rows .working-rows .ensures)
     (c .before .before .targets-into .ensures)
 
 pub weigh-spec : {M : Type 1} → statement M

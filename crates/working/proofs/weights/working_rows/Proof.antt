@@ -11,10 +11,10 @@ use Rattle.working.proofs.weights.working_rows.Statement.{statement}
 use Rattle.working.proofs.weights.working_rows.Tie as tie
 
 abbrev Inv-loop : tie.InvT-loop
-Inv-loop family link phi y weights eta mu n w-at z-at t₀ i₀ t i = (i ≤ n) × (length t ≡ length t₀) × (t ≡ fillAt z-at i (workingResponseAt link y eta mu) (fillAt w-at i (workingWeightAt family link weights phi eta mu) t₀))
+Inv-loop family link met phi y weights eta mu n w-at z-at t₀ i₀ t i = (i ≤ n) × (length t ≡ length t₀) × (t ≡ fillAt z-at i (workingResponseAt link y eta mu) (fillAt w-at i (workingWeightAt family link weights phi eta mu) t₀))
 
 abbrev μ-loop : tie.MeasureT-loop
-μ-loop family link phi y weights eta mu n w-at z-at t₀ i₀ t i = n - i
+μ-loop family link met phi y weights eta mu n w-at z-at t₀ i₀ t i = n - i
 
 loop-holds : tie.Need-loop-holds Inv-loop μ-loop
 unfolding fillAt
@@ -32,8 +32,10 @@ mul-m c = omega arith
 shared-slice-read-m : tie.Need-shared-slice-read-m Inv-loop μ-loop
 shared-slice-read-m c = omega arith
 
-mu-eta-requires : tie.Need-mu-eta-requires Inv-loop μ-loop
-mu-eta-requires c κs = omega arith
+slope-requires : tie.Need-slope-requires Inv-loop μ-loop
+slope-requires c κs =
+    let start = c .before .before .before .before .before .before .before .before .before in
+    λ e. start .pre .1 e .mean _ (omega arith)
 
 weight-at-requires : tie.Need-weight-at-requires Inv-loop μ-loop
 weight-at-requires c κs = omega arith
@@ -81,7 +83,7 @@ loop-again : tie.Need-loop-again Inv-loop μ-loop
 unfolding workingWeightAt workingResponseAt
 loop-again c =
     let a = c .before .before .before .before .before .before .before .before .before .before .before .before .before .before .before .args in
-    (omega arith, simp length-set (omega arith), fillat-both (a .w-at) (a .z-at) (workingWeightAt (a .family) (a .link) (a .weights .now) (a .phi) (a .eta .now) (a .mu .now)) (workingResponseAt (a .link) (a .y .now) (a .eta .now) (a .mu .now)) (a .t .now) _ _ _ _ (omega arith) (rw (c .before .before .working-weight .ensures, c .before .before .before .variance .ensures, c .before .before .before .before .weight-at .ensures, c .before .before .before .before .before .mu-eta .ensures)) (rw (c .working-response .ensures, c .before .before .before .before .before .mu-eta .ensures)) (c .before .before .before .before .before .before .before .before .before .loop .inv .2))
+    (omega arith, simp length-set (omega arith), fillat-both (a .w-at) (a .z-at) (workingWeightAt (a .family) (a .link) (a .weights .now) (a .phi) (a .eta .now) (a .mu .now)) (workingResponseAt (a .link) (a .y .now) (a .eta .now) (a .mu .now)) (a .t .now) _ _ _ _ (omega arith) (rw (c .before .before .working-weight .ensures, c .before .before .before .variance .ensures, c .before .before .before .before .weight-at .ensures, c .before .before .before .before .before .slope .ensures)) (rw (c .working-response .ensures, c .before .before .before .before .before .slope .ensures)) (c .before .before .before .before .before .before .before .before .before .loop .inv .2))
 
 same-length : tie.Need-same-length Inv-loop μ-loop
 same-length c = omega arith
@@ -100,7 +102,7 @@ working-rows-spec =
     shared-slice-read-e
     mul-m
     shared-slice-read-m
-    mu-eta-requires
+    slope-requires
     weight-at-requires
     variance-requires
     working-weight-requires

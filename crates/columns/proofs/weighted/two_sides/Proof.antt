@@ -1,0 +1,61 @@
+-- `columns::two_sides` meets its contract: the sums, which begin as +0.0, are copied into their places.
+use mathlib.Core.Path.{refl}
+use Rattle.columns.specs.Weighted.{entriesSide, startingAt}
+use Rattle.columns.proofs.WeightedSums.{sums-placed}
+use native.Mathlib.Omega.{arith}
+use borrow.Author.Needs.{needs}
+use Rattle.columns.proofs.weighted.two_sides.Statement.{statement}
+use Rattle.columns.proofs.weighted.two_sides.Tie as tie
+
+slice-aggregate-entry-sums : tie.Need-slice-aggregate-entry-sums
+slice-aggregate-entry-sums c = search needs
+
+entry-sums-requires : tie.Need-entry-sums-requires
+entry-sums-requires c κs = search needs
+
+add-e : tie.Need-add-e
+add-e c = search needs
+
+slice-aggregate-copy : tie.Need-slice-aggregate-copy
+slice-aggregate-copy c = search needs
+
+mul-copy : tie.Need-mul-copy
+mul-copy c = search needs
+
+sub-copy : tie.Need-sub-copy
+sub-copy c = search needs
+
+part-copy-start : tie.Need-part-copy-start
+part-copy-start c = search needs
+
+part-copy-end : tie.Need-part-copy-end
+part-copy-end c = search needs
+
+copy-requires : tie.Need-copy-requires
+copy-requires c κs = search needs
+
+same-length : tie.Need-same-length
+same-length c = search needs
+
+returns : tie.Need-returns
+returns c =
+    let a = c .before .before .before .before .before .before .before .before .before .before .before .before .before .args in
+    let copy = c .before .before .copy in
+    sums-placed (a .b) 2 _ (startingAt (entriesSide (a .columns .now) (a .values .now) (a .x .now) (a .p) (a .w .now) (a .begin) (a .end)) (a .b)) _ (a .out .now) (copy .last .1 .0) refl (omega arith) (copy .kept .1 .0)
+    (c .before .before .before .before .before .before .entry-sums .ensures) (copy .ensures)
+
+pub two-sides-spec : {M : Type 1} → statement M
+two-sides-spec =
+    tie.close
+    (tie.spec
+    slice-aggregate-entry-sums
+    entry-sums-requires
+    add-e
+    slice-aggregate-copy
+    mul-copy
+    sub-copy
+    part-copy-start
+    part-copy-end
+    copy-requires
+    same-length
+    returns)
