@@ -1,4 +1,6 @@
 // The quadrature over the work slices: what the effects at a point do to the deviance, and its log term.
+#![tactic(auto)]
+
 mod gain;
 mod one;
 

@@ -1,1 +1,2 @@
 // Closed inner fits with quadrature, whose results the checker computes from the written rule, are in proofs/: there is no code here.
+#![tactic(auto)]

@@ -1,4 +1,6 @@
 // The vocabulary of the project: single numbers, plain loops over lent slices, sparse rows.
+#![tactic(auto)]
+
 mod number;
 mod sparse;
 mod vector;

@@ -1,5 +1,7 @@
 // Bits of a byte slice, most significant first, 0 past its end: what stands at a position, and the record that holds the slice and a position and is moved on over its fields.
 // The record's three functions are thin: `take` leaves the work to `field_at`.
+#![tactic(auto)]
+
 ghost use Rattle.std.specs.Prelude.{◌≡◌, ◌+◌, ◌*◌, ◌<◌, ◌≤◌, ◌^◌, length};
 ghost use Rattle.base.specs.Sum.{◌!!◌};
 ghost use Rattle.bits.specs.Bits.{bits_of, double_of, Near};

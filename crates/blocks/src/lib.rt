@@ -1,4 +1,6 @@
 // The blocks of random effects as a list, and the fit that takes them so. A list is turned into a shape first: everything else works with numbers by value.
+#![tactic(auto)]
+
 ghost use Rattle.std.specs.Prelude.{◌≡◌, ◌<◌, get_or};
 ghost use Rattle.model.specs.Inputs.{inputs};
 ghost use Rattle.call.specs.Call.{lent, left, call_of};

@@ -1,5 +1,7 @@
 // The fit over a lent list of blocks under C's calling convention, for include/glmm.h: a slice is a pointer and a length, a record is C's struct.
 // Nothing is required of any argument. The lengths of the work buffers stand here again, by the definitions of glmm_c's: an archive has the functions of one crate.
+#![tactic(auto)]
+
 ghost use Rattle.std.specs.Prelude.{◌≡◌, cond};
 ghost use Rattle.model.specs.Names.{link_coded, start_coded};
 ghost use Rattle.job.specs.Job.{limit_from};

@@ -1,4 +1,5 @@
 // Runs the functions of `base` on special values and prints every bit, one line a call.
+#![tactic(auto)]
 
 // The tests and the sign of one number, and what the clamps leave of it.
 fn one(x: f64) {

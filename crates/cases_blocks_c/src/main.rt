@@ -1,6 +1,8 @@
 // Calls `blocks_c::glmm_fit_blocks` with lists of none, one and two blocks. Prints the answer, and what stands in every array.
 // Every array holds 9.25 before a call, and a call is lent the beginnings of the arrays: what stands behind must stay. A call is fed as
 // tools/cases/blocks_c.py says.
+#![tactic(auto)]
+
 use blocks::Block;
 use blocks_c::{CodedSettings, PlainAnswer};
 

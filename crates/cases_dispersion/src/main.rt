@@ -1,4 +1,6 @@
 // Runs the numbers of the dispersion loop, and the loop itself over inner fits whose deviance sums are given, and prints every bit.
+#![tactic(auto)]
+
 use dispersion::Round;
 
 // The sum of the weights, at least 1; 1 for each where there are none.

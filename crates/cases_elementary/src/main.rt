@@ -1,4 +1,6 @@
 // Runs the elementary functions, as elementary_c hands them to C, on special arguments, on drawn ones and on fed ones, and prints every bit: the argument, sqrt, exp, ln, ln_1p, exp_m1, ln_gamma, norm_cdf, norm_pdf, norm_quantile.
+#![tactic(auto)]
+
 ghost use Rattle.std.specs.Prelude.{◌+◌, ◌<◌, ◌≤◌};
 
 // Subnormals; the neighbours of -1, 1 and 2; then where the algorithms' branches begin, with their neighbours.

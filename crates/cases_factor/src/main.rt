@@ -1,5 +1,7 @@
 // Factors small matrices, well and badly scaled, solves with the factors, one right side or several, and inverts them, and prints every bit.
 // What stands above a diagonal is NaN in the matrix and 9 in the buffer: the first is not read, the second stays.
+#![tactic(auto)]
+
 ghost use Rattle.std.specs.Prelude.{◌*◌, ◌≤◌, ◌<◌};
 
 use factor::Factored;

@@ -1,4 +1,6 @@
 // Runs the links and families on special and ordinary values and prints every bit, one line a call; then which pairs are valid and what is carried.
+#![tactic(auto)]
+
 use family::{CarriedFamily, CarriedLink};
 use model::{Family, Link};
 

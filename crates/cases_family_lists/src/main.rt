@@ -1,5 +1,7 @@
 // Runs the list functions and the AIC on special and ordinary lists and prints every bit, one line a call or a few.
 // The steps are fed as tools/cases/family_lists.py says: each a code, a word to print, and the numbers that its lists are parts of.
+#![tactic(auto)]
+
 use family::{CarriedFamily, CarriedLink};
 use family_lists::{AicAnswer, ListAnswer};
 

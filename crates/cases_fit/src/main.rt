@@ -1,6 +1,8 @@
 // Calls the fit with lent slices of given lengths. Prints the answer, every bit of each result that was written, and what stands in the work slices.
 // Every array holds 9.25 before a call, and a call is lent the beginnings of the arrays: what stands behind must stay. A call is fed as
 // tools/cases/fit.py says.
+#![tactic(auto)]
+
 ghost use Rattle.std.specs.Prelude.{◌≤◌, length};
 
 use model::{Account, Answer, Settings, Shape};

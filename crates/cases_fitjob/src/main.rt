@@ -1,5 +1,7 @@
 // Answers jobs from standard input, each behind its length in three bytes, as `fitjob` answers one; before each stands a line with its number.
 // The first job is one byte longer than a job may be, and stands here.
+#![tactic(auto)]
+
 ghost use Rattle.std.specs.Prelude.{◌≤◌, length};
 
 // At most b.

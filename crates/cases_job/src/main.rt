@@ -1,5 +1,7 @@
 // Reads jobs from standard input, each behind one more than its length, and prints what reading answers and leaves in the lent slices.
 // The slices hold 9 before; of each list one number more is printed than the job has, which stays.
+#![tactic(auto)]
+
 ghost use Rattle.std.specs.Prelude.{◌≤◌, length};
 
 use model::{Account, Answer, Limit, Shape};

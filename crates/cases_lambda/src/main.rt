@@ -1,5 +1,7 @@
 // Runs Λ on three blocks (two groups of one effect, one of three, two of two) and prints where its columns stand, its products, and A, every bit.
 // Each buffer holds 9 before and is longer than what is written: the rest stays.
+#![tactic(auto)]
+
 ghost use Rattle.std.specs.Prelude.{◌≡◌, true, ◌≤◌, length};
 ghost use Rattle.model.specs.Shape.{effects_of, theta_length, good_shape};
 

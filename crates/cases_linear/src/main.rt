@@ -1,5 +1,7 @@
 // Runs the products of `linear` and `stored` on small inputs whose sums depend on their order, and prints every bit.
 // Each buffer is longer than what is written and holds 9 before: the rest stays.
+#![tactic(auto)]
+
 ghost use Rattle.std.specs.Prelude.{◌≡◌, ◌*◌, ◌≤◌, length};
 ghost use Rattle.base.specs.Sparse.{Rows};
 

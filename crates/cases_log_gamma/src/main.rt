@@ -1,4 +1,6 @@
 // Runs ln_gamma on special arguments and on fed ones, and prints every bit: the argument and the value.
+#![tactic(auto)]
+
 fn line(x: f64) {
     text::put_word(b"at");
     text::put_double(x);

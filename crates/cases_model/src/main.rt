@@ -1,5 +1,7 @@
 // Runs the functions of `model` and `layout` on sizes in and out of range and prints every answer, one line a call.
 // The calls, and the words that their lines begin with, are fed by tools/cases/model.py; sums and places, which have their ranges, stand here.
+#![tactic(auto)]
+
 ghost use Rattle.std.specs.Prelude.{◌≡◌, true, ◌≤◌};
 ghost use Rattle.model.specs.Account.{SumFits};
 ghost use Rattle.model.specs.Shape.{good_shape};

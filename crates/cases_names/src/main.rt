@@ -1,4 +1,6 @@
 // Reads and writes the names of the links and prints what came of it, one line a group.
+#![tactic(auto)]
+
 use model::Link;
 
 // The code of the link that the bytes name, 7 where they name none.

@@ -1,4 +1,6 @@
 // Runs norm_cdf, norm_pdf and norm_quantile on special arguments and on fed ones, and prints every bit: the argument and the three values.
+#![tactic(auto)]
+
 fn line(x: f64) {
     text::put_word(b"at");
     text::put_double(x);

@@ -1,4 +1,6 @@
 // Prints the five rules, the order choice over a grid of wishes, and some log sums, every bit, for comparison with the Rust.
+#![tactic(auto)]
+
 use quadrature::{Choice, Named, Order, Rule};
 
 // The order chosen, or 0 where there is none.

@@ -1,5 +1,7 @@
 // Runs the functions of `results`, and wipes work slices, and prints every bit. The lists, and the words before them, are fed by tools/cases/results.py.
 // The buffers of single functions are longer than what is written and hold 9 before: the rest stays.
+#![tactic(auto)]
+
 ghost use Rattle.std.specs.Prelude.{◌≡◌, true, ◌≤◌, length};
 ghost use Rattle.model.specs.Shape.{effects_of, theta_length, good_shape};
 

@@ -1,5 +1,7 @@
 // Asks the table of refusals of the calls on standard input: a call that is accepted, each fault by itself, and of two faults at once the first of the table.
 // Prints the number of each answer; of an accepted call also the codes of its family and link. A call is fed as tools/cases/table.py says.
+#![tactic(auto)]
+
 use family::CarriedFamily;
 use model::{Settings, Shape};
 use table::{LentLengths, Verdict};

@@ -1,6 +1,8 @@
 // Runs the tries of one iteration on two observations, and single tries, and prints every bit of what they answer and leave.
 // The rows stand one behind the other, the previous predictor, the candidate, the raw predictor and the means, and a last place stays as it was.
 // A case is fed as tools/cases/tries.py says.
+#![tactic(auto)]
+
 ghost use Rattle.std.specs.Prelude.{◌≡◌, length};
 
 use model::Account;

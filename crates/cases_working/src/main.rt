@@ -1,5 +1,7 @@
 // Runs the rows of `working` on special and ordinary values and prints every bit.
 // Each buffer is longer than what is written and holds 9 before: the rest stays.
+#![tactic(auto)]
+
 ghost use Rattle.working.specs.Optional.{Optional};
 
 use family::{CarriedFamily, CarriedLink, link_inv};

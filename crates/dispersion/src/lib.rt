@@ -1,4 +1,6 @@
 // The dispersion loop: the arithmetic of one round. The rounds themselves are defined in specs/, over any inner fit.
+#![tactic(auto)]
+
 mod phis;
 mod round;
 

@@ -1,4 +1,6 @@
 // The elementary functions on doubles, each equal to a published algorithm's ordered operations.
+#![tactic(auto)]
+
 mod expm1;
 mod expo;
 mod log;

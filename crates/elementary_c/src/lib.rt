@@ -1,4 +1,6 @@
 // The elementary functions under C's calling convention: `double` to `double`, any argument.
+#![tactic(auto)]
+
 ghost use Rattle.std.specs.Prelude.{◌≡◌};
 ghost use Rattle.elementary.specs.Exp.{exp_of};
 ghost use Rattle.elementary.specs.Expm1.{expm1_of};

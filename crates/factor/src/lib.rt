@@ -1,5 +1,7 @@
 // Factors of small symmetric matrices, substitution with them, and inverses. A matrix of size s stands row by row, entry (i, j) at i * s + j,
 // and only its lower triangle is read.
+#![tactic(auto)]
+
 mod factors;
 mod inverses;
 mod pivots;

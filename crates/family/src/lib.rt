@@ -1,4 +1,6 @@
 // The links and families for one number, and what of them is carried.
+#![tactic(auto)]
+
 mod carried;
 mod families;
 mod links;

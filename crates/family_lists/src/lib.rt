@@ -1,4 +1,6 @@
 // The links and families over lent lists, and the AIC.
+#![tactic(auto)]
+
 mod aics;
 mod lists;
 

@@ -1,5 +1,7 @@
 // What the test programs are fed on standard input: words of eight bytes, the highest byte first, and names behind their lengths.
 // Where the input ends each word is zero.
+#![tactic(auto)]
+
 ghost use Rattle.std.specs.Prelude.{◌≤◌};
 
 use model::{Family, FamilyFound, Limit, Link, LinkFound, Start, StartFound};

@@ -1,4 +1,6 @@
 // The program: one job from standard input, its answer on standard output. What each read leads to is `intake`'s contract, what is printed of a job is `respond`'s.
+#![tactic(auto)]
+
 ghost use Rattle.std.specs.Prelude.{◌≤◌, length};
 ghost use Rattle.fitjob.specs.Input.{held_of, Printed};
 

@@ -1,4 +1,6 @@
 // The program: one job and its responses from standard input, the answer to each on standard output. What is printed of the bytes is `manytext`'s contract and its law `printed-is`.
+#![tactic(auto)]
+
 ghost use Rattle.std.specs.Prelude.{◌≤◌, length};
 ghost use Rattle.manytext.specs.Input.{input_room};
 ghost use Rattle.manytext.specs.Text.{response_room};

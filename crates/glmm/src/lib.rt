@@ -1,4 +1,6 @@
 // One call of the fit.
+#![tactic(auto)]
+
 mod accepted;
 mod calls;
 mod writing;

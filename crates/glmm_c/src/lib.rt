@@ -1,5 +1,7 @@
 // The fit under C's calling convention, for include/glmm.h: a slice is a pointer and a length. Nothing is required of any argument.
 // The elementary functions stand here again, by the definitions of elementary_c's: an archive has the functions of one crate.
+#![tactic(auto)]
+
 ghost use Rattle.std.specs.Prelude.{◌≡◌};
 ghost use Rattle.elementary.specs.Exp.{exp_of};
 ghost use Rattle.elementary.specs.Expm1.{expm1_of};

@@ -1,4 +1,6 @@
 // The product rule over the work slices: group by group, each with one effect or with several.
+#![tactic(auto)]
+
 mod group;
 mod product;
 

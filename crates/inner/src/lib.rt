@@ -1,4 +1,6 @@
 // The inner fit with its quadrature, as the written rule has it.
+#![tactic(auto)]
+
 mod answers;
 mod fits;
 mod quadratures;

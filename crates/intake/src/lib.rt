@@ -1,4 +1,6 @@
 // Reading an input of unknown length into a space: what one read leads to.
+#![tactic(auto)]
+
 ghost use Rattle.std.specs.Prelude.{◌≡◌, pos, ◌≤ℤ◌};
 ghost use Rattle.intake.specs.Intake.{after_bytes, after_read};
 

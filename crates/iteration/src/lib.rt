@@ -1,4 +1,6 @@
 // One iteration of the inner fit, over the three work slices.
+#![tactic(auto)]
+
 mod iterates;
 mod raws;
 mod roots;

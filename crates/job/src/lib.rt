@@ -1,4 +1,6 @@
 // The job format: which jobs are sound, and where the numbers of a job of fitting sizes stand.
+#![tactic(auto)]
+
 mod faults;
 mod head;
 mod sizes;

@@ -1,4 +1,6 @@
 // A call of the fit with the bytes of a job: read, refused or fitted, and told in lent buffers.
+#![tactic(auto)]
+
 mod asked;
 mod counts;
 mod whole;

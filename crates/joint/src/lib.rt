@@ -1,4 +1,6 @@
 // The joint rule over the work slices.
+#![tactic(auto)]
+
 mod steps;
 
 pub use steps::joint_step;

@@ -1,4 +1,6 @@
 // Λ, which theta and the shape make, and its products.
+#![tactic(auto)]
+
 mod column;
 mod products;
 mod systems;

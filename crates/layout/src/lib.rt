@@ -5,6 +5,8 @@
 // `matrices`: S holds A to the quadrature's end; I belongs to the quadrature; W to one iteration; P, u and β live to the results.
 // `terms`: the pieces named here live until the first log term is formed. Two parts of one slice cannot be lent at once,
 // so what is read and what is written stand in different slices wherever both are large.
+#![tactic(auto)]
+
 mod matrices;
 mod products;
 mod rows;

@@ -1,4 +1,6 @@
 // Products with X and with the solved columns, as plain loops in document 01's order.
+#![tactic(auto)]
+
 mod crosses;
 mod product;
 

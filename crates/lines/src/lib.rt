@@ -1,4 +1,6 @@
 // The lines of the output, each written into the front of a lent buffer. Every function that writes answers the place behind what it wrote.
+#![tactic(auto)]
+
 ghost use Rattle.std.specs.Prelude.{◌≡◌, [], ◌+◌, ◌≤◌, ◌<◌, length, drop};
 ghost use Rattle.lines.specs.Decimals.{decimals, trimmed, decimal_of};
 ghost use Rattle.lines.specs.Lines.{pairs_text, flag_of, account_pairs, tail_pairs, tail_most, end_line, refused_line, response_line, value_line, Appended, Paired, Written};

@@ -1,4 +1,6 @@
 // The logarithm of gamma on doubles: a published algorithm's ordered operations.
+#![tactic(auto)]
+
 mod gamma;
 mod near;
 

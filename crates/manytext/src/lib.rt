@@ -1,4 +1,6 @@
 // What is printed of a call of many responses: from the bytes that were read to the buffers of the call, and from these to the text, piece by piece.
+#![tactic(auto)]
+
 mod input;
 mod pieces;
 mod text;

@@ -1,4 +1,6 @@
 // What a call of the fit is made of, by value: names, sizes, account and answer.
+#![tactic(auto)]
+
 mod counts;
 mod ends;
 mod names;

@@ -1,4 +1,6 @@
 // The names of the links.
+#![tactic(auto)]
+
 ghost use Rattle.std.specs.Prelude.{◌≡◌, map};
 ghost use Rattle.names.specs.Names.{is_blank, lower_of, same_bytes, all_links, named_among, parse_of, name_bytes};
 ghost use Rattle.names.specs.Trimmed.{FrontAt, EndAt};

@@ -1,4 +1,6 @@
 // The normal distribution function, its density and its quantile on doubles, each equal to a published algorithm's ordered operations.
+#![tactic(auto)]
+
 mod distribution;
 mod far;
 mod near;

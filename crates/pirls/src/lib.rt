@@ -1,4 +1,6 @@
 // The inner fit, as the written rule has it.
+#![tactic(auto)]
+
 mod run;
 
 pub use run::{Ended, InnerFit, inner_fit};

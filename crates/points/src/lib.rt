@@ -1,4 +1,6 @@
 // What happens at one point of a quadrature: its nodes and log weight, the effects there, and the deviance that they give.
+#![tactic(auto)]
+
 mod gains;
 mod grid;
 mod trials;

@@ -1,1 +1,2 @@
 // What the functions at the edge ask and ensure is stated once more in proofs/, so that a weaker contract is refused: there is no code here.
+#![tactic(auto)]

@@ -1,4 +1,6 @@
 // Gauss-Hermite quadrature: orders, rules, and the logarithm of a sum of exponentials.
+#![tactic(auto)]
+
 mod logsum;
 mod orders;
 mod rules;

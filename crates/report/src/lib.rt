@@ -1,4 +1,6 @@
 // All that is printed of one answer, in a lent buffer: a refusal's line, or the end line, and behind it the values where the call is fitted.
+#![tactic(auto)]
+
 ghost use Rattle.std.specs.Prelude.{◌+◌, ◌*◌, ◌≤◌, length};
 ghost use Rattle.lines.specs.Lines.{value_line, Written};
 ghost use Rattle.results.specs.Nine.{nine};

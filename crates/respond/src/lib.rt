@@ -1,4 +1,6 @@
 // From the bytes of a job to the bytes that are printed.
+#![tactic(auto)]
+
 mod flat;
 mod whole;
 

@@ -1,4 +1,6 @@
 // What is made of a mode for the nine lent results, and the one function that writes them.
+#![tactic(auto)]
+
 mod fixed;
 mod responses;
 mod writer;

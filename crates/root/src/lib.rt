@@ -1,4 +1,6 @@
 // The square root of a double, nearest to the root, from operations and bits.
+#![tactic(auto)]
+
 mod nearest;
 
 ghost use Rattle.std.specs.Prelude.{◌≡◌, ◌+◌, ◌*◌, ◌^◌, ◌<◌, ◌≤◌};

@@ -1,4 +1,6 @@
 // The fit of an accepted call over the work slices: the dispersion loop, or one inner fit.
+#![tactic(auto)]
+
 mod dispersing;
 mod starting;
 mod totals;

@@ -1,4 +1,6 @@
 // How far a group's quadrature points lie from the mode, over the work slices: one effect a group, or several.
+#![tactic(auto)]
+
 mod scales;
 mod sections;
 mod sigmas;

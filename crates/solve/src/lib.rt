@@ -1,4 +1,6 @@
 // One solve of an iteration over the work slices, step by step as the rule has it.
+#![tactic(auto)]
+
 mod betas;
 mod effects;
 mod sides;

@@ -1,4 +1,6 @@
 // Products with Z', which is stored by its rows: row starts, columns, values.
+#![tactic(auto)]
+
 mod effects;
 mod marks;
 mod side;

@@ -1,4 +1,6 @@
 // The log sums of the quadrature over the work slices: what every sum has, and a group with one effect.
+#![tactic(auto)]
+
 mod answers;
 mod one;
 

@@ -1,4 +1,6 @@
 // The published tables of exp and ln, row by row.
+#![tactic(auto)]
+
 mod exptable;
 mod logtable;
 

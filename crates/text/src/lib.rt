@@ -1,4 +1,6 @@
 // How the programs write numbers: a double is its bit pattern in sixteen upper-case hexadecimal digits, a count is decimal.
+#![tactic(auto)]
+
 mod specials;
 
 ghost use Rattle.std.specs.Prelude.{◌≡◌, ◌<◌, ◌≤◌, length};

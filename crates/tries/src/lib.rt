@@ -1,4 +1,6 @@
 // The tries of one iteration of the inner fit.
+#![tactic(auto)]
+
 mod passes;
 mod search;
 

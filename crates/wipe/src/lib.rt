@@ -1,4 +1,6 @@
 // After an accepted call the named lengths of the work slices are +0.0.
+#![tactic(auto)]
+
 ghost use Rattle.std.specs.Prelude.{◌≤◌, length};
 ghost use Rattle.layout.specs.WorkRows.{rows_length};
 ghost use Rattle.layout.specs.WorkMatrices.{matrices_length};

@@ -1,4 +1,6 @@
 // The rows of the inner fit, one number for each observation, as plain loops over lent slices.
+#![tactic(auto)]
+
 mod offsets;
 mod starting;
 mod stopping;
