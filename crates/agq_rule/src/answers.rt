@@ -5,7 +5,7 @@ ghost use Rattle.agq_rule.specs.Inner.{deviance_by, order_by, why_by};
 use quadrature::{Decline, Order, decline_number, order_size};
 
 // A deviance with the order that was used, or why there is none.
-#[derive(Drop)]
+#[derive(Clone, Copy)]
 pub enum Integral {
     Deviance(f64, Order),
     Declined(Decline),

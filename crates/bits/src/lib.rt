@@ -7,7 +7,7 @@ ghost use Rattle.base.specs.Sum.{◌!!◌};
 ghost use Rattle.bits.specs.Bits.{bits_of, double_of, Near};
 
 // A job's bytes, and how many of its bits were passed.
-#[derive(Drop)]
+#[derive(Clone, Copy)]
 pub struct BitReader<'a> {
     pub src: &'a [u8],
     pub at: usize,

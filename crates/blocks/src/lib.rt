@@ -10,7 +10,7 @@ use model::{Answer, Settings, Shape};
 
 // m groups with k effects each, laid out as C's struct for `blocks_c`.
 #[repr(C)]
-#[derive(Drop)]
+#[derive(Clone, Copy)]
 pub struct Block {
     pub m: usize,
     pub k: usize,

@@ -17,7 +17,7 @@ use model::{Answer, Family, FamilyFound, Limit, Link, LinkFound, Settings, Start
 
 // The settings of a call with the family, the link, the limit and the start as a job has them: by their codes, and 1023 for a limit that is not given. What requests append stands last, so that no field moves.
 #[repr(C)]
-#[derive(Drop)]
+#[derive(Clone, Copy)]
 pub struct CodedSettings {
     pub family: usize,
     pub link: usize,
@@ -32,7 +32,7 @@ pub struct CodedSettings {
 
 // An answer as plain numbers; the flag is 0 or 1. What requests append stands last, so that no field moves.
 #[repr(C)]
-#[derive(Drop)]
+#[derive(Clone, Copy)]
 pub struct PlainAnswer {
     pub number: u64,
     pub deviance: f64,

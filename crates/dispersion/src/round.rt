@@ -5,7 +5,7 @@ ghost use Rattle.dispersion.specs.Phi.{next_at, next_by, round_of};
 use crate::phis::{close, estimate, mixed, unusable};
 
 // The inner fit stands, or another follows at this phi.
-#[derive(Drop)]
+#[derive(Clone, Copy)]
 pub enum Round {
     Settled,
     Next(f64),

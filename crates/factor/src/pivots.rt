@@ -3,7 +3,7 @@ ghost use Rattle.std.specs.Prelude.{◌≡◌};
 ghost use Rattle.factor.specs.Triangle.{usable, positive};
 
 // Every pivot passed its test, or this is the first that did not.
-#[derive(Drop)]
+#[derive(Clone, Copy)]
 pub enum Factored {
     Done,
     Bad(usize),

@@ -5,7 +5,7 @@ ghost use Rattle.family.specs.Carried.{carried_link, link_of, carried_family, de
 use model::{Family, Link};
 
 // The links that have their formulas here.
-#[derive(Drop)]
+#[derive(Clone, Copy)]
 pub enum CarriedLink {
     Logit,
     Probit,
@@ -17,7 +17,7 @@ pub enum CarriedLink {
 }
 
 // The families that have their formulas here.
-#[derive(Drop)]
+#[derive(Clone, Copy)]
 pub enum CarriedFamily {
     Binomial,
     Poisson,

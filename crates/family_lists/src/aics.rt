@@ -14,7 +14,7 @@ use family::{CarriedFamily, ln_dgamma};
 const PI: f64 = 3.141592653589793;
 
 // The AIC, or that the lists differ in length.
-#[derive(Drop)]
+#[derive(Clone, Copy)]
 pub enum AicAnswer {
     Value(f64),
     LengthsDiffer,

@@ -9,7 +9,7 @@ use family::{
 };
 
 // What became of the output: written whole, or, as the lists differ in length, not touched.
-#[derive(Drop)]
+#[derive(Clone, Copy)]
 pub enum ListAnswer {
     Written,
     LengthsDiffer,

@@ -9,7 +9,7 @@ use pirls::{Ended, InnerFit};
 use sums::Quadrature;
 
 // What an inner fit answers beside what stands in the work slices; without a result all but end and account is zero.
-#[derive(Drop)]
+#[derive(Clone, Copy)]
 pub struct InnerAnswer {
     pub end: Ended,
     pub iterations: usize,

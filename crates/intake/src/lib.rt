@@ -5,7 +5,7 @@ ghost use Rattle.std.specs.Prelude.{◌≡◌, pos, ◌≤ℤ◌};
 ghost use Rattle.intake.specs.Intake.{after_bytes, after_read};
 
 // What an input came to: it ended behind so many bytes, it goes on behind a full space, or it could not be read.
-#[derive(Drop)]
+#[derive(Clone, Copy)]
 pub enum Input {
     Held(usize),
     TooLong,
@@ -13,7 +13,7 @@ pub enum Input {
 }
 
 // What one read leads to: so many bytes are there and the input may go on, or reading has ended.
-#[derive(Drop)]
+#[derive(Clone, Copy)]
 pub enum Step {
     More(usize),
     Ended(Input),

@@ -16,7 +16,7 @@ use stages::weigh;
 use tries::TriesEnd;
 
 // What became of an iteration: no solve, with its end; no step accepted, with the account of the tries; or moved, with PWRSS and that account.
-#[derive(Drop)]
+#[derive(Clone, Copy)]
 pub enum Iteration {
     Unsolvable(End),
     Stuck(Account),

@@ -16,7 +16,7 @@ use model::{End, Shape};
 use solve::factor_system;
 
 // A solve found u, or has the end 10 or 11.
-#[derive(Drop)]
+#[derive(Clone, Copy)]
 pub enum Solving {
     Found,
     Unsolved(End),

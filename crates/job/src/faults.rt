@@ -8,7 +8,7 @@ use crate::head::{Head, piece_in};
 use crate::sizes::blocks_at;
 
 // What is wrong with a job: nothing, or a refusal's number and its byte.
-#[derive(Drop)]
+#[derive(Clone, Copy)]
 pub enum Fault {
     Sound,
     At(u64, usize),

@@ -3,7 +3,7 @@ ghost use Rattle.std.specs.Prelude.{◌≡◌, ◌<◌, ◌^◌};
 ghost use Rattle.job.specs.Heads.{head_of, piece_of};
 
 // The fields of the header.
-#[derive(Drop)]
+#[derive(Clone, Copy)]
 pub struct Head {
     pub version: usize,
     pub family: usize,
@@ -18,7 +18,7 @@ pub struct Head {
 }
 
 // The fields of a block.
-#[derive(Drop)]
+#[derive(Clone, Copy)]
 pub struct Piece {
     pub m: usize,
     pub k: usize,

@@ -9,7 +9,7 @@ use crate::head::{Head, piece_in};
 use model::Shape;
 
 // How many numbers a job holds of each kind; weights and offset are 0 where absent.
-#[derive(Drop)]
+#[derive(Clone, Copy)]
 pub struct Counts {
     pub n: usize,
     pub q: usize,
@@ -20,7 +20,7 @@ pub struct Counts {
 }
 
 // At which byte each list begins.
-#[derive(Drop)]
+#[derive(Clone, Copy)]
 pub struct Places {
     pub theta: usize,
     pub y: usize,

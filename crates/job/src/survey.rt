@@ -10,7 +10,7 @@ use crate::sizes::{Counts, Places, blocks_at, counts_in, places_in, shape_in, si
 use model::Shape;
 
 // The first fault, and where there is none, what the job says of itself.
-#[derive(Drop)]
+#[derive(Clone, Copy)]
 pub struct Survey {
     pub fault: Fault,
     pub head: Head,

@@ -6,7 +6,7 @@ ghost use Rattle.lambda.specs.Column.{column_start, column_of};
 use model::Shape;
 
 // Column j of Λ holds the numbers of theta from `first` on, `count` of them, in its rows from j on.
-#[derive(Drop)]
+#[derive(Clone, Copy)]
 pub struct Column {
     pub first: usize,
     pub count: usize,

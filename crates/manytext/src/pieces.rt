@@ -5,7 +5,7 @@ ghost use Rattle.manytext.specs.Pieces.{pieces_of};
 use model::Settings;
 
 // One line of a refusal, its number and its byte; or as many responses, with the sizes that say where each stands.
-#[derive(Drop)]
+#[derive(Clone, Copy)]
 pub enum Pieces {
     Refusal(u64, usize),
     Responses(usize, Settings),

@@ -3,7 +3,7 @@ ghost use Rattle.std.specs.Prelude.{◌≡◌};
 ghost use Rattle.model.specs.Account.{no_counts, ◌⊞◌, one_fit, one_solve, points_of, SumFits};
 
 // Inner fits, solves, tried steps and grid points, and of the tries those refused for eta, for a mean and for PWRSS, and those accepted.
-#[derive(Drop)]
+#[derive(Clone, Copy)]
 pub struct Account {
     pub fits: u64,
     pub solves: u64,

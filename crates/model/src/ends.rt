@@ -5,7 +5,7 @@ ghost use Rattle.model.specs.Answer.{end_number, refusal_number, is_end, blank_a
 use crate::counts::Account;
 
 // Why an accepted call has no result.
-#[derive(Drop)]
+#[derive(Clone, Copy)]
 pub enum End {
     // A has no LDL' factors: a pivot cannot be divided by.
     SystemPivot,
@@ -18,7 +18,7 @@ pub enum End {
 }
 
 // Why a call is not accepted, in the order of the tests.
-#[derive(Drop)]
+#[derive(Clone, Copy)]
 pub enum Refusal {
     // The sizes are not all in range, or Z' has not one row for each effect.
     OutOfRange,
@@ -42,7 +42,7 @@ pub enum Refusal {
 
 // What a call answers beside the lent results. `why` is 0 where a rule of that order was used, else the
 // reason for staying with Laplace; `converged` is the flag of the dispersion loop.
-#[derive(Drop)]
+#[derive(Clone, Copy)]
 pub struct Answer {
     pub number: usize,
     pub deviance: f64,

@@ -3,7 +3,7 @@ ghost use Rattle.std.specs.Prelude.{◌≡◌};
 ghost use Rattle.model.specs.Names.{family_code, family_coded, link_code, link_coded, start_code, start_coded, is_inverse, limit_of};
 
 // A family's code is its place here.
-#[derive(Drop)]
+#[derive(Clone, Copy)]
 pub enum Family {
     Binomial,
     Poisson,
@@ -12,7 +12,7 @@ pub enum Family {
 }
 
 // A link's code is its place here.
-#[derive(Drop)]
+#[derive(Clone, Copy)]
 pub enum Link {
     Logit,
     Probit,
@@ -24,35 +24,35 @@ pub enum Link {
 }
 
 // What a code or a name stands for, which may be no family.
-#[derive(Drop)]
+#[derive(Clone, Copy)]
 pub enum FamilyFound {
     Found(Family),
     NoSuch,
 }
 
 // What a code or a name stands for, which may be no link.
-#[derive(Drop)]
+#[derive(Clone, Copy)]
 pub enum LinkFound {
     Found(Link),
     NoSuch,
 }
 
 // How the starting means are made: by the family's rule, or with the weights as trial counts. A start's code is its place here.
-#[derive(Drop)]
+#[derive(Clone, Copy)]
 pub enum Start {
     Usual,
     Trials,
 }
 
 // What a code stands for, which may be no start.
-#[derive(Drop)]
+#[derive(Clone, Copy)]
 pub enum StartFound {
     Found(Start),
     NoSuch,
 }
 
 // The limit of iterations: a number, or left to the link.
-#[derive(Drop)]
+#[derive(Clone, Copy)]
 pub enum Limit {
     Given(usize),
     NotGiven,

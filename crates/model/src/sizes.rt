@@ -6,7 +6,7 @@ ghost use Rattle.model.specs.Settings.{good_limit, good_sizes};
 use crate::names::{Family, Limit, Link, Start};
 
 // The blocks of random effects: block i has m[i] groups of k[i] effects. Only the first `count` of each row are looked at.
-#[derive(Drop)]
+#[derive(Clone, Copy)]
 pub struct Shape {
     pub count: usize,
     pub m: [usize; 8],
@@ -14,7 +14,7 @@ pub struct Shape {
 }
 
 // The plain numbers of a call: n observations, p columns of X, how many rows and entries Z' has, and how the starting means are made.
-#[derive(Drop)]
+#[derive(Clone, Copy)]
 pub struct Settings {
     pub family: Family,
     pub link: Link,

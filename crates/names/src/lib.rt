@@ -8,7 +8,7 @@ ghost use Rattle.names.specs.Trimmed.{FrontAt, EndAt};
 use model::{Link, LinkFound};
 
 // A name: the first `count` of the bytes, with zeros behind them.
-#[derive(Drop)]
+#[derive(Clone, Copy)]
 pub struct LinkName {
     pub bytes: [u8; 8],
     pub count: usize,

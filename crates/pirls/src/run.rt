@@ -17,14 +17,14 @@ use stages::{AtStop, stop};
 use working::start_eta;
 
 // Whether an inner fit has a result.
-#[derive(Drop)]
+#[derive(Clone, Copy)]
 pub enum Ended {
     Stopped,
     Failed(End),
 }
 
 // What an inner fit answers beside what stands in the work slices; without a result all but end and account is zero.
-#[derive(Drop)]
+#[derive(Clone, Copy)]
 pub struct InnerFit {
     pub end: Ended,
     pub iterations: usize,

@@ -3,7 +3,7 @@ ghost use Rattle.std.specs.Prelude.{◌≡◌, ◌≤◌};
 ghost use Rattle.quadrature.specs.Orders.{size_of, decline_number, order_of, wished, within_cap, next_lower, capped_from, product_order, joint_order};
 
 // The orders that have a rule.
-#[derive(Drop)]
+#[derive(Clone, Copy)]
 pub enum Order {
     Three,
     Five,
@@ -15,7 +15,7 @@ pub enum Order {
 // Why a quadrature declines, in the order in which the places are met: the wish is below 2; the effects
 // are none or too many for the joint rule; the cap left no order; then, in the step itself, a diagonal
 // entry, a pivot of the inverse, a pivot of its factor, a log sum.
-#[derive(Drop)]
+#[derive(Clone, Copy)]
 pub enum Decline {
     Wish,
     Effects,
@@ -27,21 +27,21 @@ pub enum Decline {
 }
 
 // An order, or why there is none.
-#[derive(Drop)]
+#[derive(Clone, Copy)]
 pub enum Choice {
     Use(Order),
     Without(Decline),
 }
 
 // What a number names: an order, or nothing that has a rule.
-#[derive(Drop)]
+#[derive(Clone, Copy)]
 pub enum Named {
     Known(Order),
     NoRule,
 }
 
 // One order below another, or nothing below the lowest.
-#[derive(Drop)]
+#[derive(Clone, Copy)]
 pub enum Lower {
     To(Order),
     Nothing,

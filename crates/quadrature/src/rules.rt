@@ -145,7 +145,7 @@ const GH_W11: [f64; 11] = [
 ];
 
 // A rule: its first `size` nodes and weights.
-#[derive(Drop)]
+#[derive(Clone, Copy)]
 pub struct Rule {
     pub size: usize,
     pub nodes: [f64; 11],

@@ -14,7 +14,7 @@ use job::{Counts, Fault, Head, Places};
 use model::{Family, FamilyFound, Limit, Link, LinkFound, Settings, Shape, Start, StartFound};
 
 // What is told of an accepted job beside its lists: the plain numbers of the call, and the lengths of theta, weights and offset.
-#[derive(Drop)]
+#[derive(Clone, Copy)]
 pub struct Header {
     pub settings: Settings,
     pub thetas: usize,
@@ -23,14 +23,14 @@ pub struct Header {
 }
 
 // A refusal's number and byte, or what is told of the job.
-#[derive(Drop)]
+#[derive(Clone, Copy)]
 pub enum Reading {
     Refused(u64, usize),
     Accepted(Header),
 }
 
 // What reading a job finds: the reading, and beside it the job's blocks, none where it is refused.
-#[derive(Drop)]
+#[derive(Clone, Copy)]
 pub struct Found {
     pub reading: Reading,
     pub shape: Shape,

@@ -8,7 +8,7 @@ use model::{Account, Answer};
 use pirls::Ended;
 
 // What a fit answers, whether it has a result, and in which row its predictor stands then.
-#[derive(Drop)]
+#[derive(Clone, Copy)]
 pub struct Fit {
     pub fitted: bool,
     pub in_second: bool,

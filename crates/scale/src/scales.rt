@@ -7,7 +7,7 @@ use layout::inverse_at;
 use quadrature::Decline;
 
 // The factor was found, or why not.
-#[derive(Drop)]
+#[derive(Clone, Copy)]
 pub enum Scaling {
     Scaled,
     Unscaled(Decline),

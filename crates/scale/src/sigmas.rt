@@ -9,7 +9,7 @@ use base::EPSILON;
 use quadrature::Decline;
 
 // Sigma, or why there is none.
-#[derive(Drop)]
+#[derive(Clone, Copy)]
 pub enum OneScale {
     Sigma(f64),
     NoSigma(Decline),

@@ -15,7 +15,7 @@ use family::CarriedFamily;
 use working::{deviance_sum, fit_term, log_pivots, mode_deviances};
 
 // The numbers of a stop.
-#[derive(Drop)]
+#[derive(Clone, Copy)]
 pub struct AtStop {
     pub deviance_sum: f64,
     pub fit: f64,

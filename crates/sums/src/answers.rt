@@ -9,21 +9,21 @@ use base::EPSILON;
 use quadrature::{Decline, log_sum_exp};
 
 // A log sum, or why there is none.
-#[derive(Drop)]
+#[derive(Clone, Copy)]
 pub enum Summed {
     LogSum(f64),
     NoSum(Decline),
 }
 
 // The log sum of a group, and how many points it took.
-#[derive(Drop)]
+#[derive(Clone, Copy)]
 pub struct GroupSum {
     pub sum: Summed,
     pub points: usize,
 }
 
 // What a quadrature step answers, and how many points it took.
-#[derive(Drop)]
+#[derive(Clone, Copy)]
 pub struct Quadrature {
     pub answer: Integral,
     pub points: usize,

@@ -9,7 +9,7 @@ use family::{CarriedFamily, CarriedLink};
 use model::{Refusal, Settings, Shape};
 
 // How long the lent results and the lent work slices are.
-#[derive(Drop)]
+#[derive(Clone, Copy)]
 pub struct LentLengths {
     pub beta: usize,
     pub se: usize,
@@ -26,7 +26,7 @@ pub struct LentLengths {
 }
 
 // What becomes of a call: it is fitted by the formulas of its family and link, or refused.
-#[derive(Drop)]
+#[derive(Clone, Copy)]
 pub enum Verdict {
     Accepted(CarriedFamily, CarriedLink),
     Refused(Refusal),

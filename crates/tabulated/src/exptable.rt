@@ -4,7 +4,7 @@ ghost use Rattle.std.specs.Prelude.{◌≡◌, ◌<◌};
 ghost use Rattle.tabulated.specs.ExpTable.{exp_row};
 
 // The bits of t, and those of s less i * 2^45.
-#[derive(Drop)]
+#[derive(Clone, Copy)]
 pub struct ExpRow {
     pub tail: u64,
     pub scale: u64,

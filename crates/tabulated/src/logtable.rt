@@ -4,7 +4,7 @@ ghost use Rattle.std.specs.Prelude.{◌≡◌, ◌<◌};
 ghost use Rattle.tabulated.specs.LogTable.{log_row};
 
 // 1/c, ln c, and c as centre + rest.
-#[derive(Drop)]
+#[derive(Clone, Copy)]
 pub struct LogRow {
     pub inverse: f64,
     pub log: f64,

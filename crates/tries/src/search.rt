@@ -11,7 +11,7 @@ use family::{CarriedLink, link_of};
 use model::{Account, is_inverse};
 
 // What became of a candidate: the first of the three tests that it failed, or its PWRSS.
-#[derive(Drop)]
+#[derive(Clone, Copy)]
 pub enum Try {
     EtaRefused,
     MeanRefused,
@@ -20,7 +20,7 @@ pub enum Try {
 }
 
 // What became of the tries: the PWRSS of the one that was accepted, if one was, and their account.
-#[derive(Drop)]
+#[derive(Clone, Copy)]
 pub enum TriesEnd {
     Moved(f64, Account),
     NoMove(Account),

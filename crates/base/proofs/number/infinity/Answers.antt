@@ -1,0 +1,13 @@
+-- `base::infinity` meets its contract: the pattern's fields are all ones and zero.
+use mathlib.Core.Path.{refl}
+use lib.Ieee.{of_bits, nan_bits}
+use borrow.Author.Rules.{rules}
+use Rattle.base.proofs.number.infinity.Goals as goal
+
+pub float_from_bits-result : goal.float_from_bits-result
+unfolding nan_bits
+float_from_bits-result c = search rules
+
+pub returns : goal.returns
+unfolding of_bits
+returns c = refl

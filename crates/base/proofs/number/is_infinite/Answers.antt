@@ -1,0 +1,10 @@
+-- `base::is_infinite` meets its contract: what is neither finite nor NaN is infinite.
+use mathlib.Core.Path.{sym, ◌∙◌}
+use Rattle.base.proofs.Doubles.{finite_is_not, infinite_or_nan}
+use Rattle.base.proofs.number.is_infinite.Goals as goal
+
+pub returns-then-is_finite : goal.returns-then-is_finite
+returns-then-is_finite c = finite_is_not _ (sym c.is_finite.ensures ∙ c.if-is_finite.true)
+
+pub returns : goal.returns
+returns c = rw c.is_nan.ensures (infinite_or_nan _ (sym c.is_finite.ensures ∙ c.if-is_finite.false))

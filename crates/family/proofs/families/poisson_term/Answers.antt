@@ -1,0 +1,12 @@
+-- `family::poisson_term` meets its contract: its test is the definition's.
+use Rattle.base.specs.Sum.{add_where}
+use Rattle.family.specs.Family.{poisson_term}
+use Rattle.family.proofs.families.poisson_term.Goals as goal
+
+pub returns-then-y : goal.returns-then-y
+unfolding poisson_term add_where
+returns-then-y c = rw (c.ln.ensures, c.if-y.true)
+
+pub returns : goal.returns
+unfolding poisson_term add_where
+returns c = rw c.if-y.false

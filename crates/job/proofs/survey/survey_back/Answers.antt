@@ -1,0 +1,78 @@
+-- `job::survey_back` meets its contract: what each call answers is the definition's, and the first fault ends it. Assumes nothing.
+use mathlib.Core.Path.{◌≡◌, sym, ap, ◌∙◌}
+use mathlib.Core.Bool.{true, false}
+use native.Mathlib.Omega.{arith}
+use borrow.Author.Tests.{not-false}
+use Rattle.bits.proofs.BitLaws.{bits_below}
+use Rattle.job.specs.declared.head.Head.{Head}
+use Rattle.job.specs.Format.{sizes_fit}
+use Rattle.job.specs.Places.{counts_of, places_of}
+use Rattle.job.specs.Faults.{is_sound}
+use Rattle.job.proofs.SizeLaws.{head_short, sizes_small, counted, placed}
+use Rattle.job.proofs.SurveyLaws.{back_fault, back_unfit, back_faulty, back_sound, fits_by_lem, shape_by, ranged_by, counts_by_lem, places_by_lem, back_by}
+use Rattle.job.proofs.survey.survey_back.Goals as goal
+
+-- TURN
+fits : (c : tie.Else1) → sizes_fit c.before.before.before.before.args.s.now ≡ true
+fits c =
+    let a = c.before.before.before.before in
+    let e = sym c.before.sizes-fit.ensures ∙ not-false c.before.sizes-fit.result c.if1.false in
+    fits_by_lem a.args.s.now a.args.head c.before.before.shape-in.result true a.requires.1 c.before.before.shape-in.ensures e
+
+-- TURN
+counted_is : (c : tie.After-counts-in) → c.counts-in.result ≡ counts_of c.before.before.before.before.before.args.s.now
+counted_is c =
+    let o = c.before in
+    let a = o.before.before.before.before in
+    counts_by_lem a.args.s.now a.args.head o.before.before.shape-in.result c.counts-in.result (fits o) a.requires.1 o.before.before.shape-in.ensures c.counts-in.ensures
+
+-- TURN
+placed_is : (c : tie.After-places-in) → c.places-in.result ≡ places_of c.before.before.before.before.before.before.before.before.args.s.now
+placed_is c =
+    let b = c.before.before in
+    let n = b.before in
+    let a = n.before.before.before.before.before in
+    places_by_lem a.args.s.now b.blocks_at.result a.args.head n.counts-in.result c.places-in.result b.blocks_at.ensures a.requires.1 (counted_is n) c.places-in.ensures
+
+-- TURN
+fault_is : (c : tie.After-back-fault) → c.back-fault.result ≡ back_fault c.before.before.before.before.before.before.before.before.before.args.s.now
+fault_is c =
+    let p = c.before in
+    let n = p.before.before.before in
+    back_by n.before.before.before.before.before.args.s.now c.back-fault.result n.counts-in.result p.places-in.result (counted_is n) (placed_is p) c.back-fault.ensures
+
+pub returns-then-not-fits : goal.returns-then-not-fits
+returns-then-not-fits c =
+    let e = sym c.sizes_fit-fits.ensures ∙ c.if-not-fits.true in
+    c.unread.ensures ∙ back_unfit c.args.s.now (fits_by_lem c.args.s.now c.args.head c.shape_in-shape.result false c.requires.1 c.shape_in-shape.ensures e)
+
+pub counts_in-counts-requires : goal.counts_in-counts-requires
+counts_in-counts-requires c = ranged_by c.args.s.now c.args.head c.shape_in-shape.result (fits c) c.requires.1 c.shape_in-shape.ensures
+
+pub overflow_mul-head : goal.overflow_mul-head
+overflow_mul-head c = omega (arith, bits_below c.args.s.now 34 4, ap (λ (h : Head). h.blocks) c.requires.1)
+
+pub overflow_add-first : goal.overflow_add-first
+overflow_add-first c = omega (arith, bits_below c.args.s.now 34 4, ap (λ (h : Head). h.blocks) c.requires.1, head_short c.args.s.now, c.blocks_at-first.ensures)
+
+pub places_in-places-requires : goal.places_in-places-requires
+places_in-places-requires c = (
+      omega (arith, bits_below c.args.s.now 34 4, ap (λ (h : Head). h.blocks) c.requires.1, head_short c.args.s.now, c.blocks_at-first.ensures),
+      (counted c.args.s.now (sizes_small c.args.s.now (fits (goal.at.places_in-places-requires c).Else-not-fits)) c.counts_in-counts.result (counted_is (goal.at.places_in-places-requires c).After-counts_in-counts)).1,
+    )
+
+pub back_fault-fault-requires : goal.back_fault-fault-requires
+back_fault-fault-requires c =
+    let m = sizes_small c.args.s.now (fits (goal.at.back_fault-fault-requires c).Else-not-fits) in
+    (c.requires.0, (placed c.args.s.now m c.places_in-places.result (placed_is c)).1, (counted c.args.s.now m c.counts_in-counts.result (counted_is (goal.at.back_fault-fault-requires c).After-counts_in-counts)).1.q_few)
+
+pub returns-then-not-ok : goal.returns-then-not-ok
+returns-then-not-ok c =
+    let e : is_sound c.back_fault-fault.result ≡ false = sym c.is_sound-ok.ensures ∙ c.if-not-ok.true in
+    c.unread-then-not-ok.ensures ∙ back_faulty c.args.s.now c.back_fault-fault.result (fits (goal.at.returns-then-not-ok c).Else-not-fits) (fault_is (goal.at.returns-then-not-ok c).After-back_fault-fault) e
+
+pub returns : goal.returns
+returns c =
+    let s = c.args.s.now in
+    let e : is_sound c.back_fault-fault.result ≡ true = sym c.is_sound-ok.ensures ∙ c.if-not-ok.false in
+    back_sound s _ _ _ _ _ (fits (goal.at.returns c).Else-not-fits) (fault_is (goal.at.returns c).After-back_fault-fault) e c.requires.1 (shape_by s c.shape_in-shape.result (fits (goal.at.returns c).Else-not-fits) c.shape_in-shape.ensures) (counted_is (goal.at.returns c).After-counts_in-counts) (placed_is (goal.at.returns c).After-places_in-places)

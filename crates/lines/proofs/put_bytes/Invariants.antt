@@ -1,0 +1,13 @@
+-- `lines::put_bytes` meets its contract: the bytes passed stand behind the first `at`. Assumes nothing.
+use mathlib.Core.Path.{◌≡◌}
+use mathlib.Core.List.{◌++◌}
+use Prim.Native.Nat.{◌-◌, ◌≤◌}
+use lib.ListN.{length, take}
+use Rattle.job.specs.Lists.{laid}
+use Rattle.lines.proofs.put_bytes.Given as goal
+
+abbrev pub invariant-loop-i : goal.invariant-loop-i
+invariant-loop-i l = (l.i ≤ l.n) × (l.n ≡ length l.bytes) × (length l.out ≡ length l.initial.out) × (l.out ≡ laid (take l.at l.initial.out ++ take l.i l.bytes) l.initial.out)
+
+abbrev pub decreases-loop-i : goal.decreases-loop-i
+decreases-loop-i l = l.n - l.i

@@ -1,0 +1,12 @@
+-- `reader::link_in` meets its contract: its two arms are the definition's cases. Assumes nothing.
+use mathlib.Core.Path.{sym, ◌∙◌}
+use Rattle.job.specs.Job.{link_from}
+use Rattle.reader.proofs.whole.link_in.Goals as goal
+
+pub returns-in-Found : goal.returns-in-Found
+unfolding link_from
+returns-in-Found c = rw (sym c.link_coded.ensures ∙ c.in-Found.is)
+
+pub returns-in-NoSuch : goal.returns-in-NoSuch
+unfolding link_from
+returns-in-NoSuch c = rw (sym c.link_coded.ensures ∙ c.in-NoSuch.is)

@@ -1,0 +1,10 @@
+-- `root::nearest::by_digits` meets its contract: each turn finds the next digit, as the definition does, and after 53 turns none is left.
+use Rattle.std.proofs.Common.{◌≡◌, ◌+◌, ◌-◌, ◌*◌, ◌^◌, ◌≤◌}
+use Rattle.root.specs.Sqrt.{nearest_from}
+use Rattle.root.proofs.nearest.by_digits.Given as goal
+
+abbrev pub invariant-loop-k : goal.invariant-loop-k
+invariant-loop-k l = (l.k ≤ 53) × (l.b ≡ 2 ^ (53 - l.k)) × (l.q + l.b ≤ 0x20_0000_0000_0000) × (nearest_from (53 - l.k) l.q (l.s * 0x10_0000_0000_0000) ≡ nearest_from 53 0 (l.s * 0x10_0000_0000_0000))
+
+abbrev pub decreases-loop-k : goal.decreases-loop-k
+decreases-loop-k l = 53 - l.k

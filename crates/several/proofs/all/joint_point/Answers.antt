@@ -1,0 +1,29 @@
+-- `several::joint_point` meets its contract: Σt² is formed from the trial row, every place of which is written, and the rest is what dd, log weight and delta say.
+use mathlib.Core.Path.{refl}
+use native.Mathlib.Omega.{arith}
+use Rattle.base.proofs.Rows.{part_is}
+use Rattle.stored.specs.Stored.{sparse}
+use Rattle.agq.specs.Gained.{gain_in}
+use Rattle.several.proofs.Terms.{joint_made}
+use Rattle.several.proofs.all.joint_point.Goals as goal
+
+pub overflow_add-end : goal.overflow_add-end
+overflow_add-end c = omega (arith, c.ranges.m, c.requires.grid.in_m)
+
+pub offset_bounds-m-trial : goal.offset_bounds-m-trial
+offset_bounds-m-trial c = omega (arith, c.ranges.m, c.requires.grid.in_m)
+
+pub offset_bounds-m-trial-2 : goal.offset_bounds-m-trial-2
+offset_bounds-m-trial-2 c = omega (arith, c.ranges.m, c.requires.grid.in_m)
+
+pub log_weight-weight-requires : goal.log_weight-weight-requires
+log_weight-weight-requires c = (c.requires.grid.some, c.requires.size_in_bounds)
+
+pub returns : goal.returns
+returns c =
+    let a = c.args in
+    joint_made
+    (gain_in a.family a.link a.shape a.theta.now (sparse a.starts.now a.columns.now a.values.now) a.y.now a.weights.now
+    a.offset.now a.n a.q a.xbeta a.r.now) a.n a.q a.xbeta a.size a.l a.u a.trial a.point a.nodes.now
+    a.node-logs.now a.inv-phi a.hats a.r.now _ a.m.now _ c.requires.grid _ c.trial_gain-dd.ensures _ _ _ _
+    (part_is a.trial a.q _ _ refl) c.dot-squares.ensures c.log_weight-weight.ensures c.delta.ensures

@@ -1,0 +1,35 @@
+-- `several::trial_gain` meets its contract: the nodes and then the moved effects are written behind û, and the point's gain is theirs.
+use mathlib.Core.Path.{refl, ◌∙◌}
+use native.Mathlib.Omega.{arith}
+use Rattle.stored.specs.Stored.{sparse}
+use Rattle.several.proofs.Trials.{room_kept, move_asked, trial-made}
+use Rattle.several.proofs.trial.trial_gain.Goals as goal
+
+pub overflow_add-z : goal.overflow_add-z
+overflow_add-z c = omega (arith, c.ranges.m, c.requires.grid.in_m)
+
+pub overflow_add-z-2 : goal.overflow_add-z-2
+overflow_add-z-2 c = omega (arith, c.ranges.m, c.requires.grid.in_m)
+
+pub overflow_add-at : goal.overflow_add-at
+overflow_add-at c = omega (arith, c.ranges.m, c.requires.grid.in_m, c.requires.grid.within)
+
+pub move_effects-requires : goal.move_effects-requires
+move_effects-requires c =
+    let a = c.args in
+    move_asked a.q a.s a.k a.size a.l a.u a.trial a.point a.nodes.now a.m.now _ c.requires.grid
+    c.point_nodes.ensures
+
+pub point_gain-requires : goal.point_gain-requires
+point_gain-requires c =
+    let a = c.args in
+    room_kept a.shape a.theta.now a.starts.now a.columns.now a.values.now a.y.now a.offset.now a.n a.q a.xbeta a.r.now
+    a.r.now a.trial a.m.now _ refl (c.move_effects.ensures.only.len ∙ c.point_nodes.ensures.only.len) c.requires.room
+
+pub returns : goal.returns
+returns c =
+    let a = c.args in
+    trial-made a.q a.s a.k a.size a.l a.u a.trial a.point a.nodes.now a.m.now _ _ c.requires.grid
+    c.point_nodes.ensures c.move_effects.ensures a.family a.link a.shape a.theta.now
+    (sparse a.starts.now a.columns.now a.values.now) a.y.now a.weights.now a.offset.now a.n a.xbeta a.r.now _ _ _
+    c.point_gain.ensures

@@ -1,0 +1,12 @@
+-- `text::hex_digit` meets its contract: its test is the definition's.
+use borrow.Author.Tests.{lt-ltb, le-ltb}
+use Rattle.text.specs.Hex.{hex_digit}
+use Rattle.text.proofs.hex_digit.Goals as goal
+
+pub returns-then-d-lt10 : goal.returns-then-d-lt10
+unfolding hex_digit
+returns-then-d-lt10 c = rw (lt-ltb _ _ c.if-d-lt10.true)
+
+pub returns : goal.returns
+unfolding hex_digit
+returns c = rw (le-ltb _ _ c.if-d-lt10.false)

@@ -1,0 +1,12 @@
+-- `working::met_slope` meets its contract: where the tests or the link say so the mean tells the derivative, and elsewhere it is taken anew.
+use mathlib.Core.Path.{◌∙◌}
+use Rattle.working.proofs.Slopes.{logit_slope, log_slope}
+use Rattle.working.proofs.weights.met_slope.Goals as goal
+
+pub returns-then-mu-2 : goal.returns-then-mu-2
+returns-then-mu-2 c =
+    c.max.ensures ∙ logit_slope c.args.link c.args.eta c.args.mu c.in-Logit.is c.requires
+    c.if-mu.true c.if-mu-2.true
+
+pub returns-in-Log : goal.returns-in-Log
+returns-in-Log c = log_slope c.args.link c.args.eta c.args.mu c.in-Log.is c.requires
