@@ -1,5 +1,5 @@
 #!/usr/bin/env python3
-"""usage: tools/port/answers.py NAMES [CRATE..]
+"""usage: tools/port/answers.py NAMES [CRATE|CRATE/FUNCTION..]
 Turns each crates/CRATE/proofs/F/Proof.antt that answers its goals one by one into today's Invariants.antt and Answers.antt. NAMES is the folder that `rt names NAMES`
 wrote: it says what each goal, step and place is called today. A path `c.before.before.step.field` is `c.step.field` now; a `let` that only names a place is gone; an
 answer that said `search rules` alone is left to the check. What it could not turn is printed, one line each, and stands in the file with the mark TURN."""
@@ -402,6 +402,7 @@ def convert(path, entry, crate):
         return i
 
     inv_out, ans_out = [], []
+    asked_places, helpers = set(), {}
     # first the ways
     for it in items:
         if re.match(r"^tie\.\S+ → tie\.\S+$", it["sig"]):
@@ -504,6 +505,31 @@ def convert(path, entry, crate):
             ans_out.append(f"{note}pub {new} : goal.{new}\n{unf}{new} {' '.join(['c'] + extra)} ={gap}{body}")
             continue
         # helpers
+        few = re.match(rf"\([^()]* : ℕ\) → decreases[-_](\w+) [^≤]*(≤ .*)$", sig)
+        if few:
+            loop = next(l for l in entry["loops"] if norm(l[0][0]) == norm(few[1]))[0][1]
+            body = re.match(rf"{WORD}((?: \S+)*?) =\s*(.*)$", it["eqs"][0], re.S)[2]
+            inv_out.append(f"{note}{it['marks']}{name} : (l : goal.Live-{loop}) → decreases-{loop} l {few[2]}\n{name} l = {body}")
+            continue
+        over = re.match(r"(?:\(c : tie\.([\w-]+)(?: \w+)*\)|tie\.([\w-]+)) →\s*(.*)$", sig, re.S)
+        if over and len(it["eqs"]) == 1:
+            own = fn.place(over[1] or over[2])
+            if own is None:
+                said.append(f"{where}: helper {name}: no place {over[1] or over[2]}")
+            else:
+                shown = fn.by_name[own]
+                asked_places.add(shown)
+                helpers[name] = own
+                t = Turn(fn, ways, f"{where}: helper {name}", {"c": own}, "HELPER", own)
+                m = re.match(rf"{WORD}((?: \S+)*?) =\s*(.*)$", it["eqs"][0], re.S)
+                rest, body = t.turn(over[3]), t.turn(m[2]).strip()
+                unf = it["unfolding"] + "\n" if it["unfolding"] else ""
+                binder = f"(c : {shown})" if re.search(r"\bc\b", rest) else shown
+                gap = "\n    " if "\n" in body and not body.startswith(("record", "(")) else " "
+                if "HELPER" in rest + body:
+                    said.append(f"{where}: helper {name} goes from place to place, by hand")
+                ans_out.append(f"{note}{it['marks']}{name} : {binder} → {rest}\n{unf}{name}{m[1]} ={gap}{body}")
+                continue
         full = it["full"] + ("\n" + it["unfolding"] if it["unfolding"] else "") + "".join("\n" + e for e in it["eqs"])
         if "tie." in full or any(w in full.split() for w in ways):
             said.append(f"{where}: helper {name} over a place, by hand")
@@ -534,6 +560,9 @@ def convert(path, entry, crate):
             if keep:
                 lines.append(f"use {m[1]}.{{{', '.join(keep)}}}")
         rel = ".".join(folder.relative_to(ROOT / "crates" / crate / "proofs").parts)
+        asked_places.update(re.findall(r"\(goal\.at\.[\w-]+ c\)\.([\w-]+)", body))
+        if asked_places and last == "Goals":
+            lines.append(f"use Rattle.{crate}.proofs.{rel}.Goals.{{{', '.join(sorted(asked_places))}}}")
         lines.append(f"use Rattle.{crate}.proofs.{rel}.{last} as goal")
         return comment + "\n" + "\n".join(lines) + "\n\n" + body + "\n"
 
@@ -545,6 +574,8 @@ def convert(path, entry, crate):
 
 
 def main(names, crates):
+    only = [c for c in crates if "/" in c]
+    crates = [c for c in crates if "/" not in c] or sorted({c.split("/")[0] for c in only})
     for crate in crates or sorted(p.name for p in (ROOT / "crates").iterdir()):
         listed = Path(names) / "crates" / crate / "names.json"
         if not listed.exists():
@@ -554,6 +585,8 @@ def main(names, crates):
         for path in sorted((ROOT / "crates" / crate / "proofs").glob("**/Proof.antt")):
             rel = ".".join(path.parent.relative_to(ROOT / "crates" / crate / "proofs").parts)
             entry = d.get(f"Rattle-{crate}-proofs.{rel}.Lts")
+            if only and f"{crate}/{rel}" not in only:
+                continue
             if not entry:
                 said.append(f"{path.relative_to(ROOT)}: no entry {rel}")
                 continue

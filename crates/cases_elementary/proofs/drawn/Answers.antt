@@ -1,9 +1,9 @@
 -- `cases_elementary::drawn` is safe: the exponent's field is below 2047, so the pattern fits in 64 bits.
 use Rattle.std.proofs.Common.{◌/◌, ◌%◌, ◌<◌, mod-lt, arith}
+use Rattle.cases_elementary.proofs.drawn.Goals.{Start}
 use Rattle.cases_elementary.proofs.drawn.Goals as goal
 
--- TURN
-below : (c : tie.Start) → c.args.w / 0x10_0000_0000_0000 % 2048 % c.args.count < c.args.count
+below : (c : Start) → c.args.w / 0x10_0000_0000_0000 % 2048 % c.args.count < c.args.count
 below c = mod-lt (c.args.w / 0x10_0000_0000_0000 % 2048) c.requires.0
 
 pub overflow_add-field : goal.overflow_add-field

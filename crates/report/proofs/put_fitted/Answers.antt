@@ -5,6 +5,7 @@ use Rattle.report.specs.Report.{fitted_text}
 use Rattle.report.proofs.Lengths.{end_few}
 use Rattle.report.proofs.Growing.{grown_three, grown_front}
 use borrow.Author.Rules.{rules}
+use Rattle.report.proofs.put_fitted.Goals.{After-slice_known-2-1}
 use Rattle.report.proofs.put_fitted.Goals as goal
 
 pub put_value-deviance_end-requires : goal.put_value-deviance_end-requires

@@ -1,20 +1,15 @@
 -- `root::root_small` meets its contract: doubling t and lowering the exponent by one leave the number as it is; 53 digits are there before t is doubled 53 times.
-use Rattle.std.proofs.Common.{ℕ, ◌-◌, ◌<◌, ◌≤◌, ap, ◌∙◌, arith}
+use Rattle.std.proofs.Common.{◌-◌, ◌<◌, ap, ◌∙◌, arith}
 use Rattle.root.specs.Sqrt.{root_of}
 use Rattle.root.proofs.Place.{doubled, few, halved}
+use Rattle.root.proofs.root_small.Goals.{After-loop-s, In-loop-s}
 use Rattle.root.proofs.root_small.Goals as goal
 
--- at most 53 turns, from whatever state: the measure falls each turn
-pub turns_few : (t s₀ n₀ s n : ℕ) → decreases_loop t s₀ n₀ s n ≤ 53
-turns_few t s₀ n₀ s n = omega arith
+doublings_in : (c : In-loop-s) → c.loop-s.n < 53
+doublings_in c = few _ _ _ c.requires.0 c.loop-s.invariant.0 c.loop-s.invariant.1
 
--- TURN
-doublings_in : (c : tie.In-loop invariant_loop decreases_loop) → c.before.loop.n < 53
-doublings_in c = few _ _ _ c.before.before.requires.0 c.before.loop.invariant.0 c.before.loop.invariant.1
-
--- TURN
-doublings : (c : tie.After-loop invariant_loop decreases_loop) → c.before.loop.n < 53
-doublings c = few _ _ _ c.before.before.requires.0 c.before.loop.invariant.0 c.before.loop.invariant.1
+doublings : (c : After-loop-s) → c.loop-s.n < 53
+doublings c = few _ _ _ c.requires.0 c.loop-s.invariant.0 c.loop-s.invariant.1
 
 pub loop-s-init : goal.loop-s-init
 loop-s-init c = omega arith

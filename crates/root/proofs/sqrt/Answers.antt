@@ -4,19 +4,18 @@ use lib.Ieee.{Float, binary64, fits, eq}
 use lib.Ieee.Bits.{of_bits-to_bits}
 use Rattle.base.proofs.Doubles.{no_quotient}
 use Rattle.root.proofs.Cases.{Above, left, of_nan, of_below, of_zero, of_infinity, of_above, pattern_above}
+use Rattle.root.proofs.sqrt.Goals.{Else-x-infinity}
 use Rattle.root.proofs.sqrt.Goals as goal
 
 -- the argument where all four tests failed
--- TURN
-abbrev arg : tie.Else4 → Float
-arg c = c.before.before.before.before.before.before.args.x
+abbrev arg : Else-x-infinity → Float
+arg c = c.args.x
 
--- TURN
-above : (c : tie.Else4) → Above (arg c)
+above : Else-x-infinity → Above (arg c)
 above c =
-    left (arg c) (sym c.before.before.before.before.before.is_nan_lem.ensures ∙ c.before.before.before.before.if1.false)
-    c.before.before.before.if2.false c.before.before.if3.false
-    (sym (ap (λ (y : Float). eq (arg c) y) c.before.infinity.ensures) ∙ c.if4.false)
+    left (arg c) (sym c.is_nan.ensures ∙ c.if-is_nan.false)
+    c.if-x.false c.if-x-2.false
+    (sym (ap (λ (y : Float). eq (arg c) y) c.infinity.ensures) ∙ c.if-x-infinity.false)
 
 pub returns-then-is_nan : goal.returns-then-is_nan
 returns-then-is_nan c = of_nan _ (sym c.is_nan.ensures ∙ c.if-is_nan.true)

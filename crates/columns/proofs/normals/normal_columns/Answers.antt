@@ -3,97 +3,80 @@ use mathlib.Core.Path.{refl, ◌∙◌}
 use mathlib.Core.List.{List}
 use lib.Ieee.{Float}
 use Rattle.columns.proofs.AllColumns.{Places, places_kept, placed, columns_made}
+use Rattle.columns.proofs.normals.normal_columns.Goals.{After-beta_at-beta, After-cross_into, After-cross_into-arg-1, After-dots_into, After-dots_into-arg-1, After-normal_into, After-normal_into-arg-1, After-rows_into, After-rows_into-arg-1, After-sides_into, After-solved_into, After-solved_into-arg-1, After-unsolved_into, After-unsolved_into-arg-1, After-wy_at-wy}
 use Rattle.columns.proofs.normals.normal_columns.Goals as goal
 
 -- ---- what each step leaves of the slice it writes
--- TURN
-abbrev m1 : tie.After-cross-into → List Float
-m1 c = c.cross-into.new.1.1.1.1.1.1.0
+abbrev m1 : After-cross_into → List Float
+m1 c = c.cross_into.new.m
 
--- TURN
-abbrev m2 : tie.After-dots-into → List Float
-m2 c = c.dots-into.new.1.1.1.1.1.1.1.1.0
+abbrev m2 : After-dots_into → List Float
+m2 c = c.dots_into.new.m
 
--- TURN
-abbrev m3 : tie.After-rows-into → List Float
-m3 c = c.rows-into.new.1.1.1.1.1.1.1.1.1.1.0
+abbrev m3 : After-rows_into → List Float
+m3 c = c.rows_into.new.m
 
--- TURN
-abbrev t1 : tie.After-unsolved-into → List Float
-t1 c = c.unsolved-into.new.1.1.1.1.1.1.1.0
+abbrev t1 : After-unsolved_into → List Float
+t1 c = c.unsolved_into.new.t
 
--- TURN
-abbrev m4 : tie.After-solved-into → List Float
-m4 c = c.solved-into.new.1.1.1.1.1.0
+abbrev m4 : After-solved_into → List Float
+m4 c = c.solved_into.new.m
 
--- TURN
-abbrev t2 : tie.After-normal-into → List Float
-t2 c = c.normal-into.new.1.1.1.1.1.1.1.0
+abbrev t2 : After-normal_into → List Float
+t2 c = c.normal_into.new.t
 
--- TURN
-abbrev m5 : tie.After-sides-into → List Float
-m5 c = c.sides-into.new.1.1.1.1.1.1.0
+abbrev m5 : After-sides_into → List Float
+m5 c = c.sides_into.new.m
 
 -- ---- the places, which no step changes
--- TURN
-abbrev PlacesAt : tie.After-beta-at → List Float → List Float → Type 0
+abbrev PlacesAt : After-beta_at-beta → List Float → List Float → Type 0
 PlacesAt c m t =
-    Places (start_of c).args.n (start_of c).args.p (start_of c).args.q (start_of c).args.r.now m t
-    c.before.before.before.before.before.before.before.working-row.result
-    c.before.before.before.before.before.before.w_at.result
-    c.before.before.before.before.before.unsolved-at.result
-    c.before.before.before.before.normal-at.result
-    c.before.before.before.solved-at.result
-    c.before.before.root-inverse-at.result
-    c.before.wy-at.result
-    c.beta-at.result
+    Places c.args.n c.args.p c.args.q c.args.r.now m t
+    c.working_row-working.result
+    c.w_at-w.result
+    c.unsolved_at-unsolved.result
+    c.normal_at-normal.result
+    c.solved_at-solved.result
+    c.root_inverse_at-crossed.result
+    c.wy_at-wy.result
+    c.beta_at-beta.result
 
--- TURN
-abbrev m0 : tie.After-beta-at → List Float
-m0 c = (start_of c).args.m.now
+abbrev m0 : After-beta_at-beta → List Float
+m0 c = c.args.m.now
 
--- TURN
-abbrev t0 : tie.After-beta-at → List Float
-t0 c = (start_of c).args.t.now
+abbrev t0 : After-beta_at-beta → List Float
+t0 c = c.args.t.now
 
--- TURN
-at_places : (c : tie.After-beta-at) → PlacesAt c (m0 c) (t0 c)
-at_places c =
-    record {
-      lent = (start_of c).pre.1.0;
-      working_place = c.before.before.before.before.before.before.before.working-row.ensures;
-      w_place_lem = c.before.before.before.before.before.before.w_at.ensures;
-      unsolved_place_lem = c.before.before.before.before.before.unsolved-at.ensures;
-      normal_place_lem = c.before.before.before.before.normal-at.ensures;
-      solved_place_lem = c.before.before.before.solved-at.ensures;
-      crossed_place = c.before.before.root-inverse-at.ensures;
-      wy_place_lem = c.before.wy-at.ensures;
-      beta_place_lem = c.beta-at.ensures;
+at_places : After-beta_at-beta → PlacesAt c (m0 c) (t0 c)
+at_places c = record {
+      lent = c.requires.work_room;
+      working_place = c.working_row-working.ensures;
+      w_place_lem = c.w_at-w.ensures;
+      unsolved_place_lem = c.unsolved_at-unsolved.ensures;
+      normal_place_lem = c.normal_at-normal.ensures;
+      solved_place_lem = c.solved_at-solved.ensures;
+      crossed_place = c.root_inverse_at-crossed.ensures;
+      wy_place_lem = c.wy_at-wy.ensures;
+      beta_place_lem = c.beta_at-beta.ensures;
     }
 
--- TURN
-at_cross : (c : tie.After-cross-into) → PlacesAt (places_of c) (m1 c) (t0 (places_of c))
-at_cross c = places_kept (at_places (places_of c)) c.cross-into.auto.1.1.1.1.1.1.0 refl
+at_cross : After-cross_into → PlacesAt (goal.at.HELPER c).After-beta_at-beta (m1 c) (t0 (goal.at.HELPER c).After-beta_at-beta)
+at_cross c = places_kept (at_places (goal.at.HELPER c).After-beta_at-beta) c.cross_into.auto.m refl
 
--- TURN
-at_dots : (c : tie.After-dots-into) → PlacesAt (places_of (cross_of c)) (m2 c) (t0 (places_of (cross_of c)))
-at_dots c = places_kept (at_cross (cross_of c)) c.dots-into.auto.1.1.1.1.1.1.1.1.0 refl
+at_dots : After-dots_into → PlacesAt (goal.at.HELPER c).After-beta_at-beta (m2 c) (t0 (goal.at.HELPER c).After-beta_at-beta)
+at_dots c = places_kept (at_cross (goal.at.HELPER c).After-cross_into) c.dots_into.auto.m refl
 
--- TURN
-at_rows : (c : tie.After-rows-into) → PlacesAt (places_of (cross_of (dots_of c))) (m3 c) (t0 (places_of (cross_of (dots_of c))))
-at_rows c = places_kept (at_dots (dots_of c)) c.rows-into.auto.1.1.1.1.1.1.1.1.1.1.0 refl
+at_rows : After-rows_into → PlacesAt (goal.at.HELPER c).After-beta_at-beta (m3 c) (t0 (goal.at.HELPER c).After-beta_at-beta)
+at_rows c = places_kept (at_dots (goal.at.HELPER c).After-dots_into) c.rows_into.auto.m refl
 
--- TURN
-at_unsolved : (c : tie.After-unsolved-into) → PlacesAt (places_of (cross_of (dots_of (rows_of c)))) (m3 (rows_of c)) (t1 c)
-at_unsolved c = places_kept (at_rows (rows_of c)) refl c.unsolved-into.auto.1.1.1.1.1.1.1.0
+at_unsolved : After-unsolved_into → PlacesAt (goal.at.HELPER c).After-beta_at-beta (m3 (goal.at.HELPER c).After-rows_into) (t1 c)
+at_unsolved c = places_kept (at_rows (goal.at.HELPER c).After-rows_into) refl c.unsolved_into.auto.t
 
--- TURN
-at_solved : (c : tie.After-solved-into) → PlacesAt (places_of (cross_of (dots_of (rows_of (unsolved_of c))))) (m4 c) (t1 (unsolved_of c))
-at_solved c = places_kept (at_unsolved (unsolved_of c)) c.solved-into.auto.1.1.1.1.1.0 refl
+at_solved : After-solved_into → PlacesAt (goal.at.HELPER c).After-beta_at-beta (m4 c) (t1 (goal.at.HELPER c).After-unsolved_into)
+at_solved c = places_kept (at_unsolved (goal.at.HELPER c).After-unsolved_into) c.solved_into.auto.m refl
 
--- TURN
-at_normal : (c : tie.After-normal-into) → PlacesAt (places_of (cross_of (dots_of (rows_of (unsolved_of (solved_of c)))))) (m4 (solved_of c)) (t2 c)
-at_normal c = places_kept (at_solved (solved_of c)) refl c.normal-into.auto.1.1.1.1.1.1.1.0
+at_normal : After-normal_into → PlacesAt (goal.at.HELPER c).After-beta_at-beta (m4 (goal.at.HELPER c).After-solved_into) (t2 c)
+at_normal c = places_kept (at_solved (goal.at.HELPER c).After-solved_into) refl c.normal_into.auto.t
 
 pub cross_into-requires : goal.cross_into-requires
 cross_into-requires c =

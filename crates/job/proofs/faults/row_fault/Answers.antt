@@ -5,15 +5,14 @@ use native.Mathlib.Omega.{arith}
 use borrow.Author.Tests.{not-false}
 use Rattle.job.specs.Faults.{row_fault, pair_fault, is_sound}
 use Rattle.job.proofs.FaultLaws.{go, stop, pair_reached}
+use Rattle.job.proofs.faults.row_fault.Goals.{Else-not-ok}
 use Rattle.job.proofs.faults.row_fault.Goals as goal
 
 -- what the test of the two bytes showed
--- TURN
-fine : (c : tie.Else1) → is_sound (pair_fault c.before.before.before.before.args.s.now c.before.before.before.before.args.p 3) ≡ true
+fine : (c : Else-not-ok) → is_sound (pair_fault c.args.s.now c.args.p 3) ≡ true
 fine c =
-    let f = c.before.before in
-    let e : is_sound f.pair-fault.result ≡ true = sym c.before.is-sound.ensures ∙ not-false _ c.if1.false in
-    rw f.pair-fault.ensures at e
+    let e : is_sound c.pair_fault-f.result ≡ true = sym c.is_sound-ok.ensures ∙ not-false _ c.if-not-ok.false in
+    rw c.pair_fault-f.ensures at e
 
 pub returns-then-not-ok : goal.returns-then-not-ok
 unfolding row_fault

@@ -10,36 +10,22 @@ use Rattle.job.specs.Places.{counts_of, places_of}
 use Rattle.job.specs.Faults.{is_sound}
 use Rattle.job.proofs.SizeLaws.{head_short, sizes_small, counted, placed}
 use Rattle.job.proofs.SurveyLaws.{back_fault, back_unfit, back_faulty, back_sound, fits_by_lem, shape_by, ranged_by, counts_by_lem, places_by_lem, back_by}
+use Rattle.job.proofs.survey.survey_back.Goals.{After-back_fault-fault, After-counts_in-counts, After-places_in-places, Else-not-fits}
 use Rattle.job.proofs.survey.survey_back.Goals as goal
 
--- TURN
-fits : (c : tie.Else1) → sizes_fit c.before.before.before.before.args.s.now ≡ true
+fits : (c : Else-not-fits) → sizes_fit c.args.s.now ≡ true
 fits c =
-    let a = c.before.before.before.before in
-    let e = sym c.before.sizes-fit.ensures ∙ not-false c.before.sizes-fit.result c.if1.false in
-    fits_by_lem a.args.s.now a.args.head c.before.before.shape-in.result true a.requires.1 c.before.before.shape-in.ensures e
+    let e = sym c.sizes_fit-fits.ensures ∙ not-false c.sizes_fit-fits.result c.if-not-fits.false in
+    fits_by_lem c.args.s.now c.args.head c.shape_in-shape.result true c.requires.1 c.shape_in-shape.ensures e
 
--- TURN
-counted_is : (c : tie.After-counts-in) → c.counts-in.result ≡ counts_of c.before.before.before.before.before.args.s.now
-counted_is c =
-    let o = c.before in
-    let a = o.before.before.before.before in
-    counts_by_lem a.args.s.now a.args.head o.before.before.shape-in.result c.counts-in.result (fits o) a.requires.1 o.before.before.shape-in.ensures c.counts-in.ensures
+counted_is : (c : After-counts_in-counts) → c.counts_in-counts.result ≡ counts_of c.args.s.now
+counted_is c = counts_by_lem c.args.s.now c.args.head c.shape_in-shape.result c.counts_in-counts.result (fits (goal.at.HELPER c).Else-not-fits) c.requires.1 c.shape_in-shape.ensures c.counts_in-counts.ensures
 
--- TURN
-placed_is : (c : tie.After-places-in) → c.places-in.result ≡ places_of c.before.before.before.before.before.before.before.before.args.s.now
-placed_is c =
-    let b = c.before.before in
-    let n = b.before in
-    let a = n.before.before.before.before.before in
-    places_by_lem a.args.s.now b.blocks_at.result a.args.head n.counts-in.result c.places-in.result b.blocks_at.ensures a.requires.1 (counted_is n) c.places-in.ensures
+placed_is : (c : After-places_in-places) → c.places_in-places.result ≡ places_of c.args.s.now
+placed_is c = places_by_lem c.args.s.now c.blocks_at-first.result c.args.head c.counts_in-counts.result c.places_in-places.result c.blocks_at-first.ensures c.requires.1 (counted_is (goal.at.HELPER c).After-counts_in-counts) c.places_in-places.ensures
 
--- TURN
-fault_is : (c : tie.After-back-fault) → c.back-fault.result ≡ back_fault c.before.before.before.before.before.before.before.before.before.args.s.now
-fault_is c =
-    let p = c.before in
-    let n = p.before.before.before in
-    back_by n.before.before.before.before.before.args.s.now c.back-fault.result n.counts-in.result p.places-in.result (counted_is n) (placed_is p) c.back-fault.ensures
+fault_is : (c : After-back_fault-fault) → c.back_fault-fault.result ≡ back_fault c.args.s.now
+fault_is c = back_by c.args.s.now c.back_fault-fault.result c.counts_in-counts.result c.places_in-places.result (counted_is (goal.at.HELPER c).After-counts_in-counts) (placed_is (goal.at.HELPER c).After-places_in-places) c.back_fault-fault.ensures
 
 pub returns-then-not-fits : goal.returns-then-not-fits
 returns-then-not-fits c =

@@ -13,6 +13,7 @@ use Rattle.job.specs.Format.{short, row_at, start_of, column_read, value_read}
 use Rattle.job.specs.Job.{columns_of, values_of}
 use Rattle.job.proofs.ListLaws.{counts_none, counts_step, counts_length_lem, behind-length}
 use Rattle.reader.proofs.RowReads.{row_fits, at_step, e_step, columns_step, values_step, join_none}
+use Rattle.reader.proofs.lists.read_rows.Goals.{In-loop-r}
 use Rattle.reader.proofs.lists.read_rows.Goals as goal
 
 -- when every row is passed
@@ -23,13 +24,9 @@ ended :
 ended s r q e b w bc wc bv wv g m h i j k =
     (rw (← g) h, counts_step (start_of s) b w q e (rw (← g) h) m (rw (← g) i), rw (← g) j, rw (← g) k)
 
--- TURN
-room : (c : tie.In-loop invariant_loop decreases_loop) →
-    (c.before.loop.at + 2 + 10 * short c.before.before.before.before.before.before.args.s.now c.before.loop.at ≤ length c.before.before.before.before.before.before.args.s.now)
-    × (c.before.loop.e + short c.before.before.before.before.before.before.args.s.now c.before.loop.at ≤ 6553)
-room c =
-    let start = c.before.before.before.before.before.before in
-    let l = c.before.loop.invariant in row_fits start.args.s.now _ _ _ _ start.requires.0.0 start.requires.0.2 c.loop-test.true l.1 l.2
+room : (c : In-loop-r) → (c.loop-r.at + 2 + 10 * short c.args.s.now c.loop-r.at ≤ length c.args.s.now)
+    × (c.loop-r.e + short c.args.s.now c.loop-r.at ≤ 6553)
+room c = let l = c.loop-r.invariant in row_fits c.args.s.now _ _ _ _ c.requires.s_len_bound.0 c.requires.s_len_bound.2 c.loop-r-test.true l.1 l.2
 
 pub loop-r-init : goal.loop-r-init
 unfolding row_at start_of

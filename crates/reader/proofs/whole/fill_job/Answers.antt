@@ -4,11 +4,11 @@ use native.Mathlib.Omega.{arith}
 use Rattle.job.proofs.RowLaws.{Fits, sound_fits}
 use Rattle.model.specs.Inputs.{inputs}
 use Rattle.reader.proofs.Rooms.{Room, room_of, filled_is}
+use Rattle.reader.proofs.whole.fill_job.Goals.{Start}
 use Rattle.reader.proofs.whole.fill_job.Goals as goal
 
--- TURN
-fits : (c : tie.Start) → Fits c.args.s.now
-fits c = sound_fits _ c.requires.0
+fits : (c : Start) → Fits c.args.s.now
+fits c = sound_fits _ c.requires.s_value
 
 -- TURN
 room :

@@ -1,12 +1,8 @@
 -- `root::nearest::by_digits` meets its contract: each turn finds the next digit, as the definition does, and after 53 turns none is left.
-use Rattle.std.proofs.Common.{◌≡◌, ℕ, ◌+◌, ◌-◌, ◌*◌, ◌/◌, ◌^◌, ◌≤◌, sym, ◌∙◌, arith, pow_pos}
+use Rattle.std.proofs.Common.{◌≡◌, ◌+◌, ◌-◌, ◌*◌, ◌/◌, ◌^◌, sym, ◌∙◌, arith, pow_pos}
 use Rattle.root.specs.Sqrt.{half_below}
 use Rattle.root.proofs.Squares.{digit_halved, digit_turn, digit_room, digits_done}
 use Rattle.root.proofs.nearest.by_digits.Goals as goal
-
--- at most 53 turns, from whatever state: the measure falls each turn
-pub turns_few : (s q₀ b₀ k₀ q b k : ℕ) → decreases_loop s q₀ b₀ k₀ q b k ≤ 53
-turns_few s q₀ b₀ k₀ q b k = omega arith
 
 pub with_digit-q-requires : goal.with_digit-q-requires
 with_digit-q-requires c =

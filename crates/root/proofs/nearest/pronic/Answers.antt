@@ -1,10 +1,10 @@
 -- `root::nearest::pronic` meets its contract: the three products of the digits make up the square, and each fits in 64 bits.
 use Rattle.std.proofs.Common.{◌/◌, ◌%◌, arith}
 use Rattle.root.proofs.Squares.{Parts, parts, pronic_is}
+use Rattle.root.proofs.nearest.pronic.Goals.{Start}
 use Rattle.root.proofs.nearest.pronic.Goals as goal
 
--- TURN
-products : (c : tie.Start) → Parts (c.args.q / 0x400_0000) (c.args.q % 0x400_0000)
+products : (c : Start) → Parts (c.args.q / 0x400_0000) (c.args.q % 0x400_0000)
 products c = parts c.args.q c.requires
 
 pub overflow_mul-middle-2 : goal.overflow_mul-middle-2

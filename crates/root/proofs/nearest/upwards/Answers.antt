@@ -1,16 +1,11 @@
 -- `root::nearest::upwards` meets its contract: the first number whose half more is past the root is nearest to it, since the one before was not; the loop makes at most four turns.
-use Rattle.std.proofs.Common.{ℕ, ◌+◌, ◌-◌, ◌<◌, ◌≤◌, arith}
+use Rattle.std.proofs.Common.{◌+◌, ◌-◌, ◌<◌, arith}
 use Rattle.root.proofs.Squares.{room_above, near_next, near_is, near_one_lem}
+use Rattle.root.proofs.nearest.upwards.Goals.{In-loop-k}
 use Rattle.root.proofs.nearest.upwards.Goals as goal
 
--- at most four turns, from whatever state: the measure falls each turn
-pub turns_few : (s q r₀ k₀ r k : ℕ) → decreases_loop s q r₀ k₀ r k ≤ 4
-turns_few s q r₀ k₀ r k = omega arith
-
--- TURN
-room : (c : tie.In-loop invariant_loop decreases_loop) → c.before.loop.r + 1 < 0x20_0000_0000_0000
-room c =
-    room_above c.before.before.args.s c.before.loop.r c.before.before.requires.1 c.before.loop.invariant.digits.most c.before.loop.invariant.missed
+room : (c : In-loop-k) → c.loop-k.r + 1 < 0x20_0000_0000_0000
+room c = room_above c.args.s c.loop-k.r c.requires.1 c.loop-k.invariant.digits.most c.loop-k.invariant.missed
 
 pub loop-k-init : goal.loop-k-init
 loop-k-init c = c.requires.2
