@@ -36,6 +36,10 @@ same_value f (fin t m e) (fin u n d) s a c l p q v w =
     ∙ ap (λ (b : Bool). of_bits f (to_bits f (fin b m e))) (v.0 ∙ sym w.0)
     ∙ ap (λ (b : ℕ). of_bits f b) (same_bits f u m e n d cross)
     ∙ of_bits-to_bits f (fin u n d) q
+same_value f lib.Ieee.nan y s a c l p q v w = elim v [ ]
+same_value f (lib.Ieee.inf _) y s a c l p q v w = elim v [ ]
+same_value f (fin t m e) lib.Ieee.nan s a c l p q v w = elim w [ ]
+same_value f (fin t m e) (lib.Ieee.inf _) s a c l p q v w = elim w [ ]
 
 -- ---- what fits
 no_higher : (a l : ℕ) → 2 ^ a ≤ 2 ^ l → a ≤ l

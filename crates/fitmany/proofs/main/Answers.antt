@@ -5,4 +5,4 @@ use Rattle.fitmany.proofs.main.Goals as goal
 pub answer_held-requires : goal.answer_held-requires
 answer_held-requires c =
     let read = c.read_input-input in
-    (omega (arith, read.ensures, read.auto.0), omega (arith, read.auto.0))
+    (omega (arith, read.ensures, read.auto.space), omega (arith, read.auto.space))

@@ -17,7 +17,7 @@ put_piece-n-requires c =
 pub slice_bounds-put-end : goal.slice_bounds-put-end
 slice_bounds-put-end c =
     let put-piece = c.put_piece-n in
-    omega (arith, put-piece.ensures.0, text_few _ _ _ put-piece.ensures.1 put-piece.auto.0, put-piece.auto.0)
+    omega (arith, put-piece.ensures.0, text_few _ _ _ put-piece.ensures.1 put-piece.auto.out, put-piece.auto.out)
 
 pub loop-i-preserved : goal.loop-i-preserved
 loop-i-preserved c =

@@ -9,5 +9,5 @@ pub returns : goal.returns
 returns c =
     let a = c.args in
     let copy = c.copy in
-    sums_placed a.b 2 _ (starting_at (weighted_dot a.x.now a.p a.n a.w.now a.v.now) a.b) _ a.out.now copy.new.1.0 refl (omega arith) copy.auto.1.0
+    sums_placed a.b 2 _ (starting_at (weighted_dot a.x.now a.p a.n a.w.now a.v.now) a.b) _ a.out.now copy.new.out refl (omega arith) copy.auto.out
     c.observation_sums.ensures copy.ensures

@@ -9,5 +9,5 @@ pub returns : goal.returns
 returns c =
     let a = c.args in
     let copy = c.copy in
-    sums_placed a.b 2 _ (starting_at (entries_side a.columns.now a.values.now a.x.now a.p a.w.now a.begin a.end) a.b) _ a.out.now copy.new.1.0 refl (omega arith) copy.auto.1.0
+    sums_placed a.b 2 _ (starting_at (entries_side a.columns.now a.values.now a.x.now a.p a.w.now a.begin a.end) a.b) _ a.out.now copy.new.out refl (omega arith) copy.auto.out
     c.entry_sums.ensures copy.ensures

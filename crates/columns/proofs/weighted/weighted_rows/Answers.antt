@@ -65,8 +65,8 @@ loop-g-preserved c =
       omega arith,
       omega arith,
       sides_step (sparse a.starts.now a.columns.now a.values.now) a.q a.n a.x.now a.p a.w.now loop.g _ _ a.out.now loop.out
-          row-sides.new.1.1.1.1.1.1.1.1.0 c.requires.rows c.loop-g-test.true c.offset-o.ensures.0 refl (omega arith)
-          row-sides.auto.1.1.1.1.1.1.1.1.0 loop.invariant.2 row-sides.ensures,
+          row-sides.new.out c.requires.rows c.loop-g-test.true c.offset-o.ensures.0 refl (omega arith)
+          row-sides.auto.out loop.invariant.2 row-sides.ensures,
     )
 
 pub shape_of-out : goal.shape_of-out

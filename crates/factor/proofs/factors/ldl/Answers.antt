@@ -31,7 +31,7 @@ ldl_sum-sum-requires c =
     let loop = c.loop-i in
     let row = c.ldl_row-head in
     let made = row.ensures in
-    let X = row.new.1.1.1.1.0 in
+    let X = row.new.out in
     let before = fine_kept (ldl_rule a.s a.a.now) a.s loop.i loop.i loop.out X loop.fine (omega arith) made.list loop.invariant.4 in
     (omega arith, omega arith, search rules, made.within, ldl_zeros a.s loop.i loop.i row.result X loop.fine (omega arith) made.within made.zeros before)
 
@@ -81,7 +81,7 @@ loop-i-preserved c =
     let loop = c.loop-i in
     let offset = c.offset-io in
     let row = c.ldl_row-head in
-    let X = row.new.1.1.1.1.0 in
+    let X = row.new.out in
     let go = ldl-go _ _ _ _ _ _ _ _ _ (omega arith) (omega arith) offset.ensures.0 loop.invariant.2 row.ensures.list c.ldl_sum-sum.ensures c.usable_pivot.ensures loop.invariant.3 c.if-not-usable_pivot.false in
     let before = fine_kept (ldl_rule a.s a.a.now) a.s loop.i loop.i loop.out X loop.fine (omega arith) row.ensures.list loop.invariant.4 in
     let pivot = (a.a.now ! (offset.result + loop.i)) ⊖ c.ldl_sum-sum.result in

@@ -56,7 +56,7 @@ loop-a-preserved c =
     let loop = c.loop-a in
     let offset = c.offset-o in
     let entry = c.forward_entry-one in
-    (omega arith, search rules, entered-list (unit_forward_rule a.s a.l.now) a.i a.s loop.a a.x.now loop.x offset.result (offset.result + a.s) loop.invariant.2 offset.ensures.0 refl (omega arith) entry.new.1.1.1.1.0 entry.result entry.ensures entry.auto.1.1.1.1.0, entered-fine (unit_forward_rule a.s a.l.now) a.i a.s loop.a a.x.now loop.x offset.result (offset.result + a.s) loop.invariant.2 offset.ensures.0 refl (omega arith) entry.new.1.1.1.1.0 entry.result entry.ensures _ _ c.both-fine.ensures loop.invariant.3)
+    (omega arith, search rules, entered-list (unit_forward_rule a.s a.l.now) a.i a.s loop.a a.x.now loop.x offset.result (offset.result + a.s) loop.invariant.2 offset.ensures.0 refl (omega arith) entry.new.x entry.result entry.ensures entry.auto.x, entered-fine (unit_forward_rule a.s a.l.now) a.i a.s loop.a a.x.now loop.x offset.result (offset.result + a.s) loop.invariant.2 offset.ensures.0 refl (omega arith) entry.new.x entry.result entry.ensures _ _ c.both-fine.ensures loop.invariant.3)
 
 pub shape_of-x : goal.shape_of-x
 shape_of-x c = search (rules, loops)

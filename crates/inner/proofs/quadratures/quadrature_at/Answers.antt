@@ -6,7 +6,7 @@ use Rattle.inner.proofs.quadratures.quadrature_at.Goals as goal
 pub product_at-requires : goal.product_at-requires
 product_at-requires c = record {
       asked = c.requires;
-      k_value = groups_all c.args.t4 c.args.q (eq-eqb _ _ c.if-shape-eq1.true) c.requires.ready.effects;
+      k_value = groups_all c.args.shape c.args.q (eq-eqb _ _ c.if-shape-eq1.true) c.requires.ready.effects;
     }
 
 pub shape_of-r-then-shape-eq1 : goal.shape_of-r-then-shape-eq1
@@ -21,7 +21,7 @@ shape_of-t-then-shape-eq1 c = c.product_at.ensures.terms_only.len
 pub returns-then-shape-eq1 : goal.returns-then-shape-eq1
 returns-then-shape-eq1 c =
     let args = c.args in
-    by_product args.family args.link args.t4 args.theta.now _ args.y.now args.weights.now args.offset.now args.n args.p args.q
+    by_product args.family args.link args.shape args.theta.now _ args.y.now args.weights.now args.offset.now args.n args.p args.q
     args.x.now args.wish args.phi args.fit _ _ _ _ _ _ _ (eq-eqb _ _ c.if-shape-eq1.true) c.product_at.ensures
 
 pub joint_at-requires : goal.joint_at-requires
@@ -39,5 +39,5 @@ shape_of-t c = c.joint_at.ensures.terms_only.len
 pub returns : goal.returns
 returns c =
     let args = c.args in
-    by_joint args.family args.link args.t4 args.theta.now _ args.y.now args.weights.now args.offset.now args.n args.p args.q
+    by_joint args.family args.link args.shape args.theta.now _ args.y.now args.weights.now args.offset.now args.n args.p args.q
     args.x.now args.wish args.phi args.fit _ _ _ _ _ _ _ (ne_eqb _ _ c.if-shape-eq1.false) c.joint_at.ensures

@@ -7,10 +7,10 @@ use native.Mathlib.Omega.{arith}
 use Rattle.lambda.proofs.column.column_of.Goals as goal
 
 pub overflow_mul-effects : goal.overflow_mul-effects
-overflow_mul-effects c = omega (arith, effects_small c.args.t1 (in_range_lem _ c.requires.0) 0 (in_range_lem _ c.requires.0).some)
+overflow_mul-effects c = omega (arith, effects_small c.args.shape (in_range_lem _ c.requires.0) 0 (in_range_lem _ c.requires.0).some)
 
 pub loop-effects-init : goal.loop-effects-init
-loop-effects-init c = passed_none c.args.t1 c.args.j (in_range_lem _ c.requires.0) c.requires.1
+loop-effects-init c = passed_none c.args.shape c.args.j (in_range_lem _ c.requires.0) c.requires.1
 
 pub overflow_add-first : goal.overflow_add-first
 overflow_add-first c = omega (arith, passed_small c.loop-effects.invariant)

@@ -33,7 +33,7 @@ pub returns-then-p-lt2 : goal.returns-then-p-lt2
 returns-then-p-lt2 c =
     let one = c.one in
     let entry = cross_at c.args.x.now c.args.p c.args.n c.args.w.now c.args.a in
-    let wrote = filled_part c.args.b 1 _ (λ k. entry (c.args.b + k)) c.args.out.now one.new.1.1.1.1.1.1.0 refl (omega arith) one.auto.1.1.1.1.1.1.0 one.ensures in
+    let wrote = filled_part c.args.b 1 _ (λ k. entry (c.args.b + k)) c.args.out.now one.new.out refl (omega arith) one.auto.out one.ensures in
     row_on c.args.p entry c.args.b c.args.b 1 c.args.out.now _ (le_refl _) (omega arith) (omega arith) c.requires.4 wrote
 
 pub begin_at-o-requires : goal.begin_at-o-requires
@@ -66,7 +66,7 @@ returns-then-p-lt6 c =
     let begin = c.begin_at-o in
     let entry = cross_at c.args.x.now c.args.p c.args.n c.args.w.now c.args.a in
     let within = begin_within c.args.b c.args.p 2 begin.result (omega arith) (omega arith) (omega arith) begin.ensures in
-    let wrote = filled_part begin.result 2 _ (λ k. entry (begin.result + k)) c.args.out.now two.new.1.1.1.1.1.1.0 refl (omega (arith, within.2)) two.auto.1.1.1.1.1.1.0 two.ensures in
+    let wrote = filled_part begin.result 2 _ (λ k. entry (begin.result + k)) c.args.out.now two.new.out refl (omega (arith, within.2)) two.auto.out two.ensures in
     row_on c.args.p entry c.args.b begin.result 2 c.args.out.now _ within.0 within.1 within.2 c.requires.4 wrote
 
 pub overflow_add-b : goal.overflow_add-b
@@ -97,7 +97,7 @@ pub returns-then-e-p : goal.returns-then-e-p
 returns-then-e-p c =
     let twelve = c.twelve in
     let entry = cross_at c.args.x.now c.args.p c.args.n c.args.w.now c.args.a in
-    let wrote = filled_part c.args.b 12 _ (λ k. entry (c.args.b + k)) c.args.out.now twelve.new.1.1.1.1.1.1.0 refl (omega arith) twelve.auto.1.1.1.1.1.1.0 twelve.ensures in
+    let wrote = filled_part c.args.b 12 _ (λ k. entry (c.args.b + k)) c.args.out.now twelve.new.out refl (omega arith) twelve.auto.out twelve.ensures in
     row_on c.args.p entry c.args.b c.args.b 12 c.args.out.now _ (le_refl _) (omega arith) (omega arith) c.requires.4 wrote
 
 pub begin_at-o-requires-2 : goal.begin_at-o-requires-2
@@ -130,5 +130,5 @@ returns c =
     let begin = c.begin_at-o-2 in
     let entry = cross_at c.args.x.now c.args.p c.args.n c.args.w.now c.args.a in
     let within = begin_within c.args.b c.args.p 6 begin.result (omega arith) (omega arith) (omega arith) begin.ensures in
-    let wrote = filled_part begin.result 6 _ (λ k. entry (begin.result + k)) c.args.out.now six.new.1.1.1.1.1.1.0 refl (omega (arith, within.2)) six.auto.1.1.1.1.1.1.0 six.ensures in
+    let wrote = filled_part begin.result 6 _ (λ k. entry (begin.result + k)) c.args.out.now six.new.out refl (omega (arith, within.2)) six.auto.out six.ensures in
     row_on c.args.p entry c.args.b begin.result 6 c.args.out.now _ within.0 within.1 within.2 c.requires.4 wrote

@@ -45,8 +45,8 @@ loop-a-preserved c =
     let entry = cross_at c.args.x.now c.args.p c.args.n c.args.w.now in
     let less = c.loop-a-test.true in (
       omega arith,
-      rows_long c.args.p entry loop.a offset.result _ loop.out row.new.1.1.1.1.1.0 less offset.ensures.0 refl (omega arith) row.ensures ∙ loop.invariant.1,
-      rows_more c.args.p entry loop.a offset.result _ loop.out row.new.1.1.1.1.1.0 less offset.ensures.0 refl (omega arith) row.ensures loop.invariant.2,
+      rows_long c.args.p entry loop.a offset.result _ loop.out row.new.out less offset.ensures.0 refl (omega arith) row.ensures ∙ loop.invariant.1,
+      rows_more c.args.p entry loop.a offset.result _ loop.out row.new.out less offset.ensures.0 refl (omega arith) row.ensures loop.invariant.2,
     )
 
 pub shape_of-out : goal.shape_of-out

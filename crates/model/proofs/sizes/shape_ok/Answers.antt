@@ -18,18 +18,18 @@ pub loop-i-init : goal.loop-i-init
 loop-i-init c = (omega arith, (omega arith, omega arith), (omega arith, omega arith), (total_none _, all_none _))
 
 pub overflow_mul-q : goal.overflow_mul-q
-overflow_mul-q c = omega (arith, (block_passes c.args.t1 c.loop-i.i (sym c.block_ok.ensures ∙ c.if-block_ok.true)).0)
+overflow_mul-q c = omega (arith, (block_passes c.args.shape c.loop-i.i (sym c.block_ok.ensures ∙ c.if-block_ok.true)).0)
 
 pub overflow_add-q : goal.overflow_add-q
-overflow_add-q c = omega (arith, (block_passes c.args.t1 c.loop-i.i (sym c.block_ok.ensures ∙ c.if-block_ok.true)).0)
+overflow_add-q c = omega (arith, (block_passes c.args.shape c.loop-i.i (sym c.block_ok.ensures ∙ c.if-block_ok.true)).0)
 
 pub loop-i-preserved : goal.loop-i-preserved
 loop-i-preserved c =
-    let p = block_passes c.args.t1 c.loop-i.i (sym c.block_ok.ensures ∙ c.if-block_ok.true) in
+    let p = block_passes c.args.shape c.loop-i.i (sym c.block_ok.ensures ∙ c.if-block_ok.true) in
     (omega arith, (omega arith, omega arith), (omega (arith, p.0), omega (arith, p.0)), (effect_step _ _ _ c.loop-i.invariant.3.0, all_step _ _ c.loop-i.invariant.3.1 p.1))
 
 pub returns-else-block_ok : goal.returns-else-block_ok
-returns-else-block_ok c = bad_block c.args.t1 c.loop-i.i (omega arith) (sym c.block_ok.ensures ∙ c.if-block_ok.false)
+returns-else-block_ok c = bad_block c.args.shape c.loop-i.i (omega arith) (sym c.block_ok.ensures ∙ c.if-block_ok.false)
 
 pub returns : goal.returns
 returns c =
