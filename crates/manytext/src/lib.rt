@@ -3,8 +3,8 @@
 
 mod input;
 mod pieces;
-mod text;
+mod texts;
 
 pub use input::fit_input;
 pub use pieces::{Pieces, count_of};
-pub use text::{put_piece, put_response};
+pub use texts::{put_piece, put_response};

@@ -11,7 +11,7 @@ use Rattle.root.proofs.sqrt.Goals as goal
 abbrev arg : Else-x-infinity → Float
 arg c = c.args.x
 
-above : Else-x-infinity → Above (arg c)
+above : (c : Else-x-infinity) → Above (arg c)
 above c =
     left (arg c) (sym c.is_nan.ensures ∙ c.if-is_nan.false)
     c.if-x.false c.if-x-2.false

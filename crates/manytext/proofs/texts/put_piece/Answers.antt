@@ -1,6 +1,6 @@
 -- `manytext::put_piece` meets its contract: each kind of piece has its own text. Assumes nothing.
 use Rattle.manytext.proofs.Written.{responses-fit, responses-text, refusal_text}
-use Rattle.manytext.proofs.text.put_piece.Goals as goal
+use Rattle.manytext.proofs.texts.put_piece.Goals as goal
 
 pub put_part-requires : goal.put_part-requires
 put_part-requires c =

@@ -3,7 +3,7 @@ use native.Mathlib.Omega.{arith}
 use mathlib.Core.Path.{refl}
 use Rattle.manytext.specs.Text.{response_text}
 use Rattle.manytext.proofs.Written.{line_few, text_few, response_written}
-use Rattle.manytext.proofs.text.put_response.Goals as goal
+use Rattle.manytext.proofs.texts.put_response.Goals as goal
 
 pub slice_bounds-put_flat-count : goal.slice_bounds-put_flat-count
 slice_bounds-put_flat-count c = omega (arith, c.response_line-at.ensures.0, line_few c.args.i, c.response_line-at.auto.out, c.requires.0)

@@ -2,7 +2,7 @@
 use native.Mathlib.Omega.{arith}
 use mathlib.Core.Path.{refl}
 use Rattle.manytext.proofs.Written.{blocks_few, blocks_there, part_written}
-use Rattle.manytext.proofs.text.put_part.Goals as goal
+use Rattle.manytext.proofs.texts.put_part.Goals as goal
 
 pub offset-first-requires : goal.offset-first-requires
 offset-first-requires c = (c.requires.1, omega (arith, blocks_few c.args.responses _ c.args.settings c.results_length-block.ensures c.requires.2.few c.requires.2.sizes, c.requires.2.few))
