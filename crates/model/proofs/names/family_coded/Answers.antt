@@ -22,5 +22,5 @@ returns-in-3 c = rw c.in-3.is
 
 pub returns-in_default : goal.returns-in_default
 returns-in_default c =
-    let r = c.in_default-own.rest in
+    let r = c.in_default.in_default-own.rest in
     sym (no_family _ (past_three r.0.0.0.1 r.0.0.1 r.0.1 r.1))

@@ -34,5 +34,5 @@ returns-in-6 c = rw c.in-6.is
 
 pub returns-in_default : goal.returns-in_default
 returns-in_default c =
-    let r = c.in_default-own.rest in
+    let r = c.in_default.in_default-own.rest in
     sym (no_link _ (past_six (past_three r.0.0.0.0.0.0.1 r.0.0.0.0.0.1 r.0.0.0.0.1 r.0.0.0.1) r.0.0.1 r.0.1 r.1))

@@ -513,4 +513,4 @@ returns-in-126 c = rw c.in-126.is
 
 pub returns-in_default : goal.returns-in_default
 unfolding exp_table exp_row
-returns-in_default c = rw (last_arm 127 c.args.i c.in_default-own.rest c.requires)
+returns-in_default c = rw (last_arm 127 c.args.i c.in_default.in_default-own.rest c.requires)
