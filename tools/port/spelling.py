@@ -66,11 +66,11 @@ def defined():
                 continue
             if line and not line[0].isspace():
                 inside = False
-            where = line[4:] if line.startswith("    ") and not line.startswith("     ") else line
+            where = re.sub(r"^(?:  |    )(?! )", "", line)
             found = DEFINED.match(where) if not where.startswith((" ", "use ", "mod ", "pub mod ", "module ", "unfolding ")) else None
-            if found and ": tie." not in where and ": statement " not in where and "-> statement" not in where and "→ statement" not in where:
-                # within an indented module a line is a definition where it has a type; an equation repeats the name of one
-                if where is line or re.match(rf"^(?:(?:abbrev|unfoldable|pub) )*{WORD} :", where):
+            if found and ": tie." not in where and ": goal." not in where and ": statement " not in where and "-> statement" not in where and "→ statement" not in where:
+                # a line is a definition where it has a type; an equation repeats the name of one
+                if re.match(rf"^(?:(?:abbrev|unfoldable|pub) )*(?:{WORD} :|{WORD} [^=]* :|ruleset )", where):
                     names[found[1]].add(path)
             if inside:
                 field = FIELD.match(line)

@@ -39,11 +39,11 @@ gain_made family link shape theta Z y weights offset n q xbeta trial r r1 r' m m
 
 -- it reads Xβ, the deviances at the mode and the marks alone
 module _ (family : CarriedFamily) (link : CarriedLink) (shape : Shape) (theta : List Float) (Z : Sparse) (y weights offset : List Float) (n q xbeta : ℕ) (r r1 : List Float) (hr : xbeta + n + n + n + n ≤ length r) where
-  gain-at : Only (xbeta + n + n) n r r1 → (e : List Float) → gain_in family link shape theta Z y weights offset n q xbeta r1 e ≡ gain_in family link shape theta Z y weights offset n q xbeta r e
+  gain_at_lem : Only (xbeta + n + n) n r r1 → (e : List Float) → gain_in family link shape theta Z y weights offset n q xbeta r1 e ≡ gain_in family link shape theta Z y weights offset n q xbeta r e
   unfolding gain_in
-  gain-at o e =
+  gain_at_lem o e =
       rw (only_row (xbeta + n + n + n) n (xbeta + n + n) n (inr (omega arith)) (omega arith) o, only_row xbeta n (xbeta + n + n) n (inl (omega arith)) (omega arith) o, only_row (xbeta + n) n (xbeta + n + n) n (inl (omega arith)) (omega arith) o)
       refl
 
-  pub gain-kept : Only (xbeta + n + n) n r r1 → gain_in family link shape theta Z y weights offset n q xbeta r1 ≡ gain_in family link shape theta Z y weights offset n q xbeta r
-  gain-kept o i e = gain-at o e i
+  pub gain_kept : Only (xbeta + n + n) n r r1 → gain_in family link shape theta Z y weights offset n q xbeta r1 ≡ gain_in family link shape theta Z y weights offset n q xbeta r
+  gain_kept o i e = gain_at_lem o e i

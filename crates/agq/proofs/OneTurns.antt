@@ -17,7 +17,7 @@ use Rattle.base.proofs.Rows.{row_length, only_row, only_trans, fillat_only}
 use Rattle.model.specs.declared.sizes.Shape.{Shape}
 use Rattle.family.specs.declared.carried.CarriedFamily.{CarriedFamily}
 use Rattle.family.specs.declared.carried.CarriedLink.{CarriedLink}
-use Rattle.agq.proofs.Gains.{gain-kept}
+use Rattle.agq.proofs.Gains.{gain_kept}
 use Rattle.agq.specs.One.{one_effects, one_term_in, one_term_at_node, OneIn}
 
 -- a stretch filled over lists that differ in it alone
@@ -43,16 +43,16 @@ module _ (family : CarriedFamily) (link : CarriedLink) (shape : Shape) (theta : 
   same_u : row u q m1 ≡ row u q m
   same_u = only_row u q trial (q + q) (inl a) (omega arith) om
 
-  same-effects : (node : Float) → one_effects g sigma node (row u q m1) (row trial q m1) ≡ one_effects g sigma node (row u q m) (row trial q m)
+  same_effects : (node : Float) → one_effects g sigma node (row u q m1) (row trial q m1) ≡ one_effects g sigma node (row u q m) (row trial q m)
   unfolding one_effects
-  same-effects node = rw same_u (filled_same g 1 _ (row trial q m) (row trial q m1) (omega (arith, row_length trial q m (omega arith))) ot)
+  same_effects node = rw same_u (filled_same g 1 _ (row trial q m) (row trial q m1) (omega (arith, row_length trial q m (omega arith))) ot)
 
   module _ (i : ℕ) (r2 m2 : List Float) (x : Float) (p : OneIn family link shape theta Z y weights offset n q xbeta g sigma (nodes ! i) (logs ! i) inv u trial r1 r2 m1 m2 x) where
     pub turn_term : x ≡ one_term_at_node family link shape theta Z y weights offset n q xbeta g sigma inv (row u q m) r (row trial q m) nodes logs i
     unfolding one_term_at_node one_term_in
     turn_term =
         p.term
-        ∙ rw (same-effects (nodes ! i), same_u, gain-kept family link shape theta Z y weights offset n q xbeta r r1 hr or) refl
+        ∙ rw (same_effects (nodes ! i), same_u, gain_kept family link shape theta Z y weights offset n q xbeta r r1 hr or) refl
 
     pub turn_m : Only trial (q + q) m m2
     turn_m = only_trans om p.only
@@ -62,4 +62,4 @@ module _ (family : CarriedFamily) (link : CarriedLink) (shape : Shape) (theta : 
 
     pub turn_trial : Only g 1 (row trial q m) (row trial q m2)
     unfolding one_effects
-    turn_trial = rw (p.effects ∙ same-effects (nodes ! i)) (fillat_only g 1 1 _ (row trial q m) (omega arith))
+    turn_trial = rw (p.effects ∙ same_effects (nodes ! i)) (fillat_only g 1 1 _ (row trial q m) (omega arith))

@@ -42,29 +42,29 @@ module _ (G : Given) (beta u devs : List Float) where
   abbrev zb : List Float
   zb = predicted_at G.design.shape G.design.theta G.design.zt (n_of G) (q_of G.design) u
 
-  same-zb : z_times G.design (b_of G.design u) ≡ zb
+  same_zb : z_times G.design (b_of G.design u) ≡ zb
   unfolding z_times b_of predicted_at effects_at
-  same-zb = refl
+  same_zb = refl
 
-  eta-at : (i : ℕ) → i < n_of G → raw_of G.design beta (b_of G.design u) ! i ≡ plus_offset G.design.offset i ((xb ! i) ⊕ (zb ! i))
+  eta_at : (i : ℕ) → i < n_of G → raw_of G.design beta (b_of G.design u) ! i ≡ plus_offset G.design.offset i ((xb ! i) ⊕ (zb ! i))
   unfolding raw_of raw_at
-  eta-at i l =
+  eta_at i l =
       build_at (raw_at G.design.offset G.design.x G.design.p beta (z_times G.design (b_of G.design u))) (n_of G) i l
-      ∙ rw (build_at (x_beta_at G.design.x G.design.p beta) (n_of G) i l, same-zb) refl
+      ∙ rw (build_at (x_beta_at G.design.x G.design.p beta) (n_of G) i l, same_zb) refl
 
   -- at a marked observation
   entered_at : (marks : List Float) (i : ℕ) → i < n_of G → marked marks i ≡ true
       → entered G.family G.y G.weights (build (mean_over G.link G.design.offset xb zb marks) (n_of G)) devs i ≡ gain_at (effects_deviances G beta u) devs i
   unfolding entered mean_over gain_at effects_deviances deviances_of dev_resid_at means_at mean_at
   entered_at marks i l t =
-      rw (build_at (dev_resid_at G.family G.y (means_at G (raw_of G.design beta (b_of G.design u))) G.weights) (n_of G) i l, build_at (mean_at G.link (raw_of G.design beta (b_of G.design u))) (n_of G) i l, eta-at i l, build_at (mean_over G.link G.design.offset xb zb marks) (n_of G) i l, t)
+      rw (build_at (dev_resid_at G.family G.y (means_at G (raw_of G.design beta (b_of G.design u))) G.weights) (n_of G) i l, build_at (mean_at G.link (raw_of G.design beta (b_of G.design u))) (n_of G) i l, eta_at i l, build_at (mean_over G.link G.design.offset xb zb marks) (n_of G) i l, t)
       refl
 
   -- ---- of a group, and of all
-  pub group-gain : (s k : ℕ) → gain_from G.family G.link G.y G.weights G.design.offset (n_of G) (build (mark_at G.design.zt s k) (n_of G)) xb zb devs ≡ gain_of (n_of G) (belongs G.design.zt s k) (effects_deviances G beta u) devs
+  pub group_gain : (s k : ℕ) → gain_from G.family G.link G.y G.weights G.design.offset (n_of G) (build (mark_at G.design.zt s k) (n_of G)) xb zb devs ≡ gain_of (n_of G) (belongs G.design.zt s k) (effects_deviances G beta u) devs
   unfolding gain_from gain_of
-  group-gain s k = where_cong (n_of G) _ _ _ _ (λ i l. marked_group G.design.zt s k (n_of G) i l) (λ i l t. entered_at (build (mark_at G.design.zt s k) (n_of G)) i l t)
+  group_gain s k = where_cong (n_of G) _ _ _ _ (λ i l. marked_group G.design.zt s k (n_of G) i l) (λ i l t. entered_at (build (mark_at G.design.zt s k) (n_of G)) i l t)
 
-  pub joint-gain : gain_from G.family G.link G.y G.weights G.design.offset (n_of G) (build one_at (n_of G)) xb zb devs ≡ gain_of (n_of G) every_one (effects_deviances G beta u) devs
+  pub joint_gain : gain_from G.family G.link G.y G.weights G.design.offset (n_of G) (build one_at (n_of G)) xb zb devs ≡ gain_of (n_of G) every_one (effects_deviances G beta u) devs
   unfolding gain_from gain_of
-  joint-gain = where_cong (n_of G) _ _ _ _ (λ i l. marked_every (n_of G) i l) (λ i l t. entered_at (build one_at (n_of G)) i l t)
+  joint_gain = where_cong (n_of G) _ _ _ _ (λ i l. marked_every (n_of G) i l) (λ i l t. entered_at (build one_at (n_of G)) i l t)

@@ -38,14 +38,14 @@ adds t (failed e) G wish phi is = omega arith
 adds t (stopped M) G wish phi is = omega (arith, count_append t is (quadrature_of G wish M phi).items)
 
 module _ (G : Given) (wish : ℕ) (phi : Float) (mu : List Float) (t : Item → Bool) (L M : ℕ) (l : L ≤ M) where
-  by-ending : (x : Ending) → (run_of G phi L mu).ending ≡ x → count_of t (after_run x G wish phi (run_of G phi L mu).items).items ≤ count_of t (inner_of G wish phi M mu).items
+  by_ending : (x : Ending) → (run_of G phi L mu).ending ≡ x → count_of t (after_run x G wish phi (run_of G phi L mu).items).items ≤ count_of t (inner_of G wish phi M mu).items
   unfolding inner_of inner_with after_run
-  by-ending (failed e) q =
+  by_ending (failed e) q =
       omega (arith, limit_grows G phi mu t L M l, adds t (run_of G phi M mu).ending G wish phi (run_of G phi M mu).items)
-  by-ending (stopped m) q =
+  by_ending (stopped m) q =
       let same : run_of G phi M mu ≡ run_of G phi L mu = limit_same G phi mu L M l (λ e. ff (sym (ap is_stopped e) ∙ ap is_stopped q)) in
       rw (same, q) (omega arith)
 
-  pub inner-grows : count_of t (inner_of G wish phi L mu).items ≤ count_of t (inner_of G wish phi M mu).items
+  pub inner_grows : count_of t (inner_of G wish phi L mu).items ≤ count_of t (inner_of G wish phi M mu).items
   unfolding inner_of inner_with
-  inner-grows = by-ending (run_of G phi L mu).ending refl
+  inner_grows = by_ending (run_of G phi L mu).ending refl

@@ -147,24 +147,24 @@ scale_step_lem k B =
     ldl_step (ldl_end k F) k F
 
 module _ (G : Given) (M : Mode) (phi : Float) (o : Order) where
-  one-fate : (b : Bool) (g : ℕ) (a : Float) → Fate (after_diagonal b G M phi o g a)
+  one_fate : (b : Bool) (g : ℕ) (a : Float) → Fate (after_diagonal b G M phi o g a)
   unfolding after_diagonal answers
-  one-fate true g a = declines Diagonal refl (λ rest. refl)
-  one-fate false g a = terms_fate (build (one_term G M phi o g (sigma_of a)) (size_of o))
+  one_fate true g a = declines Diagonal refl (λ rest. refl)
+  one_fate false g a = terms_fate (build (one_term G M phi o g (sigma_of a)) (size_of o))
 
-  several-fate : (x : Scale) (s k : ℕ) → scale_step x ≡ true → Fate (after_scale x G M phi o s k)
+  several_fate : (x : Scale) (s k : ℕ) → scale_step x ≡ true → Fate (after_scale x G M phi o s k)
   unfolding after_scale answers
-  several-fate (unscaled d) s k t = declines d t (λ rest. refl)
-  several-fate (scaled L) s k t = terms_fate (build (group_term G M phi o s k L) (size_of o ^ k))
+  several_fate (unscaled d) s k t = declines d t (λ rest. refl)
+  several_fate (scaled L) s k t = terms_fate (build (group_term G M phi o s k L) (size_of o ^ k))
 
-  group-fate : (b : Bool) (k g : ℕ) → Fate (group_by b G M phi o k g)
+  group_fate : (b : Bool) (k g : ℕ) → Fate (group_by b G M phi o k g)
   unfolding group_by one_group several_group
-  group-fate true k g =
+  group_fate true k g =
       let a = at (q_of G.design) M.system g g in
-      one-fate (bad_diagonal a) g a
-  group-fate false k g =
+      one_fate (bad_diagonal a) g a
+  group_fate false k g =
       let B = section_of (q_of G.design) M.system (g * k) k in
-      several-fate (block_scale k B) (g * k) k (scale_step_lem k B)
+      several_fate (block_scale k B) (g * k) k (scale_step_lem k B)
 
 -- ---- the first group that declines
 -- a step declined
@@ -182,28 +182,28 @@ abbrev onward : Given → Mode → Float → Order → (k left g : ℕ) → Floa
 onward G M phi o k left g total s = groups_from G M phi o k left (g + 1) (with_sum total s)
 
 module _ (G : Given) (M : Mode) (phi : Float) (o : Order) (k : ℕ) where
-  by-fate : (left g : ℕ) (total : Float) (d : Decline) → ((s : Float) → (onward G M phi o k left g total s).answer ≡ Declined d → FirstDecline G M phi o k left (g + 1) (with_sum total s) d)
+  by_fate : (left g : ℕ) (total : Float) (d : Decline) → ((s : Float) → (onward G M phi o k left g total s).answer ≡ Declined d → FirstDecline G M phi o k left (g + 1) (with_sum total s) d)
       → Fate (group_by (eqb k 1) G M phi o k g) → (groups_from G M phi o k (suc left) g total).answer ≡ Declined d → FirstDecline G M phi o k (suc left) g total d
   unfolding groups_from
-  by-fate left g total d after (declines w t h) e =
+  by_fate left g total d after (declines w t h) e =
       let q : w ≡ d = ap (reason_in d) (sym (h (onward G M phi o k left g total)) ∙ e) in
       rw (← q) (here left g total w h)
-  by-fate left g total d after (sums s h) e =
+  by_fate left g total d after (sums s h) e =
       later left g total s d h (after s (sym (h (onward G M phi o k left g total)) ∙ e))
 
   -- the reason told is that of the first group that declines
-  pub first-decline : (left g : ℕ) (total : Float) (d : Decline) → (groups_from G M phi o k left g total).answer ≡ Declined d → FirstDecline G M phi o k left g total d
+  pub first_decline : (left g : ℕ) (total : Float) (d : Decline) → (groups_from G M phi o k left g total).answer ≡ Declined d → FirstDecline G M phi o k left g total d
   unfolding groups_from answers
-  first-decline zero g total d e = absurd (ff (ap is_declined e))
-  first-decline (suc left) g total d e =
-      by-fate left g total d (λ s. first-decline left (g + 1) (with_sum total s) d) (group-fate G M phi o (eqb k 1) k g) e
+  first_decline zero g total d e = absurd (ff (ap is_declined e))
+  first_decline (suc left) g total d e =
+      by_fate left g total d (λ s. first_decline left (g + 1) (with_sum total s) d) (group_fate G M phi o (eqb k 1) k g) e
 
   -- and where there is such a group, the step declines for its reason
-  pub declined-first : (left g : ℕ) (total : Float) (d : Decline) → FirstDecline G M phi o k left g total d → (groups_from G M phi o k left g total).answer ≡ Declined d
+  pub declined_first : (left g : ℕ) (total : Float) (d : Decline) → FirstDecline G M phi o k left g total d → (groups_from G M phi o k left g total).answer ≡ Declined d
   unfolding groups_from
-  declined-first _ _ _ d (here left g total _ h) = h (onward G M phi o k left g total)
-  declined-first _ _ _ d (later left g total s _ h r) =
-      h (onward G M phi o k left g total) ∙ declined-first left (g + 1) (with_sum total s) d r
+  declined_first _ _ _ d (here left g total _ h) = h (onward G M phi o k left g total)
+  declined_first _ _ _ d (later left g total s _ h r) =
+      h (onward G M phi o k left g total) ∙ declined_first left (g + 1) (with_sum total s) d r
 
 -- ---- the reasons of the order choice: each is told exactly where it is the first that holds
 -- a step that has its order declines for a reason of the step
@@ -212,26 +212,26 @@ answer_step (Deviance d o) = true
 answer_step (Declined w) = of_step w
 
 module _ (G : Given) (M : Mode) (phi : Float) (o : Order) where
-  groups-by : (k left g : ℕ) (total : Float) → ((s : Float) → answer_step (onward G M phi o k left g total s).answer ≡ true) → Fate (group_by (eqb k 1) G M phi o k g)
+  groups_by : (k left g : ℕ) (total : Float) → ((s : Float) → answer_step (onward G M phi o k left g total s).answer ≡ true) → Fate (group_by (eqb k 1) G M phi o k g)
       → answer_step (groups_from G M phi o k (suc left) g total).answer ≡ true
   unfolding groups_from
-  groups-by k left g total after (declines d t h) = ap answer_step (h (onward G M phi o k left g total)) ∙ t
-  groups-by k left g total after (sums s h) = ap answer_step (h (onward G M phi o k left g total)) ∙ after s
+  groups_by k left g total after (declines d t h) = ap answer_step (h (onward G M phi o k left g total)) ∙ t
+  groups_by k left g total after (sums s h) = ap answer_step (h (onward G M phi o k left g total)) ∙ after s
 
-  groups-step : (k left g : ℕ) (total : Float) → answer_step (groups_from G M phi o k left g total).answer ≡ true
+  groups_step : (k left g : ℕ) (total : Float) → answer_step (groups_from G M phi o k left g total).answer ≡ true
   unfolding groups_from answers
-  groups-step k zero g total = refl
-  groups-step k (suc left) g total = groups-by k left g total (λ s. groups-step k left (g + 1) (with_sum total s)) (group-fate G M phi o (eqb k 1) k g)
+  groups_step k zero g total = refl
+  groups_step k (suc left) g total = groups_by k left g total (λ s. groups_step k left (g + 1) (with_sum total s)) (group_fate G M phi o (eqb k 1) k g)
 
-  joint-by : (terms : List Float) → Fate (terms_then terms) → answer_step (terms_then terms (joint_total M o)).answer ≡ true
+  joint_by_lem : (terms : List Float) → Fate (terms_then terms) → answer_step (terms_then terms (joint_total M o)).answer ≡ true
   unfolding joint_total answers
-  joint-by terms (declines d t h) = ap answer_step (h (joint_total M o)) ∙ t
-  joint-by terms (sums s h) = ap answer_step (h (joint_total M o))
+  joint_by_lem terms (declines d t h) = ap answer_step (h (joint_total M o)) ∙ t
+  joint_by_lem terms (sums s h) = ap answer_step (h (joint_total M o))
 
-  joint-step : (x : Scale) → scale_step x ≡ true → answer_step (after_joint x G M phi o).answer ≡ true
+  joint_step_lem : (x : Scale) → scale_step x ≡ true → answer_step (after_joint x G M phi o).answer ≡ true
   unfolding after_joint answers
-  joint-step (unscaled d) t = t
-  joint-step (scaled L) t = let terms = build (joint_term G M phi o L) (size_of o ^ q_of G.design) in joint-by terms (terms_fate terms)
+  joint_step_lem (unscaled d) t = t
+  joint_step_lem (scaled L) t = let terms = build (joint_term G M phi o L) (size_of o ^ q_of G.design) in joint_by_lem terms (terms_fate terms)
 
 -- so where it declines for another, the order choice did
 other : (x : Integral) (d : Decline) → answer_step x ≡ true → of_step d ≡ false → x ≡ Declined d → ⊥
@@ -251,56 +251,56 @@ module _ (G : Given) (wish : ℕ) (M : Mode) (phi : Float) where
   abbrev several : ℕ
   several = G.design.shape.k !! 0
 
-  product-chose : (c : Choice) (d : Decline) → of_step d ≡ false → (product_with c G M phi groups several).answer ≡ Declined d → c ≡ Without d
+  product_chose : (c : Choice) (d : Decline) → of_step d ≡ false → (product_with c G M phi groups several).answer ≡ Declined d → c ≡ Without d
   unfolding product_with answers
-  product-chose (Without w) d n e = ap Without (ap (reason_in d) e)
-  product-chose (Use o) d n e = absurd (other (groups_from G M phi o several groups 0 zero_f).answer d (groups-step G M phi o several groups 0 zero_f) n e)
+  product_chose (Without w) d n e = ap Without (ap (reason_in d) e)
+  product_chose (Use o) d n e = absurd (other (groups_from G M phi o several groups 0 zero_f).answer d (groups_step G M phi o several groups 0 zero_f) n e)
 
-  joint-chose : (c : Choice) (d : Decline) → of_step d ≡ false → (joint_with c G M phi).answer ≡ Declined d → c ≡ Without d
+  joint_chose : (c : Choice) (d : Decline) → of_step d ≡ false → (joint_with c G M phi).answer ≡ Declined d → c ≡ Without d
   unfolding joint_with answers
-  joint-chose (Without w) d n e = ap Without (ap (reason_in d) e)
-  joint-chose (Use o) d n e =
+  joint_chose (Without w) d n e = ap Without (ap (reason_in d) e)
+  joint_chose (Use o) d n e =
       let x = block_scale effects M.system in
-      absurd (other (after_joint x G M phi o).answer d (joint-step G M phi o x (scale_step_lem effects M.system)) n e)
+      absurd (other (after_joint x G M phi o).answer d (joint_step_lem G M phi o x (scale_step_lem effects M.system)) n e)
 
   -- what the order choice told, by the number of blocks
   chose : (b : Bool) (d : Decline) → of_step d ≡ false → (step_by b G wish M phi).answer ≡ Declined d → cond b (product_order wish several) (joint_order wish effects) ≡ Without d
   unfolding step_by product_step joint_step
-  chose true d n e = product-chose (product_order wish several) d n e
-  chose false d n e = joint-chose (joint_order wish effects) d n e
+  chose true d n e = product_chose (product_order wish several) d n e
+  chose false d n e = joint_chose (joint_order wish effects) d n e
 
   -- 1: a wish below 2, whatever else holds
-  wish-step : (b : Bool) → wish < 2 → (step_by b G wish M phi).answer ≡ Declined Wish
+  wish_step : (b : Bool) → wish < 2 → (step_by b G wish M phi).answer ≡ Declined Wish
   unfolding step_by product_step product_with joint_step joint_with answers
-  wish-step true l = rw ((wish_first wish 0 l).1 several) refl
-  wish-step false l = rw (wish_first wish effects l).0 refl
+  wish_step true l = rw ((wish_first wish 0 l).1 several) refl
+  wish_step false l = rw (wish_first wish effects l).0 refl
 
-  wish-only : (b : Bool) → cond b (product_order wish several) (joint_order wish effects) ≡ Without Wish → wish < 2
-  wish-only true e = ⊎_elim (λ x. x.1) (λ x. absurd (omega (arith, ap decline_number x.0))) (product_declines wish several Wish e)
-  wish-only false e = ⊎_elim (λ x. x.1) (λ x. absurd (omega (arith, ap decline_number x.0))) (joint_declines wish effects Wish e)
+  wish_only : (b : Bool) → cond b (product_order wish several) (joint_order wish effects) ≡ Without Wish → wish < 2
+  wish_only true e = ⊎_elim (λ x. x.1) (λ x. absurd (omega (arith, ap decline_number x.0))) (product_declines wish several Wish e)
+  wish_only false e = ⊎_elim (λ x. x.1) (λ x. absurd (omega (arith, ap decline_number x.0))) (joint_declines wish effects Wish e)
 
-  pub wish-exactly : ((quadrature_of G wish M phi).answer ≡ Declined Wish) ↔ (wish < 2)
+  pub wish_exactly : ((quadrature_of G wish M phi).answer ≡ Declined Wish) ↔ (wish < 2)
   unfolding quadrature_of
-  wish-exactly = (λ e. wish-only (eqb blocks 1) (chose (eqb blocks 1) Wish refl e), wish-step (eqb blocks 1))
+  wish_exactly = (λ e. wish_only (eqb blocks 1) (chose (eqb blocks 1) Wish refl e), wish_step (eqb blocks 1))
 
   -- 2: then, of several blocks, no effect or more than 8
-  effects-only : (b : Bool) → eqb blocks 1 ≡ b → cond b (product_order wish several) (joint_order wish effects) ≡ Without Effects → (2 ≤ wish) × (blocks ≡ 1 → ⊥) × ((effects ≡ 0) ⊎ (8 < effects))
-  effects-only true t e =
+  effects_only : (b : Bool) → eqb blocks 1 ≡ b → cond b (product_order wish several) (joint_order wish effects) ≡ Without Effects → (2 ≤ wish) × (blocks ≡ 1 → ⊥) × ((effects ≡ 0) ⊎ (8 < effects))
+  effects_only true t e =
       ⊎_elim (λ x. absurd (omega (arith, ap decline_number x.0))) (λ x. absurd (omega (arith, ap decline_number x.0))) (product_declines wish several Effects e)
-  effects-only false t e =
+  effects_only false t e =
       ⊎_elim (λ x. absurd (omega (arith, ap decline_number x.0))) (λ x. (x.1, eqb-false blocks 1 t, x.2)) (joint_declines wish effects Effects e)
 
-  pub effects-exactly : ((quadrature_of G wish M phi).answer ≡ Declined Effects) ↔ ((2 ≤ wish) × (blocks ≡ 1 → ⊥) × ((effects ≡ 0) ⊎ (8 < effects)))
+  pub effects_exactly : ((quadrature_of G wish M phi).answer ≡ Declined Effects) ↔ ((2 ≤ wish) × (blocks ≡ 1 → ⊥) × ((effects ≡ 0) ⊎ (8 < effects)))
   unfolding quadrature_of step_by joint_step joint_with answers
-  effects-exactly = (λ e. effects-only (eqb blocks 1) refl (chose (eqb blocks 1) Effects refl e), λ h. rw (ne_eqb blocks 1 h.1, effects_next wish effects h.0 h.2) refl)
+  effects_exactly = (λ e. effects_only (eqb blocks 1) refl (chose (eqb blocks 1) Effects refl e), λ h. rw (ne_eqb blocks 1 h.1, effects_next wish effects h.0 h.2) refl)
 
   -- 3: then, of one block, more than five effects a group
-  cap-only : (b : Bool) → eqb blocks 1 ≡ b → cond b (product_order wish several) (joint_order wish effects) ≡ Without Cap → (2 ≤ wish) × (blocks ≡ 1) × (6 ≤ several)
-  cap-only true t e =
+  cap_only : (b : Bool) → eqb blocks 1 ≡ b → cond b (product_order wish several) (joint_order wish effects) ≡ Without Cap → (2 ≤ wish) × (blocks ≡ 1) × (6 ≤ several)
+  cap_only true t e =
       ⊎_elim (λ x. absurd (omega (arith, ap decline_number x.0))) (λ x. (x.1, eqb-true blocks 1 t, x.2)) (product_declines wish several Cap e)
-  cap-only false t e =
+  cap_only false t e =
       ⊎_elim (λ x. absurd (omega (arith, ap decline_number x.0))) (λ x. absurd (omega (arith, ap decline_number x.0))) (joint_declines wish effects Cap e)
 
-  pub cap-exactly : ((quadrature_of G wish M phi).answer ≡ Declined Cap) ↔ ((2 ≤ wish) × (blocks ≡ 1) × (6 ≤ several))
+  pub cap_exactly : ((quadrature_of G wish M phi).answer ≡ Declined Cap) ↔ ((2 ≤ wish) × (blocks ≡ 1) × (6 ≤ several))
   unfolding quadrature_of step_by product_step product_with answers
-  cap-exactly = (λ e. cap-only (eqb blocks 1) refl (chose (eqb blocks 1) Cap refl e), λ h. rw (eq-eqb blocks 1 h.1, product_cap wish several h.0 h.2) refl)
+  cap_exactly = (λ e. cap_only (eqb blocks 1) refl (chose (eqb blocks 1) Cap refl e), λ h. rw (eq-eqb blocks 1 h.1, product_cap wish several h.0 h.2) refl)

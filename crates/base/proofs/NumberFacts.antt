@@ -30,15 +30,15 @@ clamp_of_nan lo (fin s m e) = refl
 
 -- of anything else it lies between its ends
 module _ (lo hi x : Float) (low : is_nan lo ≡ false) (high : is_nan hi ≡ false) (number : is_nan x ≡ false) (order : le lo hi ≡ true) where
-  pub clamp-from : le lo (clamp_f lo hi x) ≡ true
+  pub clamp_from : le lo (clamp_f lo hi x) ≡ true
   unfolding clamp_f
-  clamp-from =
+  clamp_from =
       by_test (λ z. le lo z ≡ true) (lt x lo) (λ p. at_most_self lo low)
       (λ p. by_test (λ z. le lo z ≡ true) (lt hi x) (λ q. order) (λ q. at_most x lo number low p))
 
-  pub clamp-to : le (clamp_f lo hi x) hi ≡ true
+  pub clamp_to : le (clamp_f lo hi x) hi ≡ true
   unfolding clamp_f
-  clamp-to =
+  clamp_to =
       by_test (λ z. le z hi ≡ true) (lt x lo) (λ p. order)
       (λ p. by_test (λ z. le z hi ≡ true) (lt hi x) (λ q. at_most_self hi high) (λ q. at_most hi x high number q))
 

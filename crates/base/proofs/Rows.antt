@@ -24,8 +24,8 @@ module _ (b n : ℕ) (w : List Float) (fits : b + n ≤ length w) where
   unfolding row
   row_at i h = rw (get_or-take, get_or-drop)
 
-  pub row-build : (f : ℕ → Float) → ((k : ℕ) → k < n → w ! (b + k) ≡ f k) → row b n w ≡ build f n
-  row-build f h = build_is f n (row b n w) row_length (λ i l. row_at i l ∙ h i l)
+  pub row_build : (f : ℕ → Float) → ((k : ℕ) → k < n → w ! (b + k) ≡ f k) → row b n w ≡ build f n
+  row_build f h = build_is f n (row b n w) row_length (λ i l. row_at i l ∙ h i l)
 
 -- the part `&w[b..b + n]` is the row
 pub part_row : (b n : ℕ) (w : List Float) → take (b + n - b) (drop b w) ≡ row b n w
@@ -107,7 +107,7 @@ pub fillat_wrote : (b n i : ℕ) (f : ℕ → Float) (v w : List Float) → w �
 fillat_wrote b n i f v w e l m h =
     rw (fillat_end b f v i n w e l m)
     (record {
-      row' = row-build b n (fill_at b n f v) (omega (arith, length_fillat b n f v)) f (λ k g. fillat_in b n f v h k g);
+      row' = row_build b n (fill_at b n f v) (omega (arith, length_fillat b n f v)) f (λ k g. fillat_in b n f v h k g);
       only = fillat_only b n n f v (omega arith);
     })
 
@@ -164,6 +164,6 @@ pub grid_wrote : (r c : ℕ) (f : ℕ → ℕ → Float) (b : List Float) → r 
 unfolding matrix
 grid_wrote r c f b h =
     record {
-      row' = row-build 0 (r * c) (grid_to r c f b) (omega (arith, length_grid r c f b)) (λ t. f (t / c) (t % c)) (λ t l. let z : 0 + t ≡ t = omega arith in rw z (grid_place r c f b h t l));
+      row' = row_build 0 (r * c) (grid_to r c f b) (omega (arith, length_grid r c f b)) (λ t. f (t / c) (t % c)) (λ t l. let z : 0 + t ≡ t = omega arith in rw z (grid_place r c f b h t l));
       only = record { len = length_grid r c f b; kept = λ j o. ⊎_elim (λ a. absurd (omega arith)) (λ a. grid_past r c f b j (omega arith)) o };
     }

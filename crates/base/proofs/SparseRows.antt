@@ -67,36 +67,36 @@ module _ {columns : List ℕ} {n b e : ℕ} (r : Rising columns n b e) where
       omega arith
 
   -- a later entry has a larger column
-  pub later-above : (j k : ℕ) → b ≤ j → j < k → k < e → columns !! j < columns !! k
-  later-above j k l m h =
+  pub later_above : (j k : ℕ) → b ≤ j → j < k → k < e → columns !! j < columns !! k
+  later_above j k l m h =
       let q : j + suc (k - (j + 1)) ≡ k = omega arith in
       rw q at (climbs (k - (j + 1)) j l (omega arith))
 
   -- and none a smaller one
-  pub later-or-same : (j k : ℕ) → b ≤ j → j ≤ k → k < e → columns !! j ≤ columns !! k
-  later-or-same j k l m h =
-      ⊎_elim (λ (q : j ≡ k). rw q (le_refl _)) (λ (g : j < k). let a : columns !! j < columns !! k = later-above j k l g h in omega arith) (eq-or-lt_of_le m)
+  pub later_or_same : (j k : ℕ) → b ≤ j → j ≤ k → k < e → columns !! j ≤ columns !! k
+  later_or_same j k l m h =
+      ⊎_elim (λ (q : j ≡ k). rw q (le_refl _)) (λ (g : j < k). let a : columns !! j < columns !! k = later_above j k l g h in omega arith) (eq-or-lt_of_le m)
 
   -- what the row stores: each of its columns
-  pub stored-entry : (k : ℕ) → b ≤ k → k < e → stored_in columns b e (columns !! k) ≡ true
+  pub stored_entry : (k : ℕ) → b ≤ k → k < e → stored_in columns b e (columns !! k) ≡ true
   unfolding stored_in
-  stored-entry k l h =
+  stored_entry k l h =
       any_at (λ t. eqb (columns !! (b + t)) (columns !! k)) (e - b) (k - b) (omega arith)
       (let q : b + (k - b) ≡ k = omega arith in eq-eqb _ _ (ap (λ (j : ℕ). columns !! j) q))
 
   -- and no other
-  pub stored-none : (i : ℕ) → ((k : ℕ) → b ≤ k → k < e → columns !! k ≡ i → ⊥) → stored_in columns b e i ≡ false
+  pub stored_none : (i : ℕ) → ((k : ℕ) → b ≤ k → k < e → columns !! k ≡ i → ⊥) → stored_in columns b e i ≡ false
   unfolding stored_in
-  stored-none i h = any_none _ (e - b) (λ t l. ne_eqb (columns !! (b + t)) i (h (b + t) (omega arith) (omega arith)))
+  stored_none i h = any_none _ (e - b) (λ t l. ne_eqb (columns !! (b + t)) i (h (b + t) (omega arith) (omega arith)))
 
   -- the place of a column that the row stores is that of its entry
-  pub place-entry : (k : ℕ) → b ≤ k → k < e → place_in columns b e (columns !! k) ≡ k
+  pub place_entry : (k : ℕ) → b ≤ k → k < e → place_in columns b e (columns !! k) ≡ k
   unfolding place_in
-  place-entry k l h =
+  place_entry k l h =
       let q : b + (k - b) ≡ k = omega arith in
       ap (λ (j : ℕ). b + j)
       (find_last (λ t. eqb (columns !! (b + t)) (columns !! k)) (e - b) (k - b) (omega arith) (eq-eqb _ _ (ap (λ (j : ℕ). columns !! j) q))
-      (λ j a c. let m : columns !! k < columns !! (b + j) = later-above k (b + j) l (omega arith) (omega arith) in ne_eqb (columns !! (b + j)) (columns !! k) (λ z. omega arith)))
+      (λ j a c. let m : columns !! k < columns !! (b + j) = later_above k (b + j) l (omega arith) (omega arith) in ne_eqb (columns !! (b + j)) (columns !! k) (λ z. omega arith)))
       ∙ q
 
 -- ---- a sum over the columns that a test picks is the sum over the row's entries, where the test picks just the row's columns
@@ -104,17 +104,17 @@ module _ {columns : List ℕ} {n b e : ℕ} (r : Rising columns n b e) (t : ℕ 
     (hit : (k : ℕ) → b ≤ k → k < e → t (columns !! k) ≡ true)
     (miss : (i : ℕ) → ((k : ℕ) → b ≤ k → k < e → columns !! k ≡ i → ⊥) → t i ≡ false) where
   -- the columns below m are those of the entries before b + d
-  sum-parted : (d m : ℕ) → b + d ≤ e
+  sum_parted : (d m : ℕ) → b + d ≤ e
       → ((k : ℕ) → b ≤ k → k < b + d → columns !! k < m)
       → ((k : ℕ) → b + d ≤ k → k < e → m ≤ columns !! k)
       → sum_where m t f ≡ sum_from b (b + d) (λ k. f (columns !! k))
-  sum-parted zero m h low high =
+  sum_parted zero m h low high =
       sym (where_gap t f 0 m (omega arith) (λ i p q. miss i (λ k l g z. let a : m ≤ columns !! k = high k (omega arith) g in omega arith)))
       ∙ sym (where_none t f) ∙ rw (add-zero b) (from_none b (λ k. f (columns !! k)))
-  sum-parted (suc d) m h low high =
+  sum_parted (suc d) m h low high =
       let c : columns !! (b + d) < m = low (b + d) (omega arith) (omega arith) in
       let before : sum_where (columns !! (b + d)) t f ≡ sum_from b (b + d) (λ k. f (columns !! k)) =
-      sum-parted d (columns !! (b + d)) (omega arith) (λ k l g. later-above r k (b + d) l g (omega arith)) (λ k l g. later-or-same r (b + d) k (omega arith) l g) in
+      sum_parted d (columns !! (b + d)) (omega arith) (λ k l g. later_above r k (b + d) l g (omega arith)) (λ k l g. later_or_same r (b + d) k (omega arith) l g) in
       let q : b + d + 1 ≡ b + suc d = omega arith in
       sym (where_gap t f (columns !! (b + d) + 1) m (omega arith) (λ i p w. miss i (λ k l g z. apart k i p w l g z)))
       ∙ sym (where_take t f (columns !! (b + d)) (sum_where (columns !! (b + d)) t f) (hit (b + d) (omega arith) (omega arith)) refl)
@@ -124,26 +124,26 @@ module _ {columns : List ℕ} {n b e : ℕ} (r : Rising columns n b e) (t : ℕ 
       apart : (k i : ℕ) → columns !! (b + d) + 1 ≤ i → i < m → b ≤ k → k < e → columns !! k ≡ i → ⊥
       apart k i p w l g z =
           ⊎_elim
-          (λ (a : k < b + suc d). let x : columns !! k ≤ columns !! (b + d) = later-or-same r k (b + d) l (omega arith) (omega arith) in omega arith)
+          (λ (a : k < b + suc d). let x : columns !! k ≤ columns !! (b + d) = later_or_same r k (b + d) l (omega arith) (omega arith) in omega arith)
           (λ (a : b + suc d ≤ k). let x : m ≤ columns !! k = high k a g in omega arith)
           (lt_or_ge k (b + suc d))
 
-  pub sum-entries : sum_where n t f ≡ sum_from b e (λ k. f (columns !! k))
-  sum-entries =
+  pub sum_entries : sum_where n t f ≡ sum_from b e (λ k. f (columns !! k))
+  sum_entries =
       let q : b + (e - b) ≡ e = omega (arith, r.order) in
-      sum-parted (e - b) n (omega arith) (λ k l g. r.below k l (omega arith)) (λ k l g. absurd (omega arith)) ∙ ap (λ (x : ℕ). sum_from b x (λ k. f (columns !! k))) q
+      sum_parted (e - b) n (omega arith) (λ k l g. r.below k l (omega arith)) (λ k l g. absurd (omega arith)) ∙ ap (λ (x : ℕ). sum_from b x (λ k. f (columns !! k))) q
 
 -- ---- the rows of a matrix
 module _ (Z : Sparse) (rows n a : ℕ) (r : Rows Z.starts Z.columns Z.values rows n) (l : a < rows) where
   -- a sum over what a row stores is one over its entries
-  pub row-sum : (f : ℕ → Float) → row_sum Z n a f ≡ sum_from (Z.starts !! a) (Z.starts !! (a + 1)) (λ k. f (Z.columns !! k))
+  pub row_sum_lem : (f : ℕ → Float) → row_sum Z n a f ≡ sum_from (Z.starts !! a) (Z.starts !! (a + 1)) (λ k. f (Z.columns !! k))
   unfolding row_sum stored
-  row-sum f = sum-entries (r.each a l) (stored Z a) f (stored-entry (r.each a l)) (stored-none (r.each a l))
+  row_sum_lem f = sum_entries (r.each a l) (stored Z a) f (stored_entry (r.each a l)) (stored_none (r.each a l))
 
   -- with the entry's value
-  pub value-entry : (k : ℕ) → Z.starts !! a ≤ k → k < Z.starts !! (a + 1) → value_at Z a (Z.columns !! k) ≡ Z.values ! k
+  pub value_entry : (k : ℕ) → Z.starts !! a ≤ k → k < Z.starts !! (a + 1) → value_at Z a (Z.columns !! k) ≡ Z.values ! k
   unfolding value_at
-  value-entry k g h = ap (λ (j : ℕ). Z.values ! j) (place-entry (r.each a l) k g h)
+  value_entry k g h = ap (λ (j : ℕ). Z.values ! j) (place_entry (r.each a l) k g h)
 
 -- ---- number 6: what the tests say
 module _ (starts : List ℕ) (rows count : ℕ) (h : true ≡ good_starts starts rows count) where
@@ -155,21 +155,21 @@ module _ (starts : List ℕ) (rows count : ℕ) (h : true ≡ good_starts starts
   last = eqb-true (starts !! rows) count (sym (and_true (eqb (starts !! 0) 0) (eqb (starts !! rows) count) ends.0).1)
 
   -- no row begins before the row before it
-  pub starts-step : (a : ℕ) → a < rows → starts !! a ≤ starts !! (a + 1)
+  pub starts_step : (a : ℕ) → a < rows → starts !! a ≤ starts !! (a + 1)
   unfolding not_falling
-  starts-step a l = leb-true (starts !! a) (starts !! (a + 1)) (all_at (not_falling starts) rows ends.1 a l)
+  starts_step a l = leb-true (starts !! a) (starts !! (a + 1)) (all_at (not_falling starts) rows ends.1 a l)
 
   rises : (d a : ℕ) → a + d ≤ rows → starts !! a ≤ starts !! (a + d)
   rises zero a l = rw (add-zero a) (le_refl _)
   rises (suc d) a l =
       let here : starts !! a ≤ starts !! (a + d) = rises d a (omega arith) in
       let q : a + d + 1 ≡ a + suc d = omega arith in
-      let next : starts !! (a + d) ≤ starts !! (a + suc d) = rw q at (starts-step (a + d) (omega arith)) in
+      let next : starts !! (a + d) ≤ starts !! (a + suc d) = rw q at (starts_step (a + d) (omega arith)) in
       omega arith
 
   -- no row ends past the entry count
-  pub starts-within : (a : ℕ) → a ≤ rows → starts !! a ≤ count
-  starts-within a l =
+  pub starts_within : (a : ℕ) → a ≤ rows → starts !! a ≤ count
+  starts_within a l =
       let q : a + (rows - a) ≡ rows = omega arith in
       let up : starts !! a ≤ starts !! rows = rw q at (rises (rows - a) a (omega arith)) in
       omega (arith, last)
@@ -200,7 +200,7 @@ columns_rising columns n b e l m h = record { order = l; within = m; below = λ 
 pub good_rows_lem : (starts columns : List ℕ) (values : List Float) (rows n : ℕ) → length starts ≡ rows + 1 → length columns ≡ length values → true ≡ good_rows starts columns rows n → Rows starts columns values rows n
 unfolding good_rows good_row
 good_rows_lem starts columns values rows n l m h =
-    record { long = l; paired = m; each = λ a g. columns_rising columns n (starts !! a) (starts !! (a + 1)) (starts-step starts rows (length columns) both.0 a g) (starts-within starts rows (length columns) both.0 (a + 1) (omega arith)) (sym (all_at (good_row starts columns n) rows both.1 a g)) }
+    record { long = l; paired = m; each = λ a g. columns_rising columns n (starts !! a) (starts !! (a + 1)) (starts_step starts rows (length columns) both.0 a g) (starts_within starts rows (length columns) both.0 (a + 1) (omega arith)) (sym (all_at (good_row starts columns n) rows both.1 a g)) }
   where
     both : (true ≡ good_starts starts rows (length columns)) × (true ≡ all_to rows (good_row starts columns n))
     both = and_true (good_starts starts rows (length columns)) (all_to rows (good_row starts columns n)) h

@@ -81,34 +81,34 @@ module _ {M : Type 1} {𝓤 : Ura M} (𝓛 : Logic 𝓤) (mem : Memory → SProp
   token = ‵ (flft κ q) ⊛ ‵ ftrue
 
   -- ---- the call of `new`
-  abbrev to-new : ℕ → (New 𝓛 mem run).Ghost
-  to-new k = (((κ, tt), (q, tt), tt, (s, (k, tt)), (slice ∷ [], (vint w64 k ∷ [], tt))), tt)
+  abbrev to_new : ℕ → (New 𝓛 mem run).Ghost
+  to_new k = (((κ, tt), (q, tt), tt, (s, (k, tt)), (slice ∷ [], (vint w64 k ∷ [], tt))), tt)
 
-  goes-new : (k : ℕ) → k < 2 ^ 64 → ent 𝓤 (⋆ 𝓛 (Lent ∷ token ∷ [])) ((New 𝓛 mem run).pre (to-new k))
-  goes-new k fits = qed 𝓛 (Lent ∷ token ∷ []) ∵ nothing ! $ owned ! usize (Is usize) (uint_Makes 𝓛 w64) k _ (refl, fits) $ fjoin ! $ move ! (1 ∷ 0 ∷ []) $ fjoin ! $ move ! (1 ∷ 0 ∷ []) $ join ! $ frame ! $ done !
+  goes_new : (k : ℕ) → k < 2 ^ 64 → ent 𝓤 (⋆ 𝓛 (Lent ∷ token ∷ [])) ((New 𝓛 mem run).pre (to_new k))
+  goes_new k fits = qed 𝓛 (Lent ∷ token ∷ []) ∵ nothing ! $ owned ! usize (Is usize) (uint_Makes 𝓛 w64) k _ (refl, fits) $ fjoin ! $ move ! (1 ∷ 0 ∷ []) $ fjoin ! $ move ! (1 ∷ 0 ∷ []) $ join ! $ frame ! $ done !
 
-  new-said : (k : ℕ) (r : BitReader) → ent 𝓤 (ensured 𝓛 new.ended (new.clauses 𝓛 mem run) (κ, tt) (s, (k, tt)) tt r) (fact 𝓤 ((r.src ≡ s) × (r.at ≡ k)))
-  new-said k r = ex_e 𝓤 _ (λ ws. snd∗ 𝓤 (sem 𝓛 (lasts new.ended (κ, tt) (s, (k, tt)) ws)) (fact 𝓤 ((r.src ≡ s) × (r.at ≡ k))))
+  new_said : (k : ℕ) (r : BitReader) → ent 𝓤 (ensured 𝓛 new.ended (new.clauses 𝓛 mem run) (κ, tt) (s, (k, tt)) tt r) (fact 𝓤 ((r.src ≡ s) × (r.at ≡ k)))
+  new_said k r = ex_e 𝓤 _ (λ ws. snd∗ 𝓤 (sem 𝓛 (lasts new.ended (κ, tt) (s, (k, tt)) ws)) (fact 𝓤 ((r.src ≡ s) × (r.at ≡ k))))
 
   -- ---- the call of `take`
   abbrev to_take : ℕ → ℕ → (Take 𝓛 mem run).Ghost
   to_take k n = (((κ, tt), (q, tt), tt, (reader k, (n, tt)), (mach k ∷ [], (vint w64 n ∷ [], tt))), tt)
 
-  goes-take : (k n : ℕ) → n < 2 ^ 64 → Near k n → ent 𝓤 (⋆ 𝓛 (Own k ∷ token ∷ [])) ((Take 𝓛 mem run).pre (to_take k n))
-  goes-take k n fits ok = qed 𝓛 (Own k ∷ token ∷ []) ∵ says ! ok $ move ! (1 ∷ []) $ frame ! $ nothing ! $ owned ! usize (Is usize) (uint_Makes 𝓛 w64) n _ (refl, fits) $ fjoin ! $ move ! (1 ∷ 0 ∷ []) $ fjoin ! $ done !
+  goes_take : (k n : ℕ) → n < 2 ^ 64 → Near k n → ent 𝓤 (⋆ 𝓛 (Own k ∷ token ∷ [])) ((Take 𝓛 mem run).pre (to_take k n))
+  goes_take k n fits ok = qed 𝓛 (Own k ∷ token ∷ []) ∵ says ! ok $ move ! (1 ∷ []) $ frame ! $ nothing ! $ owned ! usize (Is usize) (uint_Makes 𝓛 w64) n _ (refl, fits) $ fjoin ! $ move ! (1 ∷ 0 ∷ []) $ fjoin ! $ done !
 
-  take-said : (k n t : ℕ) → ent 𝓤 (ensured 𝓛 take.ended (take.clauses 𝓛 mem run) (κ, tt) (reader k, (n, tt)) tt t) (fact 𝓤 (t ≡ bits_of s.now k n))
-  take-said k n t = ex_e 𝓤 _ (λ ws. snd∗ 𝓤 (sem 𝓛 (lasts take.ended (κ, tt) (reader k, (n, tt)) ws)) (fact 𝓤 (t ≡ bits_of s.now k n)))
+  take_said : (k n t : ℕ) → ent 𝓤 (ensured 𝓛 take.ended (take.clauses 𝓛 mem run) (κ, tt) (reader k, (n, tt)) tt t) (fact 𝓤 (t ≡ bits_of s.now k n))
+  take_said k n t = ex_e 𝓤 _ (λ ws. snd∗ 𝓤 (sem 𝓛 (lasts take.ended (κ, tt) (reader k, (n, tt)) ws)) (fact 𝓤 (t ≡ bits_of s.now k n)))
 
   -- ---- the call of `past`
-  abbrev to-past : ℕ → ℕ → (Past 𝓛 mem run).Ghost
-  to-past k n = (((κ, tt), (q, tt), tt, (reader k, (n, tt)), (mach k ∷ [], (vint w64 n ∷ [], tt))), tt)
+  abbrev to_past : ℕ → ℕ → (Past 𝓛 mem run).Ghost
+  to_past k n = (((κ, tt), (q, tt), tt, (reader k, (n, tt)), (mach k ∷ [], (vint w64 n ∷ [], tt))), tt)
 
-  goes-past : (k n : ℕ) → n < 2 ^ 64 → Near k n → ent 𝓤 (⋆ 𝓛 (Own k ∷ token ∷ [])) ((Past 𝓛 mem run).pre (to-past k n))
-  goes-past k n fits ok = qed 𝓛 (Own k ∷ token ∷ []) ∵ says ! ok $ move ! (1 ∷ []) $ frame ! $ nothing ! $ owned ! usize (Is usize) (uint_Makes 𝓛 w64) n _ (refl, fits) $ fjoin ! $ move ! (1 ∷ 0 ∷ []) $ fjoin ! $ done !
+  goes_past : (k n : ℕ) → n < 2 ^ 64 → Near k n → ent 𝓤 (⋆ 𝓛 (Own k ∷ token ∷ [])) ((Past 𝓛 mem run).pre (to_past k n))
+  goes_past k n fits ok = qed 𝓛 (Own k ∷ token ∷ []) ∵ says ! ok $ move ! (1 ∷ []) $ frame ! $ nothing ! $ owned ! usize (Is usize) (uint_Makes 𝓛 w64) n _ (refl, fits) $ fjoin ! $ move ! (1 ∷ 0 ∷ []) $ fjoin ! $ done !
 
-  past-said : (k n : ℕ) (r : BitReader) → ent 𝓤 (ensured 𝓛 past.ended (past.clauses 𝓛 mem run) (κ, tt) (reader k, (n, tt)) tt r) (fact 𝓤 ((r.src ≡ s) × (r.at ≡ k + n)))
-  past-said k n r = ex_e 𝓤 _ (λ ws. snd∗ 𝓤 (sem 𝓛 (lasts past.ended (κ, tt) (reader k, (n, tt)) ws)) (fact 𝓤 ((r.src ≡ s) × (r.at ≡ k + n))))
+  past_said : (k n : ℕ) (r : BitReader) → ent 𝓤 (ensured 𝓛 past.ended (past.clauses 𝓛 mem run) (κ, tt) (reader k, (n, tt)) tt r) (fact 𝓤 ((r.src ≡ s) × (r.at ≡ k + n)))
+  past_said k n r = ex_e 𝓤 _ (λ ws. snd∗ 𝓤 (sem 𝓛 (lasts past.ended (κ, tt) (reader k, (n, tt)) ws)) (fact 𝓤 ((r.src ≡ s) × (r.at ≡ k + n))))
 
   -- a local that holds the reader has the lifetime `erased`
   abbrev αᵉ : NamedLft
@@ -119,13 +119,13 @@ module _ {M : Type 1} {𝓤 : Ura M} (𝓛 : Logic 𝓤) (mem : Memory → SProp
 
   module _ {K : Type 0} {C : Calls 𝓤 H} {Λ : Loops 𝓤 H} {E : Env 𝓤 H} {p : Post 𝓤 H} {d : Place} {f : Name} {xs : List Operand} {rest : Body} {Γ : List (Item 𝓤)} (fm : FmC 𝓤 H 𝓛.laws C) where
     -- a reader of which all is known once the call has returned it
-    pub new_step : K → Triple 𝓤 (C f) (New 𝓛 mem run) → (k : ℕ) → k < 2 ^ 64 → Opds K 𝓛 (raw ((New 𝓛 mem run).pre (to-new k)) ∷ Lent ∷ Γ) E xs (slice ∷ vint w64 k ∷ [])
+    pub new_step : K → Triple 𝓤 (C f) (New 𝓛 mem run) → (k : ℕ) → k < 2 ^ 64 → Opds K 𝓛 (raw ((New 𝓛 mem run).pre (to_new k)) ∷ Lent ∷ Γ) E xs (slice ∷ vint w64 k ∷ [])
         → (Is B (reader k) (mach k ∷ []) → Seq K 𝓛 (Own k ∷ token ∷ Lent ∷ Γ) (lands C Λ E d (mach k) rest p)) → Seq K 𝓛 (Lent ∷ token ∷ Γ) (runs C Λ E (seq (call f xs d) rest) p)
     new_step t known k fits os go =
-        use1 𝓛 (Lent ⊛ Lent) ((shr_slice_copy 𝓛 (named 0) κ u8).twice s (slice ∷ [])) $ split t $ move t (0 ∷ 2 ∷ []) $ use2 𝓛 (raw ((New 𝓛 mem run).pre (to-new k))) (goes-new k fits) $
-        calls_at t fm (New 𝓛 mem run) known (to-new k) os (λ u.
+        use1 𝓛 (Lent ⊛ Lent) ((shr_slice_copy 𝓛 (named 0) κ u8).twice s (slice ∷ [])) $ split t $ move t (0 ∷ 2 ∷ []) $ use2 𝓛 (raw ((New 𝓛 mem run).pre (to_new k))) (goes_new k fits) $
+        calls_at t fm (New 𝓛 mem run) known (to_new k) os (λ u.
         use1 𝓛 (later (some (λ (r : BitReader). (token ⊛ ‵ (B.own r (u ∷ []))) ⊛ raw (ensured 𝓛 new.ended (new.clauses 𝓛 mem run) (κ, tt) (s, (k, tt)) tt r)))) (id⊢ 𝓤 _) $ await t tt $ pick t (λ r.
-        split t $ move t (1 ∷ []) $ use1 𝓛 (raw (fact 𝓤 ((r.src ≡ s) × (r.at ≡ k)))) (new-said k r) $ heard t ((r.src ≡ s) × (r.at ≡ k)) (λ e.
+        split t $ move t (1 ∷ []) $ use1 𝓛 (raw (fact 𝓤 ((r.src ≡ s) × (r.at ≡ k)))) (new_said k r) $ heard t ((r.src ≡ s) × (r.at ≡ k)) (λ e.
         split t $ rewrite t 1 (λ (h : BitReader). ‵ (B.own h (u ∷ []))) (λ i. record { src = e.0 i; at = e.1 i }) refl $ move t (1 ∷ []) $
         peeks t B (Is B) (shows 𝓛 B) (reader k) (u ∷ []) (λ is.
         let g : u ≡ mach k = ap only (LL.tells (T.the_type α) (T'.the_laws α) (reader k) (u ∷ []) is) in
@@ -135,22 +135,22 @@ module _ {M : Type 1} {𝓤 : Ura M} (𝓛 : Logic 𝓤) (mem : Memory → SProp
     pub take_step : K → Triple 𝓤 (C f) (Take 𝓛 mem run) → (k n : ℕ) → n < 2 ^ 64 → Near k n → Opds K 𝓛 (raw ((Take 𝓛 mem run).pre (to_take k n)) ∷ Own k ∷ Γ) E xs (mach k ∷ vint w64 n ∷ [])
         → (bits_of s.now k n < 2 ^ 64 → Seq K 𝓛 (Own k ∷ token ∷ Γ) (lands C Λ E d (vint w64 (bits_of s.now k n)) rest p)) → Seq K 𝓛 (Own k ∷ token ∷ Γ) (runs C Λ E (seq (call f xs d) rest) p)
     take_step t known k n fits ok os go =
-        use1 𝓛 (Own k ⊛ Own k) ((LL.copy (T.the_type α) (T'.the_copy α) 𝓛).twice (reader k) (mach k ∷ [])) $ split t $ move t (0 ∷ 2 ∷ []) $ use2 𝓛 (raw ((Take 𝓛 mem run).pre (to_take k n))) (goes-take k n fits ok) $
+        use1 𝓛 (Own k ⊛ Own k) ((LL.copy (T.the_type α) (T'.the_copy α) 𝓛).twice (reader k) (mach k ∷ [])) $ split t $ move t (0 ∷ 2 ∷ []) $ use2 𝓛 (raw ((Take 𝓛 mem run).pre (to_take k n))) (goes_take k n fits ok) $
         calls_at t fm (Take 𝓛 mem run) known (to_take k n) os (λ u.
         use1 𝓛 (later (some (λ (x : ℕ). (token ⊛ ‵ (usize.own_val x (u ∷ []))) ⊛ raw (ensured 𝓛 take.ended (take.clauses 𝓛 mem run) (κ, tt) (reader k, (n, tt)) tt x)))) (id⊢ 𝓤 _) $ await t tt $ pick t (λ x.
-        split t $ move t (1 ∷ []) $ use1 𝓛 (raw (fact 𝓤 (x ≡ bits_of s.now k n))) (take-said k n x) $ heard t (x ≡ bits_of s.now k n) (λ e. split t $ move t (1 ∷ []) $
+        split t $ move t (1 ∷ []) $ use1 𝓛 (raw (fact 𝓤 (x ≡ bits_of s.now k n))) (take_said k n x) $ heard t (x ≡ bits_of s.now k n) (λ e. split t $ move t (1 ∷ []) $
         peeks t usize (Is usize) (shows 𝓛 usize) x (u ∷ []) (λ is. drop t $ move t (1 ∷ 0 ∷ []) $
         subst (λ (w : Val). Seq K 𝓛 (Own k ∷ token ∷ Γ) (lands C Λ E d w rest p)) (sym (ap only is.0))
         (subst (λ (z : ℕ). Seq K 𝓛 (Own k ∷ token ∷ Γ) (lands C Λ E d (vint w64 z) rest p)) (sym e) (go (subst (λ (z : ℕ). z < 2 ^ 64) e is.1)))))))
 
     -- the reader behind the field
-    pub past_step : K → Triple 𝓤 (C f) (Past 𝓛 mem run) → (k n : ℕ) → n < 2 ^ 64 → Near k n → Opds K 𝓛 (raw ((Past 𝓛 mem run).pre (to-past k n)) ∷ Γ) E xs (mach k ∷ vint w64 n ∷ [])
+    pub past_step : K → Triple 𝓤 (C f) (Past 𝓛 mem run) → (k n : ℕ) → n < 2 ^ 64 → Near k n → Opds K 𝓛 (raw ((Past 𝓛 mem run).pre (to_past k n)) ∷ Γ) E xs (mach k ∷ vint w64 n ∷ [])
         → (Is B (reader (k + n)) (mach (k + n) ∷ []) → Seq K 𝓛 (Own (k + n) ∷ token ∷ Γ) (lands C Λ E d (mach (k + n)) rest p)) → Seq K 𝓛 (Own k ∷ token ∷ Γ) (runs C Λ E (seq (call f xs d) rest) p)
     past_step t known k n fits ok os go =
-        use2 𝓛 (raw ((Past 𝓛 mem run).pre (to-past k n))) (goes-past k n fits ok) $
-        calls_at t fm (Past 𝓛 mem run) known (to-past k n) os (λ u.
+        use2 𝓛 (raw ((Past 𝓛 mem run).pre (to_past k n))) (goes_past k n fits ok) $
+        calls_at t fm (Past 𝓛 mem run) known (to_past k n) os (λ u.
         use1 𝓛 (later (some (λ (r : BitReader). (token ⊛ ‵ (B.own r (u ∷ []))) ⊛ raw (ensured 𝓛 past.ended (past.clauses 𝓛 mem run) (κ, tt) (reader k, (n, tt)) tt r)))) (id⊢ 𝓤 _) $ await t tt $ pick t (λ r.
-        split t $ move t (1 ∷ []) $ use1 𝓛 (raw (fact 𝓤 ((r.src ≡ s) × (r.at ≡ k + n)))) (past-said k n r) $ heard t ((r.src ≡ s) × (r.at ≡ k + n)) (λ e.
+        split t $ move t (1 ∷ []) $ use1 𝓛 (raw (fact 𝓤 ((r.src ≡ s) × (r.at ≡ k + n)))) (past_said k n r) $ heard t ((r.src ≡ s) × (r.at ≡ k + n)) (λ e.
         split t $ rewrite t 1 (λ (h : BitReader). ‵ (B.own h (u ∷ []))) (λ i. record { src = e.0 i; at = e.1 i }) refl $ move t (1 ∷ []) $
         peeks t B (Is B) (shows 𝓛 B) (reader (k + n)) (u ∷ []) (λ is.
         let g : u ≡ mach (k + n) = ap only (LL.tells (T.the_type α) (T'.the_laws α) (reader (k + n)) (u ∷ []) is) in

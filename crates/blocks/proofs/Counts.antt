@@ -24,11 +24,11 @@ module _ (t : Settings) (bs : List Block) (I : Inputs) (L : Lent) where
   unfolding table_of refuse_unless
   verdict bad = rw (sym (not_sized t (shape_of bs) (λ z. bad (in_range_lem (shape_of bs) z.shape)))) refl
 
-  refused-unless : (InRange (shape_of bs) → ⊥) → call_of t (shape_of bs) I L ≡ left (blank_answer 1 no_counts) L
-  refused-unless bad = refused_left t (shape_of bs) I L OutOfRange (verdict bad)
+  refused_unless : (InRange (shape_of bs) → ⊥) → call_of t (shape_of bs) I L ≡ left (blank_answer 1 no_counts) L
+  refused_unless bad = refused_left t (shape_of bs) I L OutOfRange (verdict bad)
 
-  pub none-refused : length bs ≡ 0 → call_of t (shape_of bs) I L ≡ left (blank_answer 1 no_counts) L
-  none-refused e = refused-unless (λ z. let l = z.some in omega (arith, l, e))
+  pub none_refused : length bs ≡ 0 → call_of t (shape_of bs) I L ≡ left (blank_answer 1 no_counts) L
+  none_refused e = refused_unless (λ z. let l = z.some in omega (arith, l, e))
 
-  pub many-refused : 8 < length bs → call_of t (shape_of bs) I L ≡ left (blank_answer 1 no_counts) L
-  many-refused e = refused-unless (λ z. let l = z.few in omega (arith, l, e))
+  pub many_refused : 8 < length bs → call_of t (shape_of bs) I L ≡ left (blank_answer 1 no_counts) L
+  many_refused e = refused_unless (λ z. let l = z.few in omega (arith, l, e))

@@ -19,7 +19,7 @@ use Rattle.model.specs.declared.sizes.Settings.{Settings}
 use Rattle.model.specs.Inputs.{Inputs}
 use Rattle.job.specs.Job.{limit_from}
 use Rattle.call.specs.Call.{Lent, call_of}
-use Rattle.call.proofs.Higher.{limited, call_same, call-account-grows}
+use Rattle.call.proofs.Higher.{limited, call_same, call_account_grows}
 use Rattle.blocks.specs.Blocks.{shape_of}
 use Rattle.blocks.specs.declared.Block.{Block}
 use Rattle.blocks_c.specs.Coded.{named, with_start, with_link, with_family, settings_of}
@@ -49,38 +49,38 @@ module _ (c : CodedSettings) (M : ℕ) (few : M ≤ 1000) where
   given = rw (ne_eqb M 1023 (λ e. omega (arith, e, few))) refl
 
   -- codes are named alike, whatever the limit
-  named-limited : (f : Family) (l : Link) (start : Start) → named (limited_code M c) f l start ≡ limited M (named c f l start)
+  named_limited : (f : Family) (l : Link) (start : Start) → named (limited_code M c) f l start ≡ limited M (named c f l start)
   unfolding named
-  named-limited f l start = rw given refl
+  named_limited f l start = rw given refl
 
-  by-start : (f : Family) (l : Link) (x : StartFound) → with_start (limited_code M c) f l x ≡ limited M (with_start c f l x)
+  by_start : (f : Family) (l : Link) (x : StartFound) → with_start (limited_code M c) f l x ≡ limited M (with_start c f l x)
   unfolding with_start
-  by-start f l (startFound.Found start) = named-limited f l start
-  by-start f l startFound.NoSuch = named-limited _ _ _
+  by_start f l (startFound.Found start) = named_limited f l start
+  by_start f l startFound.NoSuch = named_limited _ _ _
 
-  by-link : (f : Family) (x : LinkFound) → with_link (limited_code M c) f x ≡ limited M (with_link c f x)
+  by_link : (f : Family) (x : LinkFound) → with_link (limited_code M c) f x ≡ limited M (with_link c f x)
   unfolding with_link
-  by-link f (linkFound.Found l) = by-start f l (start_coded c.start)
-  by-link f linkFound.NoSuch = named-limited _ _ _
+  by_link f (linkFound.Found l) = by_start f l (start_coded c.start)
+  by_link f linkFound.NoSuch = named_limited _ _ _
 
-  by-family : (x : FamilyFound) → with_family (limited_code M c) x ≡ limited M (with_family c x)
+  by_family : (x : FamilyFound) → with_family (limited_code M c) x ≡ limited M (with_family c x)
   unfolding with_family
-  by-family (familyFound.Found f) = by-link f (link_coded c.link)
-  by-family familyFound.NoSuch = named-limited _ _ _
+  by_family (familyFound.Found f) = by_link f (link_coded c.link)
+  by_family familyFound.NoSuch = named_limited _ _ _
 
-  settings-limited : settings_of (limited_code M c) ≡ limited M (settings_of c)
+  settings_limited : settings_of (limited_code M c) ≡ limited M (settings_of c)
   unfolding settings_of
-  settings-limited = by-family (family_coded c.family)
+  settings_limited = by_family (family_coded c.family)
 
 -- a limit from the call's own to 1000; one that is not given counts as 100, with the inverse link as 1000
 module _ (c : CodedSettings) (bs : List Block) (I : Inputs) (L : Lent) (M : ℕ) (higher : limit_of (settings_of c).limit (settings_of c).link ≤ M) (few : M ≤ 1000) where
-  pub shown-same : ((fit_blocks_of c bs I L).returned.number ≡ 13 → ⊥) → fit_blocks_of (limited_code M c) bs I L ≡ fit_blocks_of c bs I L
+  pub shown_same : ((fit_blocks_of c bs I L).returned.number ≡ 13 → ⊥) → fit_blocks_of (limited_code M c) bs I L ≡ fit_blocks_of c bs I L
   unfolding fit_blocks_of shown_by plain_of
-  shown-same h = ap (λ (t : Settings). shown_by (call_of t (shape_of bs) I L)) (settings-limited c M few) ∙ ap shown_by (call_same (settings_of c) (shape_of bs) I L M higher few h)
+  shown_same h = ap (λ (t : Settings). shown_by (call_of t (shape_of bs) I L)) (settings_limited c M few) ∙ ap shown_by (call_same (settings_of c) (shape_of bs) I L M higher few h)
 
-  pub shown-grows : NoLower (fit_blocks_of c bs I L).returned (fit_blocks_of (limited_code M c) bs I L).returned
+  pub shown_grows : NoLower (fit_blocks_of c bs I L).returned (fit_blocks_of (limited_code M c) bs I L).returned
   unfolding fit_blocks_of shown_by plain_of
-  shown-grows =
-      let g = call-account-grows (settings_of c) (shape_of bs) I L M higher few in
-      rw (settings-limited c M few)
+  shown_grows =
+      let g = call_account_grows (settings_of c) (shape_of bs) I L M higher few in
+      rw (settings_limited c M few)
       (record { fits = g.fits; solves = g.solves; tries = g.tries; points = g.points; eta = g.eta; mean = g.mean; pwrss = g.pwrss; ok = g.ok })

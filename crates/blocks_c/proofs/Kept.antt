@@ -16,7 +16,7 @@ use Rattle.table.specs.declared.verdicts.Verdict.TheVariants.{Accepted, Refused}
 use Rattle.dispersion.specs.Rounds.{Result, result, no_result, Dispersed}
 use Rattle.call.specs.Fit.{Fitted}
 use Rattle.call.specs.Call.{Lent, lengths_of, call_of}
-use Rattle.call.proofs.Leaves.{refused_left, asked_fit, unfitted-results, unfitted-answer, fitted-number}
+use Rattle.call.proofs.Leaves.{refused_left, asked_fit, unfitted_results, unfitted_answer_lem, fitted_number}
 use Rattle.blocks.specs.Blocks.{shape_of}
 use Rattle.blocks.specs.declared.Block.{Block}
 use Rattle.blocks_c.specs.Coded.{settings_of}
@@ -27,8 +27,8 @@ module _ (t : Settings) (s : Shape) (I : Inputs) (L : Lent) where
   module _ (h : (call_of t s I L).answer.number ≡ 0 → ⊥) where
     -- ends 10 to 13
     unfitted : (f : CarriedFamily) (l : CarriedLink) → table_of 1 t s I (lengths_of L) ≡ Accepted f l → (x : Result (Dispersed Fitted)) → (asked_fit f l t s I).outcome ≡ x → (call_of t s I L).lent.results ≡ L.results
-    unfitted f l e (no_result end) q = unfitted-results t s I L f l e end q
-    unfitted f l e (result d) q = absurd (h (fitted-number t s I L f l e d q))
+    unfitted f l e (no_result end) q = unfitted_results t s I L f l e end q
+    unfitted f l e (result d) q = absurd (h (fitted_number t s I L f l e d q))
 
     by_verdict : (x : Verdict) → table_of 1 t s I (lengths_of L) ≡ x → (call_of t s I L).lent.results ≡ L.results
     by_verdict (Refused r) e = rw (refused_left t s I L r e) refl
@@ -36,8 +36,8 @@ module _ (t : Settings) (s : Shape) (I : Inputs) (L : Lent) where
 
     -- no accepted call has a refusal's number
     not_accepted : is_end (call_of t s I L).answer.number ≡ false → (f : CarriedFamily) (l : CarriedLink) → table_of 1 t s I (lengths_of L) ≡ Accepted f l → (x : Result (Dispersed Fitted)) → (asked_fit f l t s I).outcome ≡ x → ⊥
-    not_accepted z f l e (no_result end) q = ff (sym (rw (unfitted-answer t s I L f l e end q, end_is_end end) at z))
-    not_accepted z f l e (result d) q = h (fitted-number t s I L f l e d q)
+    not_accepted z f l e (no_result end) q = ff (sym (rw (unfitted_answer_lem t s I L f l e end q, end_is_end end) at z))
+    not_accepted z f l e (result d) q = h (fitted_number t s I L f l e d q)
 
     by_refusal : is_end (call_of t s I L).answer.number ≡ false → (x : Verdict) → table_of 1 t s I (lengths_of L) ≡ x → (call_of t s I L).lent ≡ L
     by_refusal z (Refused r) e = rw (refused_left t s I L r e) refl
@@ -45,10 +45,10 @@ module _ (t : Settings) (s : Shape) (I : Inputs) (L : Lent) where
 
 -- `glmm_fit_blocks`
 module _ (c : CodedSettings) (bs : List Block) (I : Inputs) (L : Lent) (h : (fit_blocks_of c bs I L).returned.number ≡ 0 → ⊥) where
-  pub fit-blocks-results-kept : (fit_blocks_of c bs I L).lent.results ≡ L.results
+  pub fit_blocks_results_kept : (fit_blocks_of c bs I L).lent.results ≡ L.results
   unfolding fit_blocks_of shown_by plain_of
-  fit-blocks-results-kept = by_verdict (settings_of c) (shape_of bs) I L h (table_of 1 (settings_of c) (shape_of bs) I (lengths_of L)) refl
+  fit_blocks_results_kept = by_verdict (settings_of c) (shape_of bs) I L h (table_of 1 (settings_of c) (shape_of bs) I (lengths_of L)) refl
 
-  pub fit-blocks-kept : is_end (fit_blocks_of c bs I L).returned.number ≡ false → (fit_blocks_of c bs I L).lent ≡ L
+  pub fit_blocks_kept : is_end (fit_blocks_of c bs I L).returned.number ≡ false → (fit_blocks_of c bs I L).lent ≡ L
   unfolding fit_blocks_of shown_by plain_of
-  fit-blocks-kept z = by_refusal (settings_of c) (shape_of bs) I L h z (table_of 1 (settings_of c) (shape_of bs) I (lengths_of L)) refl
+  fit_blocks_kept z = by_refusal (settings_of c) (shape_of bs) I L h z (table_of 1 (settings_of c) (shape_of bs) I (lengths_of L)) refl

@@ -16,7 +16,7 @@ use Rattle.model.proofs.Accounts.{caps_trans}
 use Rattle.model.proofs.Sized.{limit_few}
 use Rattle.family.specs.Family.{uses_dispersion}
 use Rattle.rule.specs.Given.{Given, n_of}
-use Rattle.agq_rule.proofs.Caps.{inner-within}
+use Rattle.agq_rule.proofs.Caps.{inner_within}
 use Rattle.model.specs.Inputs.{Inputs}
 use Rattle.table.specs.Table.{table_of}
 use Rattle.table.specs.Facts.{Sound}
@@ -24,10 +24,10 @@ use Rattle.table.specs.declared.verdicts.Verdict.{Verdict}
 use Rattle.table.specs.declared.verdicts.Verdict.TheVariants.{Accepted, Refused}
 use Rattle.table.proofs.Accepting.{accepted_sound}
 use Rattle.dispersion.specs.Phi.{effective_n}
-use Rattle.dispersion.proofs.Capped.{loop-capped, fixed-capped}
+use Rattle.dispersion.proofs.Capped.{loop_capped, fixed_capped}
 use Rattle.call.specs.Fit.{sum_of, total_of, inner_at, fit_by, fit_of}
 use Rattle.call.specs.Call.{Lent, lengths_of, call_given, call_means, call_of}
-use Rattle.call.proofs.Leaves.{refused_left, accepted-account}
+use Rattle.call.proofs.Leaves.{refused_left, accepted_account}
 
 -- the caps of an inner fit are within those of a call
 pub one_fit_lem : AtMost call_cap inner_cap
@@ -58,18 +58,18 @@ none_capped =
 
 -- ---- the fit of a good shape with at most 1000 iterations
 module _ (G : Given) (mu : List Float) (wish L : ℕ) (good : good_shape G.design.shape ≡ true) (few : L ≤ 1000) where
-  pub inner-at-capped : (phi : Float) → AtMost inner_cap (tally (inner_at G mu wish L phi).items)
+  pub inner_at_capped : (phi : Float) → AtMost inner_cap (tally (inner_at G mu wish L phi).items)
   unfolding inner_at total_of
-  inner-at-capped phi = inner-within G wish phi L mu good few
+  inner_at_capped phi = inner_within G wish phi L mu good few
 
-  by-capped : (b : Bool) → Capped (tally (fit_by b G mu wish L).items)
+  by_capped : (b : Bool) → Capped (tally (fit_by b G mu wish L).items)
   unfolding fit_by
-  by-capped true = loop-capped (effective_n (n_of G) G.weights) sum_of (inner_at G mu wish L) inner-at-capped
-  by-capped false = caps_trans one_fit_lem (fixed-capped (effective_n (n_of G) G.weights) sum_of (inner_at G mu wish L) (inner-at-capped one_f))
+  by_capped true = loop_capped (effective_n (n_of G) G.weights) sum_of (inner_at G mu wish L) inner_at_capped
+  by_capped false = caps_trans one_fit_lem (fixed_capped (effective_n (n_of G) G.weights) sum_of (inner_at G mu wish L) (inner_at_capped one_f))
 
-  pub fit-capped : Capped (tally (fit_of G mu wish L).items)
+  pub fit_capped : Capped (tally (fit_of G mu wish L).items)
   unfolding fit_of
-  fit-capped = by-capped (uses_dispersion G.family)
+  fit_capped = by_capped (uses_dispersion G.family)
 
 -- ---- every call
 pub call_capped : (t : Settings) (s : Shape) (I : Inputs) (L : Lent) → Capped (call_of t s I L).answer.account
@@ -80,5 +80,5 @@ call_capped t s I L = by_verdict (table_of 1 t s I (lengths_of L)) refl
     by_verdict (Refused r) e = rw (refused_left t s I L r e) none_capped
     by_verdict (Accepted f l) e =
         let a : Sound 1 t s I (lengths_of L) f l = accepted_sound 1 t s I (lengths_of L) f l e in
-        rw (accepted-account t s I L f l e)
-        (fit-capped (call_given f l t s I) (call_means f l t s I) t.n_agq (limit_of t.limit t.link) a.sized.shape (limit_few t.limit t.link a.sized.limit))
+        rw (accepted_account t s I L f l e)
+        (fit_capped (call_given f l t s I) (call_means f l t s I) t.n_agq (limit_of t.limit t.link) a.sized.shape (limit_few t.limit t.link a.sized.limit))

@@ -23,7 +23,7 @@ use Rattle.family.specs.Family.{uses_dispersion}
 use Rattle.family.specs.declared.carried.CarriedFamily.{CarriedFamily}
 use Rattle.family.specs.declared.carried.CarriedLink.{CarriedLink}
 use Rattle.rule.specs.Given as goal
-use Rattle.agq_rule.proofs.Limits.{inner_same, inner-grows}
+use Rattle.agq_rule.proofs.Limits.{inner_same, inner_grows}
 use Rattle.table.specs.Tests.{good_inputs, good_results, good_work}
 use Rattle.model.specs.Inputs.{Inputs}
 use Rattle.table.specs.Table.{table_of}
@@ -31,50 +31,50 @@ use Rattle.table.specs.declared.verdicts.LentLengths.{LentLengths}
 use Rattle.table.specs.declared.verdicts.Verdict.{Verdict}
 use Rattle.table.specs.declared.verdicts.Verdict.TheVariants.{Accepted, Refused}
 use Rattle.dispersion.specs.Phi.{effective_n}
-use Rattle.dispersion.proofs.Higher.{Stopped, dispersion-same, dispersion-grows, fixed_same, fixed-grows}
+use Rattle.dispersion.proofs.Higher.{Stopped, dispersion_same, dispersion_grows, fixed_same, fixed_grows}
 use Rattle.call.specs.Fit.{sum_of, result_by, total_of, inner_at, fit_by, fit_of, result_answer, answer_of}
 use Rattle.call.specs.Call.{Lent, lengths_of, call_given, call_means, fit_left, call_of}
-use Rattle.call.proofs.Leaves.{refused_left, asked_fit, accepted_left, accepted-account}
+use Rattle.call.proofs.Leaves.{refused_left, asked_fit, accepted_left, accepted_account}
 
 -- ---- the fit with two limits
 module _ (G : goal.Given) (mu : List Float) (wish L M : ℕ) (l : L ≤ M) where
   abbrev effective : Float
   effective = effective_n (goal.n_of G) G.weights
 
-  inner-kept : (phi : Float) → Stopped (inner_at G mu wish L phi) → inner_at G mu wish M phi ≡ inner_at G mu wish L phi
+  inner_kept : (phi : Float) → Stopped (inner_at G mu wish L phi) → inner_at G mu wish M phi ≡ inner_at G mu wish L phi
   unfolding inner_at total_of result_by
-  inner-kept phi h = ap total_of (inner_same G wish phi mu L M l (λ e. h (ap result_by e)))
+  inner_kept phi h = ap total_of (inner_same G wish phi mu L M l (λ e. h (ap result_by e)))
 
   inner_more : (t : Item → Bool) (phi : Float) → count_of t (inner_at G mu wish L phi).items ≤ count_of t (inner_at G mu wish M phi).items
   unfolding inner_at total_of
-  inner_more t phi = inner-grows G wish phi mu t L M l
+  inner_more t phi = inner_grows G wish phi mu t L M l
 
-  by-same : (b : Bool) → Stopped (fit_by b G mu wish L) → fit_by b G mu wish M ≡ fit_by b G mu wish L
+  by_same : (b : Bool) → Stopped (fit_by b G mu wish L) → fit_by b G mu wish M ≡ fit_by b G mu wish L
   unfolding fit_by
-  by-same true h = dispersion-same effective sum_of (inner_at G mu wish L) (inner_at G mu wish M) inner-kept h
-  by-same false h = fixed_same effective sum_of (inner_at G mu wish L) (inner_at G mu wish M) inner-kept h
+  by_same true h = dispersion_same effective sum_of (inner_at G mu wish L) (inner_at G mu wish M) inner_kept h
+  by_same false h = fixed_same effective sum_of (inner_at G mu wish L) (inner_at G mu wish M) inner_kept h
 
-  by-grows : (b : Bool) (t : Item → Bool) → count_of t (fit_by b G mu wish L).items ≤ count_of t (fit_by b G mu wish M).items
+  by_grows : (b : Bool) (t : Item → Bool) → count_of t (fit_by b G mu wish L).items ≤ count_of t (fit_by b G mu wish M).items
   unfolding fit_by
-  by-grows true t = dispersion-grows effective sum_of (inner_at G mu wish L) (inner_at G mu wish M) inner-kept t (inner_more t)
-  by-grows false t = fixed-grows effective sum_of (inner_at G mu wish L) (inner_at G mu wish M) inner-kept t (inner_more t one_f)
+  by_grows true t = dispersion_grows effective sum_of (inner_at G mu wish L) (inner_at G mu wish M) inner_kept t (inner_more t)
+  by_grows false t = fixed_grows effective sum_of (inner_at G mu wish L) (inner_at G mu wish M) inner_kept t (inner_more t one_f)
 
   pub fit_same : Stopped (fit_of G mu wish L) → fit_of G mu wish M ≡ fit_of G mu wish L
   unfolding fit_of
-  fit_same h = by-same (uses_dispersion G.family) h
+  fit_same h = by_same (uses_dispersion G.family) h
 
-  pub fit-account-grows : AtMost (tally (fit_of G mu wish M).items) (tally (fit_of G mu wish L).items)
+  pub fit_account_grows : AtMost (tally (fit_of G mu wish M).items) (tally (fit_of G mu wish L).items)
   unfolding fit_of tally
-  fit-account-grows =
+  fit_account_grows =
       record {
-        fits = by-grows (uses_dispersion G.family) is_fit;
-        solves = by-grows (uses_dispersion G.family) is_solve;
-        tries = by-grows (uses_dispersion G.family) is_try;
-        points = by-grows (uses_dispersion G.family) is_point;
-        eta = by-grows (uses_dispersion G.family) is_eta;
-        mean = by-grows (uses_dispersion G.family) is_mean;
-        pwrss = by-grows (uses_dispersion G.family) is_pwrss;
-        ok = by-grows (uses_dispersion G.family) is_ok;
+        fits = by_grows (uses_dispersion G.family) is_fit;
+        solves = by_grows (uses_dispersion G.family) is_solve;
+        tries = by_grows (uses_dispersion G.family) is_try;
+        points = by_grows (uses_dispersion G.family) is_point;
+        eta = by_grows (uses_dispersion G.family) is_eta;
+        mean = by_grows (uses_dispersion G.family) is_mean;
+        pwrss = by_grows (uses_dispersion G.family) is_pwrss;
+        ok = by_grows (uses_dispersion G.family) is_ok;
       }
 
 -- ---- the call with another limit
@@ -117,22 +117,22 @@ module _ (t : Settings) (s : Shape) (I : Inputs) (L : Lent) (M : ℕ) (higher : 
     accepted_grows : AtMost (call_of (limited M t) s I L).answer.account (call_of t s I L).answer.account
     unfolding limit_of call_given
     accepted_grows =
-        rw (accepted-account (limited M t) s I L f l (again ∙ e), accepted-account t s I L f l e)
-        (fit-account-grows (call_given f l t s I) (call_means f l t s I) t.n_agq (limit_of t.limit t.link) M higher)
+        rw (accepted_account (limited M t) s I L f l (again ∙ e), accepted_account t s I L f l e)
+        (fit_account_grows (call_given f l t s I) (call_means f l t s I) t.n_agq (limit_of t.limit t.link) M higher)
 
-  refused-same : (r : Refusal) → table_of 1 t s I (lengths_of L) ≡ Refused r → call_of (limited M t) s I L ≡ call_of t s I L
-  refused-same r e = refused_left (limited M t) s I L r (again ∙ e) ∙ sym (refused_left t s I L r e)
+  refused_same : (r : Refusal) → table_of 1 t s I (lengths_of L) ≡ Refused r → call_of (limited M t) s I L ≡ call_of t s I L
+  refused_same r e = refused_left (limited M t) s I L r (again ∙ e) ∙ sym (refused_left t s I L r e)
 
   pub call_same : ((call_of t s I L).answer.number ≡ 13 → ⊥) → call_of (limited M t) s I L ≡ call_of t s I L
   call_same h = by (table_of 1 t s I (lengths_of L)) refl
     where
       by : (x : Verdict) → table_of 1 t s I (lengths_of L) ≡ x → call_of (limited M t) s I L ≡ call_of t s I L
       by (Accepted f l) e = accepted_same f l e h
-      by (Refused r) e = refused-same r e
+      by (Refused r) e = refused_same r e
 
-  pub call-account-grows : AtMost (call_of (limited M t) s I L).answer.account (call_of t s I L).answer.account
-  call-account-grows = by (table_of 1 t s I (lengths_of L)) refl
+  pub call_account_grows : AtMost (call_of (limited M t) s I L).answer.account (call_of t s I L).answer.account
+  call_account_grows = by (table_of 1 t s I (lengths_of L)) refl
     where
       by : (x : Verdict) → table_of 1 t s I (lengths_of L) ≡ x → AtMost (call_of (limited M t) s I L).answer.account (call_of t s I L).answer.account
       by (Accepted f l) e = accepted_grows f l e
-      by (Refused r) e = rw (refused-same r e) (no_more (call_of t s I L).answer.account)
+      by (Refused r) e = rw (refused_same r e) (no_more (call_of t s I L).answer.account)

@@ -61,31 +61,31 @@ pub record WorkLeft (n p q : ℕ) (L M : Lent) : Type 0 where
   pub terms : M.terms ≡ fill_to terms_length zero_at L.terms
 
 module _ (t : Settings) (s : Shape) (I : Inputs) (L : Lent) (f : CarriedFamily) (l : CarriedLink) (e : table_of 1 t s I (lengths_of L) ≡ Accepted f l) where
-  pub accepted-work : WorkLeft t.n t.p t.rows L (call_of t s I L).lent
+  pub accepted_work : WorkLeft t.n t.p t.rows L (call_of t s I L).lent
   unfolding fit_left
-  accepted-work = rw (accepted_left t s I L f l e) (record { rows = refl; matrices = refl; terms = refl })
+  accepted_work = rw (accepted_left t s I L f l e) (record { rows = refl; matrices = refl; terms = refl })
 
-  pub accepted-account : (call_of t s I L).answer.account ≡ tally (asked_fit f l t s I).items
+  pub accepted_account : (call_of t s I L).answer.account ≡ tally (asked_fit f l t s I).items
   unfolding fit_left answer_of
-  accepted-account = rw (accepted_left t s I L f l e) (answer_account (asked_fit f l t s I).outcome (tally (asked_fit f l t s I).items))
+  accepted_account = rw (accepted_left t s I L f l e) (answer_account (asked_fit f l t s I).outcome (tally (asked_fit f l t s I).items))
 
   -- ends 10 to 13: the results are as they were lent
-  pub unfitted-results : (end : End) → (asked_fit f l t s I).outcome ≡ no_result end → (call_of t s I L).lent.results ≡ L.results
+  pub unfitted_results : (end : End) → (asked_fit f l t s I).outcome ≡ no_result end → (call_of t s I L).lent.results ≡ L.results
   unfolding fit_left results_after
-  unfitted-results end q = rw (accepted_left t s I L f l e, q) refl
+  unfitted_results end q = rw (accepted_left t s I L f l e, q) refl
 
-  pub unfitted-answer : (end : End) → (asked_fit f l t s I).outcome ≡ no_result end → (call_of t s I L).answer ≡ blank_answer (end_number end) (tally (asked_fit f l t s I).items)
+  pub unfitted_answer_lem : (end : End) → (asked_fit f l t s I).outcome ≡ no_result end → (call_of t s I L).answer ≡ blank_answer (end_number end) (tally (asked_fit f l t s I).items)
   unfolding fit_left answer_of result_answer unfitted_answer
-  unfitted-answer end q = rw (accepted_left t s I L f l e, q) refl
+  unfitted_answer_lem end q = rw (accepted_left t s I L f l e, q) refl
 
   -- number 0: the results are those of the last mode
-  pub fitted-results : (d : Dispersed Fitted) → (asked_fit f l t s I).outcome ≡ result d → (call_of t s I L).lent.results ≡ results_of (call_given f l t s I) d.last.mode
+  pub fitted_results : (d : Dispersed Fitted) → (asked_fit f l t s I).outcome ≡ result d → (call_of t s I L).lent.results ≡ results_of (call_given f l t s I) d.last.mode
   unfolding fit_left results_after
-  fitted-results d q = rw (accepted_left t s I L f l e, q) refl
+  fitted_results d q = rw (accepted_left t s I L f l e, q) refl
 
-  pub fitted-number : (d : Dispersed Fitted) → (asked_fit f l t s I).outcome ≡ result d → (call_of t s I L).answer.number ≡ 0
+  pub fitted_number : (d : Dispersed Fitted) → (asked_fit f l t s I).outcome ≡ result d → (call_of t s I L).answer.number ≡ 0
   unfolding fit_left answer_of result_answer fitted_answer
-  fitted-number d q = rw (accepted_left t s I L f l e, q) refl
+  fitted_number d q = rw (accepted_left t s I L f l e, q) refl
 
   -- and only a result is told under it
   pub zero_fitted : (call_of t s I L).answer.number ≡ 0 → (d : Dispersed Fitted) × ((asked_fit f l t s I).outcome ≡ result d)
@@ -95,10 +95,10 @@ module _ (t : Settings) (s : Shape) (I : Inputs) (L : Lent) (f : CarriedFamily) 
       zero_result fit.outcome (tally fit.items) (rw (accepted_left t s I L f l e) at h)
 
   -- why it stayed with Laplace: what the quadrature of the last inner fit answered, as it was answered there
-  pub fitted-why : (d : Dispersed Fitted) → (asked_fit f l t s I).outcome ≡ result d → (call_of t s I L).answer.why ≡ why_by d.last.integral
+  pub fitted_why : (d : Dispersed Fitted) → (asked_fit f l t s I).outcome ≡ result d → (call_of t s I L).answer.why ≡ why_by d.last.integral
   unfolding fit_left answer_of result_answer fitted_answer
-  fitted-why d q = rw (accepted_left t s I L f l e, q) refl
+  fitted_why d q = rw (accepted_left t s I L f l e, q) refl
 
-  pub unfitted-why : (end : End) → (asked_fit f l t s I).outcome ≡ no_result end → (call_of t s I L).answer.why ≡ 0
+  pub unfitted_why : (end : End) → (asked_fit f l t s I).outcome ≡ no_result end → (call_of t s I L).answer.why ≡ 0
   unfolding fit_left answer_of result_answer unfitted_answer
-  unfitted-why end q = rw (accepted_left t s I L f l e, q) refl
+  unfitted_why end q = rw (accepted_left t s I L f l e, q) refl

@@ -22,13 +22,13 @@ use Rattle.rule.specs.Given.{Given, n_of}
 use Rattle.rule.specs.Run.{Ending, stopped, failed, run_of}
 use Rattle.rule.proofs.Accepted.{stuck_in}
 use Rattle.agq_rule.specs.Inner.{with_points, after_run, inner_with, inner_of}
-use Rattle.agq_rule.proofs.Caps.{inner-paid}
+use Rattle.agq_rule.proofs.Caps.{inner_paid}
 use Rattle.table.specs.Table.{table_of}
 use Rattle.table.specs.declared.verdicts.Verdict.{Verdict}
 use Rattle.table.specs.declared.verdicts.Verdict.TheVariants.{Accepted, Refused}
 use Rattle.dispersion.specs.Phi.{effective_n}
 use Rattle.dispersion.specs.Rounds.{Result, result, no_result, Dispersed}
-use Rattle.dispersion.proofs.Accepted.{stuck_by, TotalPaid, loop-paid, fixed-paid}
+use Rattle.dispersion.proofs.Accepted.{stuck_by, TotalPaid, loop_paid, fixed_paid}
 use Rattle.call.specs.Fit.{Fitted, sum_of, result_by, total_of, inner_at, fit_by, fit_of, result_answer, answer_of}
 use Rattle.call.specs.Call.{Lent, lengths_of, call_given, call_means, fit_left, call_by, call_of}
 use Rattle.call.proofs.Leaves.{asked_fit}
@@ -36,25 +36,25 @@ use Rattle.call.proofs.When.{not_both}
 
 -- ---- the fit
 module _ (G : Given) (mu : List Float) (wish L : ℕ) where
-  ending-stuck : (phi : Float) (is : List Item) (x : Ending) → stuck_by (result_by (after_run x G wish phi is).ending) ≡ stuck_in x
+  ending_stuck : (phi : Float) (is : List Item) (x : Ending) → stuck_by (result_by (after_run x G wish phi is).ending) ≡ stuck_in x
   unfolding after_run with_points result_by
-  ending-stuck phi is (failed e) = refl
-  ending-stuck phi is (stopped M) = refl
+  ending_stuck phi is (failed e) = refl
+  ending_stuck phi is (stopped M) = refl
 
-  inner-at-paid : (phi : Float) → TotalPaid (inner_at G mu wish L phi)
+  inner_at_paid : (phi : Float) → TotalPaid (inner_at G mu wish L phi)
   unfolding inner_at total_of inner_of inner_with
-  inner-at-paid phi =
+  inner_at_paid phi =
       let o = run_of G phi L mu in
-      rw (ending-stuck phi o.items o.ending) (inner-paid G wish phi L mu)
+      rw (ending_stuck phi o.items o.ending) (inner_paid G wish phi L mu)
 
-  by-paid : (b : Bool) → TotalPaid (fit_by b G mu wish L)
+  by_paid : (b : Bool) → TotalPaid (fit_by b G mu wish L)
   unfolding fit_by
-  by-paid true = loop-paid (effective_n (n_of G) G.weights) sum_of (inner_at G mu wish L) inner-at-paid
-  by-paid false = fixed-paid (effective_n (n_of G) G.weights) sum_of (inner_at G mu wish L) inner-at-paid
+  by_paid true = loop_paid (effective_n (n_of G) G.weights) sum_of (inner_at G mu wish L) inner_at_paid
+  by_paid false = fixed_paid (effective_n (n_of G) G.weights) sum_of (inner_at G mu wish L) inner_at_paid
 
-  pub fit-paid : TotalPaid (fit_of G mu wish L)
+  pub fit_paid : TotalPaid (fit_of G mu wish L)
   unfolding fit_of
-  fit-paid = by-paid (uses_dispersion G.family)
+  fit_paid = by_paid (uses_dispersion G.family)
 
 -- ---- the answer
 -- what an answer tells of its tries
@@ -79,24 +79,24 @@ module _ (t : Settings) (s : Shape) (I : Inputs) (L : Lent) where
   by_verdict (Refused r) = record { parts = refl; accepts = omega arith; all = λ h. refl; stuck = λ h. absurd (not_both r 12 (sym h) (inr (omega arith, omega arith))) }
   by_verdict (Accepted f l) =
       let fit = asked_fit f l t s I in
-      by_result fit.outcome (tally fit.items) (tally_parts fit.items) (fit-paid (call_given f l t s I) (call_means f l t s I) t.n_agq (limit_of t.limit t.link))
+      by_result fit.outcome (tally fit.items) (tally_parts fit.items) (fit_paid (call_given f l t s I) (call_means f l t s I) t.n_agq (limit_of t.limit t.link))
 
   parted : Parted (call_of t s I L).answer
   unfolding call_of
   parted = by_verdict (table_of 1 t s I (lengths_of L))
 
   -- refused for eta, for a mean, for PWRSS, and accepted: together they are the tries
-  pub call-parts : let a = (call_of t s I L).answer.account in a.eta + a.mean + a.pwrss + a.ok ≡ a.tries
-  call-parts = parted.parts
+  pub call_parts : let a = (call_of t s I L).answer.account in a.eta + a.mean + a.pwrss + a.ok ≡ a.tries
+  call_parts = parted.parts
 
   -- accepted steps never exceed the solves
-  pub call-accepted : (call_of t s I L).answer.account.ok ≤ (call_of t s I L).answer.account.solves
-  call-accepted = parted.accepts
+  pub call_accepted : (call_of t s I L).answer.account.ok ≤ (call_of t s I L).answer.account.solves
+  call_accepted = parted.accepts
 
   -- they are as many, unless the call ended with 12
-  pub call-all : ((call_of t s I L).answer.number ≡ 12 → ⊥) → (call_of t s I L).answer.account.ok ≡ (call_of t s I L).answer.account.solves
-  call-all = parted.all
+  pub call_all : ((call_of t s I L).answer.number ≡ 12 → ⊥) → (call_of t s I L).answer.account.ok ≡ (call_of t s I L).answer.account.solves
+  call_all = parted.all
 
   -- and then one less: no try of the last solve was accepted
-  pub call-stuck : (call_of t s I L).answer.number ≡ 12 → (call_of t s I L).answer.account.ok + 1 ≡ (call_of t s I L).answer.account.solves
-  call-stuck = parted.stuck
+  pub call_stuck : (call_of t s I L).answer.number ≡ 12 → (call_of t s I L).answer.account.ok + 1 ≡ (call_of t s I L).answer.account.solves
+  call_stuck = parted.stuck

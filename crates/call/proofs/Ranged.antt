@@ -19,28 +19,28 @@ use Rattle.table.specs.Facts.{AllInRange}
 use Rattle.table.specs.When.{GivenWhen}
 use Rattle.table.proofs.Exactly.{range_exactly, outside_exactly}
 use Rattle.call.specs.Call.{Lent, lengths_of, call_of, FitNumber}
-use Rattle.call.proofs.When.{refused-exactly, accepted-exactly}
+use Rattle.call.proofs.When.{refused_exactly, accepted_exactly}
 
 module _ (t : Settings) (s : Shape) (I : Inputs) (L : Lent) where
   -- an accepted call's responses are all in range, so a fitted one's are
-  pub accepted-in-range : FitNumber (call_of t s I L).answer.number → AllInRange (carried_family t.family) I.y
-  accepted-in-range e =
-      let a = (accepted-exactly t s I L).0 e in
+  pub accepted_in_range : FitNumber (call_of t s I L).answer.number → AllInRange (carried_family t.family) I.y
+  accepted_in_range e =
+      let a = (accepted_exactly t s I L).0 e in
       (range_exactly (carried_family t.family) I.y).0 a.0.1
 
-  pub fitted-in-range : (call_of t s I L).answer.number ≡ 0 → AllInRange (carried_family t.family) I.y
-  fitted-in-range e = accepted-in-range (inl e)
+  pub fitted_in_range : (call_of t s I L).answer.number ≡ 0 → AllInRange (carried_family t.family) I.y
+  fitted_in_range e = accepted_in_range (inl e)
 
   -- 9 is told of a call that passed every other test and has a response out of range
-  pub nine-outside : (call_of t s I L).answer.number ≡ 9 → (i : ℕ) × ((i < length I.y) × (in_range (carried_family t.family) (I.y ! i) ≡ false))
+  pub nine_outside : (call_of t s I L).answer.number ≡ 9 → (i : ℕ) × ((i < length I.y) × (in_range (carried_family t.family) (I.y ! i) ≡ false))
   unfolding GivenWhen
-  nine-outside e =
-      let a = (refused-exactly t s I L ResponseRange).0 e in
+  nine_outside e =
+      let a = (refused_exactly t s I L ResponseRange).0 e in
       (outside_exactly (carried_family t.family) I.y).0 a.1
 
   inside : (y : Float) → t.family ≡ Gaussian → in_range (carried_family t.family) y ≡ false → ⊥
   inside y g h = ff (sym (rw (g, gaussian_range y) at h))
 
   -- a Gaussian call is never: the infinite deviance of a fit without residuals stays a fitted result
-  pub gaussian-never : t.family ≡ Gaussian → (call_of t s I L).answer.number ≡ 9 → ⊥
-  gaussian-never g e = let a = nine-outside e in inside (I.y ! a.0) g a.1.1
+  pub gaussian_never : t.family ≡ Gaussian → (call_of t s I L).answer.number ≡ 9 → ⊥
+  gaussian_never g e = let a = nine_outside e in inside (I.y ! a.0) g a.1.1

@@ -31,11 +31,11 @@ use Rattle.table.specs.When.{GivenWhen}
 use Rattle.table.specs.declared.verdicts.Verdict.TheVariants.{Accepted}
 use Rattle.table.proofs.Accepting.{usual_passes}
 use Rattle.table.proofs.Meant.{is_trials}
-use Rattle.table.proofs.When.{accepted-when}
+use Rattle.table.proofs.When.{accepted_when}
 use Rattle.table.proofs.Exactly.{SomeBelow, unfit_exactly}
 use Rattle.call.specs.Call.{Lent, lengths_of, call_given, call_of}
 use Rattle.call.proofs.Leaves.{accepted_left}
-use Rattle.call.proofs.When.{refused-exactly}
+use Rattle.call.proofs.When.{refused_exactly}
 
 -- ---- the means
 one_trial_lem : (y : Float) → T (fits binary64 y) → trials_mean one_f y ≡ initialize_mu Binomial y
@@ -71,8 +71,8 @@ pub usual_accepted : (start : Start) (t : Settings) (s : Shape) (I : Inputs) (L 
     → table_of 1 (started Usual t) s I (lengths_of L) ≡ Accepted f l
 unfolding good_sizes good_inputs good_results good_work
 usual_accepted start t s I L f l e =
-    let a = (accepted-when 1 (started start t) s I (lengths_of L) f l).0 e in
-    (accepted-when 1 (started Usual t) s I (lengths_of L) f l).1 ((a.0.0, usual_passes I.weights (carried_family t.family)), a.1)
+    let a = (accepted_when 1 (started start t) s I (lengths_of L) f l).0 e in
+    (accepted_when 1 (started Usual t) s I (lengths_of L) f l).1 ((a.0.0, usual_passes I.weights (carried_family t.family)), a.1)
 
 pub call_start : (t : Settings) (s : Shape) (I : Inputs) (L : Lent) (l : CarriedLink) → table_of 1 (started Trials t) s I (lengths_of L) ≡ Accepted Binomial l
     → ((i : ℕ) → i < t.n → T (fits binary64 (I.y ! i))) → ((i : ℕ) → i < t.n → weight_at I.weights i ≡ one_f)
@@ -88,7 +88,7 @@ pub start_refused : (t : Settings) (s : Shape) (I : Inputs) (L : Lent) → (call
     → (t.start ≡ Trials) × ((carried_family t.family ≡ Binomial → ⊥) ⊎ SomeBelow I.weights)
 unfolding GivenWhen
 start_refused t s I L e =
-    let a = (refused-exactly t s I L StartFit).0 e in
+    let a = (refused_exactly t s I L StartFit).0 e in
     (unfit_exactly t.start I.weights (carried_family t.family)).0 a.1
 
 -- the usual start is never refused with it

@@ -23,11 +23,11 @@ use Rattle.agq_rule.specs.Steps.{quadrature_of}
 use Rattle.agq_rule.specs.Inner.{with_points, after_run, inner_with, inner_of}
 use Rattle.table.specs.Table.{table_of}
 use Rattle.table.specs.declared.verdicts.Verdict.TheVariants.{Accepted}
-use Rattle.dispersion.specs.Rounds.{Result, result, no_result, Dispersed, withFlag, lastFit, fixed_of}
+use Rattle.dispersion.specs.Rounds.{Result, result, no_result, Dispersed, with_flag, last_fit, fixed_of}
 use Rattle.dispersion.proofs.Turns.{is_result}
 use Rattle.call.specs.Fit.{Fitted, result_by, total_of, inner_at, fit_by, fit_of, result_answer, answer_of}
 use Rattle.call.specs.Call.{Lent, lengths_of, call_given, call_means, results_after, fit_left, call_of, Taken}
-use Rattle.call.proofs.Leaves.{asked_fit, accepted_left, fitted-number, zero_fitted}
+use Rattle.call.proofs.Leaves.{asked_fit, accepted_left, fitted_number, zero_fitted}
 use Rattle.call.proofs.Told.{fit_ran}
 
 -- the fit of a result, g where there is none
@@ -41,16 +41,16 @@ module _ (G : Given) (mu : List Float) (wish : ℕ) (phi : Float) (g : Fitted) w
     ending : x ≡ stopped g.mode
     integral : g.integral ≡ (quadrature_of G wish g.mode phi).answer
 
-  by-ending : (x : Ending) (is : List Item) → result_by (after_run x G wish phi is).ending ≡ result g → Stood x
+  by_ending : (x : Ending) (is : List Item) → result_by (after_run x G wish phi is).ending ≡ result g → Stood x
   unfolding after_run with_points result_by
-  by-ending (failed e) is h = absurd (ff (ap is_result h))
-  by-ending (stopped M) is h =
+  by_ending (failed e) is h = absurd (ff (ap is_result h))
+  by_ending (stopped M) is h =
       let same : record { mode = M; integral = (quadrature_of G wish M phi).answer } ≡ g = ap (fitted_in g) h in
       rw (← same) (record { ending = refl; integral = refl })
 
   stood : (L : ℕ) → (inner_at G mu wish L phi).outcome ≡ result g → Stood (run_of G phi L mu).ending
   unfolding inner_at total_of inner_of inner_with
-  stood L h = let o = run_of G phi L mu in by-ending o.ending o.items h
+  stood L h = let o = run_of G phi L mu in by_ending o.ending o.items h
 
 -- ---- the call
 module _ (t : Settings) (s : Shape) (I : Inputs) (L : Lent) (f : CarriedFamily) (l : CarriedLink) (e : table_of 1 t s I (lengths_of L) ≡ Accepted f l) where
@@ -70,14 +70,14 @@ module _ (t : Settings) (s : Shape) (I : Inputs) (L : Lent) (f : CarriedFamily) 
       let r = (run_stops given d.phi limit means d.last.mode).0 w.ending in
       rw (accepted_left t s I L f l e, q) (record { first = r.0; within = r.1; iterations = refl; deviance = rw w.integral refl; order = rw w.integral refl; why = rw w.integral refl; results = refl })
 
-  pub call-first-stop : (call_of t s I L).answer.number ≡ 0 → (k : Mode) × Taken given means t.n_agq limit (call_of t s I L).answer (call_of t s I L).lent.results k
-  call-first-stop h = let z = zero_fitted t s I L f l e h in (z.0.last.mode, taken z.0 z.1)
+  pub call_first_stop : (call_of t s I L).answer.number ≡ 0 → (k : Mode) × Taken given means t.n_agq limit (call_of t s I L).answer (call_of t s I L).lent.results k
+  call_first_stop h = let z = zero_fitted t s I L f l e h in (z.0.last.mode, taken z.0 z.1)
 
   -- ---- and back, without a free dispersion: where the run at phi 1 has a first stop within the limit, the number is 0
-  pub call-stop-taken : (k : Mode) → uses_dispersion f ≡ false → FirstStop given one_f (start_at given means) k → k.iterations ≤ limit → (call_of t s I L).answer.number ≡ 0
-  unfolding call_given fit_of fit_by fixed_of lastFit withFlag inner_at total_of inner_of inner_with after_run with_points result_by
-  call-stop-taken k u r w =
+  pub call_stop_taken : (k : Mode) → uses_dispersion f ≡ false → FirstStop given one_f (start_at given means) k → k.iterations ≤ limit → (call_of t s I L).answer.number ≡ 0
+  unfolding call_given fit_of fit_by fixed_of last_fit with_flag inner_at total_of inner_of inner_with after_run with_points result_by
+  call_stop_taken k u r w =
       let h : (run_of given one_f limit means).ending ≡ stopped k = (run_stops given one_f limit means k).1 (r, w) in
-      fitted-number t s I L f l e
+      fitted_number t s I L f l e
       (record { last = record { mode = k; integral = (quadrature_of given t.n_agq k one_f).answer }; phi = one_f; converged = true })
       (rw (u, h) refl)

@@ -26,11 +26,11 @@ use Rattle.agq_rule.proofs.Caps.{inner_capped}
 use Rattle.table.specs.Table.{table_of}
 use Rattle.table.specs.declared.verdicts.Verdict.TheVariants.{Accepted}
 use Rattle.dispersion.specs.Phi.{effective_n}
-use Rattle.dispersion.specs.Rounds.{Result, result, no_result, Dispersed, withFlag, lastFit, dispersionOf, fixed_of}
-use Rattle.dispersion.proofs.Reported.{last-ran, phi-ran, unsettled_241}
+use Rattle.dispersion.specs.Rounds.{Result, result, no_result, Dispersed, with_flag, last_fit, dispersion_of, fixed_of}
+use Rattle.dispersion.proofs.Reported.{last_ran, phi_ran, unsettled_241}
 use Rattle.call.specs.Fit.{Fitted, sum_of, total_of, inner_at, fit_by, fit_of, result_answer, answer_of}
 use Rattle.call.specs.Call.{Lent, lengths_of, call_given, call_means, fit_left, call_of}
-use Rattle.call.proofs.Leaves.{accepted_left, accepted-account, zero_fitted}
+use Rattle.call.proofs.Leaves.{accepted_left, accepted_account, zero_fitted}
 
 -- ---- an inner fit counts itself once
 run_counts : (G : Given) (phi : Float) (L : ℕ) (mu : List Float) → 1 ≤ count_of is_fit (run_of G phi L mu).items
@@ -53,47 +53,47 @@ abbrev flag_in : {F : Type 0} → Result (Dispersed F) → Bool
 flag_in (result d) = d.converged
 flag_in (no_result e) = true
 
-fixed_flag : {F : Type 0} (phi : Float) (x : Result F) → flag_in (withFlag true phi x) ≡ true
-unfolding withFlag
+fixed_flag : {F : Type 0} (phi : Float) (x : Result F) → flag_in (with_flag true phi x) ≡ true
+unfolding with_flag
 fixed_flag phi (result f) = refl
 fixed_flag phi (no_result e) = refl
 
 module _ (G : Given) (mu : List Float) (wish L : ℕ) (d : Dispersed Fitted) where
-  by-ran : (b : Bool) → (fit_by b G mu wish L).outcome ≡ result d → (inner_at G mu wish L d.phi).outcome ≡ result d.last
-  unfolding fit_by dispersionOf fixed_of lastFit
-  by-ran true e = phi-ran (effective_n (n_of G) G.weights) sum_of (inner_at G mu wish L) d 240 one_f e
-  by-ran false e = last-ran (inner_at G mu wish L) d true one_f (inner_at G mu wish L one_f).outcome refl e
+  by_ran : (b : Bool) → (fit_by b G mu wish L).outcome ≡ result d → (inner_at G mu wish L d.phi).outcome ≡ result d.last
+  unfolding fit_by dispersion_of fixed_of last_fit
+  by_ran true e = phi_ran (effective_n (n_of G) G.weights) sum_of (inner_at G mu wish L) d 240 one_f e
+  by_ran false e = last_ran (inner_at G mu wish L) d true one_f (inner_at G mu wish L one_f).outcome refl e
 
   by_all : (b : Bool) → (fit_by b G mu wish L).outcome ≡ result d → d.converged ≡ false → count_of is_fit (fit_by b G mu wish L).items ≡ 241
-  unfolding fit_by fixed_of lastFit
+  unfolding fit_by fixed_of last_fit
   by_all true e u = unsettled_241 (effective_n (n_of G) G.weights) sum_of (inner_at G mu wish L) is_fit d (inner_counts G mu wish L) u e
   by_all false e u = absurd (ff (sym u ∙ (sym (ap flag_in e) ∙ fixed_flag one_f (inner_at G mu wish L one_f).outcome)))
 
   -- at the phi that is reported the inner fit comes to what is reported
   pub fit_ran : (fit_of G mu wish L).outcome ≡ result d → (inner_at G mu wish L d.phi).outcome ≡ result d.last
   unfolding fit_of
-  fit_ran e = by-ran (uses_dispersion G.family) e
+  fit_ran e = by_ran (uses_dispersion G.family) e
 
   -- a flag that is false tells of 241 inner fits
-  pub flag-all : (fit_of G mu wish L).outcome ≡ result d → d.converged ≡ false → (tally (fit_of G mu wish L).items).fits ≡ 241
+  pub flag_all : (fit_of G mu wish L).outcome ≡ result d → d.converged ≡ false → (tally (fit_of G mu wish L).items).fits ≡ 241
   unfolding fit_of tally
-  flag-all e u = by_all (uses_dispersion G.family) e u
+  flag_all e u = by_all (uses_dispersion G.family) e u
 
 -- ---- a call with number 0 whose flag is false made 241 inner fits
 module _ (t : Settings) (s : Shape) (I : Inputs) (A : Lent) (f : CarriedFamily) (l : CarriedLink) (e : table_of 1 t s I (lengths_of A) ≡ Accepted f l) where
-  pub call-flag-all : (call_of t s I A).answer.number ≡ 0 → (call_of t s I A).answer.converged ≡ false → (call_of t s I A).answer.account.fits ≡ 241
+  pub call_flag_all : (call_of t s I A).answer.number ≡ 0 → (call_of t s I A).answer.converged ≡ false → (call_of t s I A).answer.account.fits ≡ 241
   unfolding fit_left answer_of result_answer fitted_answer
-  call-flag-all h u =
+  call_flag_all h u =
       let z = zero_fitted t s I A f l e h in
       let flag : z.0.converged ≡ false = rw (accepted_left t s I A f l e, z.1) at u in
-      rw (accepted-account t s I A f l e) (flag-all (call_given f l t s I) (call_means f l t s I) t.n_agq (limit_of t.limit t.link) z.0 z.1 flag)
+      rw (accepted_account t s I A f l e) (flag_all (call_given f l t s I) (call_means f l t s I) t.n_agq (limit_of t.limit t.link) z.0 z.1 flag)
 
 -- ---- without a free dispersion: one inner fit, whatever it comes to
 pub one_fit_lem : (G : Given) (mu : List Float) (wish L : ℕ) → uses_dispersion G.family ≡ false → (tally (fit_of G mu wish L).items).fits ≡ 1
-unfolding fit_of fit_by fixed_of lastFit tally
+unfolding fit_of fit_by fixed_of last_fit tally
 one_fit_lem G mu wish L u = rw u (inner_counts G mu wish L one_f)
 
 pub call_one_fit : (t : Settings) (s : Shape) (I : Inputs) (A : Lent) (f : CarriedFamily) (l : CarriedLink) → table_of 1 t s I (lengths_of A) ≡ Accepted f l → uses_dispersion f ≡ false
     → (call_of t s I A).answer.account.fits ≡ 1
 unfolding call_given
-call_one_fit t s I A f l e u = rw (accepted-account t s I A f l e) (one_fit_lem (call_given f l t s I) (call_means f l t s I) t.n_agq (limit_of t.limit t.link) u)
+call_one_fit t s I A f l e u = rw (accepted_account t s I A f l e) (one_fit_lem (call_given f l t s I) (call_means f l t s I) t.n_agq (limit_of t.limit t.link) u)

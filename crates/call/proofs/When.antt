@@ -15,7 +15,7 @@ use Rattle.model.specs.declared.sizes.Settings.{Settings}
 use Rattle.model.proofs.Answers.{refusal_range, no_five, end_range}
 use Rattle.family.specs.Carried.{carried_family, carried_link}
 use Rattle.table.specs.When.{GivenWhen, PastAll}
-use Rattle.table.proofs.When.{decided, refused-when, accepted-when}
+use Rattle.table.proofs.When.{decided, refused_when, accepted_when}
 use Rattle.dispersion.specs.Rounds.{Result, result, no_result, Dispersed}
 use Rattle.call.specs.Fit.{Fitted, result_answer, answer_of}
 use Rattle.call.specs.Call.{Lent, lengths_of, Left, fit_left, call_of, FitNumber}
@@ -66,7 +66,7 @@ not_both x n e w =
 
 module _ (t : Settings) (s : Shape) (I : Inputs) (L : Lent) where
   refused : (x : Refusal) → GivenWhen 1 t s I (lengths_of L) x → (call_of t s I L).answer.number ≡ refusal_number x
-  refused x g = ap (λ (z : Left). z.answer.number) (refused_left t s I L x ((refused-when 1 t s I (lengths_of L) x).1 g))
+  refused x g = ap (λ (z : Left). z.answer.number) (refused_left t s I L x ((refused_when 1 t s I (lengths_of L) x).1 g))
 
   accepted : PastAll 1 t s I (lengths_of L) → FitNumber (call_of t s I L).answer.number
   unfolding fit_left answer_of
@@ -74,11 +74,11 @@ module _ (t : Settings) (s : Shape) (I : Inputs) (L : Lent) where
       let f = carried_family t.family in
       let l = carried_link t.link in
       let fit = asked_fit f l t s I in
-      rw (accepted_left t s I L f l ((accepted-when 1 t s I (lengths_of L) f l).1 (g, (refl, refl)))) (fit_number fit.outcome (tally fit.items))
+      rw (accepted_left t s I L f l ((accepted_when 1 t s I (lengths_of L) f l).1 (g, (refl, refl)))) (fit_number fit.outcome (tally fit.items))
 
   -- a number of the table
-  pub refused-exactly : (x : Refusal) → ((call_of t s I L).answer.number ≡ refusal_number x) ↔ GivenWhen 1 t s I (lengths_of L) x
-  refused-exactly x = (
+  pub refused_exactly : (x : Refusal) → ((call_of t s I L).answer.number ≡ refusal_number x) ↔ GivenWhen 1 t s I (lengths_of L) x
+  refused_exactly x = (
     λ e.
         ⊎_elim
         (λ (d : (y : Refusal) × GivenWhen 1 t s I (lengths_of L) y). let q : d.0 ≡ x = same_refusal d.0 x (sym (refused d.0 d.1) ∙ e) in rw q at d.1)
@@ -88,8 +88,8 @@ module _ (t : Settings) (s : Shape) (I : Inputs) (L : Lent) where
   )
 
   -- 0 and 10 to 13
-  pub accepted-exactly : FitNumber (call_of t s I L).answer.number ↔ PastAll 1 t s I (lengths_of L)
-  accepted-exactly = (
+  pub accepted_exactly : FitNumber (call_of t s I L).answer.number ↔ PastAll 1 t s I (lengths_of L)
+  accepted_exactly = (
     λ e.
         ⊎_elim (λ (d : (y : Refusal) × GivenWhen 1 t s I (lengths_of L) y). absurd (not_both d.0 _ (refused d.0 d.1) e)) (λ (d : PastAll 1 t s I (lengths_of L)). d)
         (decided 1 t s I (lengths_of L)),
@@ -97,13 +97,13 @@ module _ (t : Settings) (s : Shape) (I : Inputs) (L : Lent) where
   )
 
   -- a call of one response is never refused for the number of its responses
-  pub never-eight : (call_of t s I L).answer.number ≡ 8 → ⊥
+  pub never_eight : (call_of t s I L).answer.number ≡ 8 → ⊥
   unfolding GivenWhen
-  never-eight e = ff (sym ((refused-exactly Responses).0 e).1)
+  never_eight e = ff (sym ((refused_exactly Responses).0 e).1)
 
   -- 5 occurs no longer (document 02, P8)
-  pub never-five : (call_of t s I L).answer.number ≡ 5 → ⊥
-  never-five e =
+  pub never_five : (call_of t s I L).answer.number ≡ 5 → ⊥
+  never_five e =
       ⊎_elim (λ (d : (y : Refusal) × GivenWhen 1 t s I (lengths_of L) y). no_five d.0 (sym (refused d.0 d.1) ∙ e))
       (λ (d : PastAll 1 t s I (lengths_of L)). ⊎_elim (λ (z : (call_of t s I L).answer.number ≡ 0). omega (arith, z, e)) (λ (z : (10 ≤ (call_of t s I L).answer.number) × ((call_of t s I L).answer.number ≤ 13)). omega (arith, z.0, e)) (accepted d))
       (decided 1 t s I (lengths_of L))

@@ -23,7 +23,7 @@ use Rattle.agq_rule.specs.Steps.{quadrature_of}
 use Rattle.agq_rule.specs.Inner.{why_by}
 use Rattle.agq_rule.specs.declared.answers.Integral.{Integral}
 use Rattle.agq_rule.specs.declared.answers.Integral.TheVariants.{Declined}
-use Rattle.agq_rule.proofs.Whys.{why_to, why_zero, why_names, wish-exactly, effects-exactly, cap-exactly}
+use Rattle.agq_rule.proofs.Whys.{why_to, why_zero, why_names, wish_exactly, effects_exactly, cap_exactly}
 use Rattle.table.specs.Table.{table_of}
 use Rattle.table.specs.declared.verdicts.Verdict.{Verdict}
 use Rattle.table.specs.declared.verdicts.Verdict.TheVariants.{Accepted, Refused}
@@ -31,7 +31,7 @@ use Rattle.dispersion.specs.Rounds.{Result, result, no_result, Dispersed}
 use Rattle.call.specs.Fit.{Fitted, result_answer, answer_of}
 use Rattle.call.specs.Call.{Lent, lengths_of, call_given, fit_left, call_by, call_of}
 use Rattle.call.proofs.Leaves.{asked_fit}
-use Rattle.call.proofs.Stopped.{call-first-stop}
+use Rattle.call.proofs.Stopped.{call_first_stop}
 
 -- what an answer tells with its number, its order and its reason
 record Reasoned (a : Answer) : Type 0 where
@@ -57,52 +57,52 @@ module _ (t : Settings) (s : Shape) (I : Inputs) (L : Lent) where
   reasoned = by_verdict (table_of 1 t s I (lengths_of L))
 
   -- a fitted call tells no reason exactly where it tells an order from 3 to 11
-  pub call-why-used : (call_of t s I L).answer.number ≡ 0 → ((call_of t s I L).answer.why ≡ 0) ↔ ((3 ≤ (call_of t s I L).answer.order) × ((call_of t s I L).answer.order ≤ 11))
-  call-why-used = reasoned.used
+  pub call_why_used : (call_of t s I L).answer.number ≡ 0 → ((call_of t s I L).answer.why ≡ 0) ↔ ((3 ≤ (call_of t s I L).answer.order) × ((call_of t s I L).answer.order ≤ 11))
+  call_why_used = reasoned.used
 
   -- every other end and every refusal tells none
-  pub call-why-none : ((call_of t s I L).answer.number ≡ 0 → ⊥) → (call_of t s I L).answer.why ≡ 0
-  call-why-none = reasoned.none
+  pub call_why_none : ((call_of t s I L).answer.number ≡ 0 → ⊥) → (call_of t s I L).answer.why ≡ 0
+  call_why_none = reasoned.none
 
   -- and a reason is 6 at most
-  pub call-why-few : (call_of t s I L).answer.why ≤ 6
-  call-why-few = reasoned.few
+  pub call_why_few : (call_of t s I L).answer.why ≤ 6
+  call_why_few = reasoned.few
 
 -- ---- the reasons of the order choice, of a fitted call: each exactly where it is the first that holds
 module _ (t : Settings) (s : Shape) (I : Inputs) (L : Lent) (f : CarriedFamily) (l : CarriedLink) (e : table_of 1 t s I (lengths_of L) ≡ Accepted f l) (h : (call_of t s I L).answer.number ≡ 0) where
   -- the mode that was taken, and the quadrature there
   abbrev taken : Mode
-  taken = (call-first-stop t s I L f l e h).0
+  taken = (call_first_stop t s I L f l e h).0
 
   abbrev integral : Integral
   integral = (quadrature_of (call_given f l t s I) t.n_agq taken (call_of t s I L).answer.phi).answer
 
-  why-is : (call_of t s I L).answer.why ≡ why_by integral
-  why-is = (call-first-stop t s I L f l e h).1.why
+  why_is : (call_of t s I L).answer.why ≡ why_by integral
+  why_is = (call_first_stop t s I L f l e h).1.why
 
   named : (d : Decline) → decline_number d ≤ 3 → ((call_of t s I L).answer.why ≡ decline_number d) ↔ (integral ≡ Declined d)
   unfolding why_by
-  named d few = (λ q. why_names integral d few (sym why-is ∙ q), λ q. why-is ∙ ap why_by q)
+  named d few = (λ q. why_names integral d few (sym why_is ∙ q), λ q. why_is ∙ ap why_by q)
 
   -- 1: the wish is below 2
-  pub call-why-wish : ((call_of t s I L).answer.why ≡ 1) ↔ (t.n_agq < 2)
-  call-why-wish =
+  pub call_why_wish : ((call_of t s I L).answer.why ≡ 1) ↔ (t.n_agq < 2)
+  call_why_wish =
       let n = named Wish (omega arith) in
-      let x = wish-exactly (call_given f l t s I) t.n_agq taken (call_of t s I L).answer.phi in
+      let x = wish_exactly (call_given f l t s I) t.n_agq taken (call_of t s I L).answer.phi in
       (λ q. x.0 (n.0 q), λ w. n.1 (x.1 w))
 
   -- 2: else, with several blocks, no effect or more than 8
-  pub call-why-effects : ((call_of t s I L).answer.why ≡ 2) ↔ ((2 ≤ t.n_agq) × (s.count ≡ 1 → ⊥) × ((effects_of s ≡ 0) ⊎ (8 < effects_of s)))
+  pub call_why_effects : ((call_of t s I L).answer.why ≡ 2) ↔ ((2 ≤ t.n_agq) × (s.count ≡ 1 → ⊥) × ((effects_of s ≡ 0) ⊎ (8 < effects_of s)))
   unfolding call_given
-  call-why-effects =
+  call_why_effects =
       let n = named Effects (omega arith) in
-      let x = effects-exactly (call_given f l t s I) t.n_agq taken (call_of t s I L).answer.phi in
+      let x = effects_exactly (call_given f l t s I) t.n_agq taken (call_of t s I L).answer.phi in
       (λ q. x.0 (n.0 q), λ w. n.1 (x.1 w))
 
   -- 3: else, with one block, more than five effects a group
-  pub call-why-cap : ((call_of t s I L).answer.why ≡ 3) ↔ ((2 ≤ t.n_agq) × (s.count ≡ 1) × (6 ≤ s.k !! 0))
+  pub call_why_cap : ((call_of t s I L).answer.why ≡ 3) ↔ ((2 ≤ t.n_agq) × (s.count ≡ 1) × (6 ≤ s.k !! 0))
   unfolding call_given
-  call-why-cap =
+  call_why_cap =
       let n = named Cap (omega arith) in
-      let x = cap-exactly (call_given f l t s I) t.n_agq taken (call_of t s I L).answer.phi in
+      let x = cap_exactly (call_given f l t s I) t.n_agq taken (call_of t s I L).answer.phi in
       (λ q. x.0 (n.0 q), λ w. n.1 (x.1 w))

@@ -10,7 +10,7 @@ use Rattle.rule.specs.Stop.{Mode}
 use Rattle.agq_rule.specs.Inner.{InnerEnd, with_mode, without_mode, Inner, deviance_by, order_by, why_by, inner_of}
 use Rattle.agq_rule.specs.declared.answers.Integral.{Integral}
 use Rattle.dispersion.specs.Phi.{effective_n}
-use Rattle.dispersion.specs.Rounds.{Result, result, no_result, Total, Dispersed, dispersionOf, fixed_of}
+use Rattle.dispersion.specs.Rounds.{Result, result, no_result, Total, Dispersed, dispersion_of, fixed_of}
 
 -- what an inner fit with a result comes to: its mode, and what its quadrature answered
 pub record Fitted : Type 0 where
@@ -36,7 +36,7 @@ inner_at G mu wish L phi = total_of (inner_of G wish phi L mu)
 
 -- with a free dispersion the dispersion loop, else one inner fit
 unfoldable pub fit_by : Bool → Given → List Float → ℕ → ℕ → Total (Dispersed Fitted)
-fit_by true G mu wish L = dispersionOf (effective_n (n_of G) G.weights) sum_of (inner_at G mu wish L)
+fit_by true G mu wish L = dispersion_of (effective_n (n_of G) G.weights) sum_of (inner_at G mu wish L)
 fit_by false G mu wish L = fixed_of (inner_at G mu wish L)
 
 -- the fit from the starting means mu, whatever they are (document 02, P10)

@@ -25,7 +25,7 @@ use Rattle.lambda.specs.Product.{lambda_transposed_at}
 use Rattle.factor.specs.Substitution.{ldl_solve}
 use Rattle.factor.specs.Sides.{ldl_columns_at}
 use Rattle.factor.specs.Triangle.{SameBelow}
-use Rattle.factor.proofs.Solved.{ldl-solve-same}
+use Rattle.factor.proofs.Solved.{ldl_solve_same}
 use Rattle.stored.specs.Stored.{zt_times_at}
 use Rattle.linear.specs.Product.{cross_at, normal_at}
 use Rattle.rule.specs.Given.{Design, design_of}
@@ -50,10 +50,10 @@ module _ (n p q : ℕ) (shape : Shape) (theta offset x : List Float) (zt : Spars
       (λ g h. ap (λ (y : List Float). at p y g a) s ∙ matrix_at q p (weighted_side zt x p n w) g a h l)
       ∙ ap (build (zt_times_at zt n (weighted_column D w a))) e
 
-  pub unsolved-is : (S v : List Float) (a : ℕ) → S ≡ matrix q p (weighted_side zt x p n w) → v ≡ matrix p q (unsolved_at shape theta S p q) → a < p
+  pub unsolved_is : (S v : List Float) (a : ℕ) → S ≡ matrix q p (weighted_side zt x p n w) → v ≡ matrix p q (unsolved_at shape theta S p q) → a < p
       → row (a * q) q v ≡ unsolved_column D w a
   unfolding unsolved_at unsolved_column side_of
-  unsolved-is S v a s u l =
+  unsolved_is S v a s u l =
       ap (row (a * q) q) u ∙ matrix_line p q (unsolved_at shape theta S p q) a l
       ∙ ap (λ (y : List Float). build (lambda_transposed_at shape theta y) q) (gathered S a s l)
       ∙ ap (build (lambda_transposed_at shape theta (zt_times D (weighted_column D w a)))) e
@@ -66,7 +66,7 @@ module _ (n p q : ℕ) (shape : Shape) (theta offset x : List Float) (zt : Spars
         (matrix_is p q (solved_column_at D F w) (matrix p q (ldl_columns_at q L v)) (matrix_length p q (ldl_columns_at q L v))
         (λ a i l h.
         matrix_at p q (ldl_columns_at q L v) a i l h
-        ∙ ap (λ (y : List Float). y ! i) (ap (ldl_solve q L) (columns a l) ∙ ldl-solve-same q L F same (unsolved_column D w a) ∙ ap (λ (k : ℕ). ldl_solve k F (unsolved_column D w a)) e)))
+        ∙ ap (λ (y : List Float). y ! i) (ap (ldl_solve q L) (columns a l) ∙ ldl_solve_same q L F same (unsolved_column D w a) ∙ ap (λ (k : ℕ). ldl_solve k F (unsolved_column D w a)) e)))
 
     pub normal_is : (C W : List Float) (a b : ℕ) → a < p → at p C a b ≡ cross_at x p n w a b → less_mixed C v W p q a b ≡ normal_entry D w W a b
     unfolding less_mixed cross_at normal_entry normal_at weighted_column
@@ -114,8 +114,8 @@ module _ (n p q : ℕ) (shape : Shape) (theta x : List Float) (zt : Sparse) (r m
   in_m : beta_place p q + p ≤ length m
   in_m = omega (arith, laid.matrices.beta, laid.matrices.beta_end_lem, lent.matrices_long)
 
-  in-t : normal_place n p q + p * p ≤ length t
-  in-t = omega (arith, laid.terms.normal, laid.terms.spare, lent.terms_long)
+  in_t : normal_place n p q + p * p ≤ length t
+  in_t = omega (arith, laid.terms.normal, laid.terms.spare, lent.terms_long)
 
   -- of the matrices only W with X'WX behind it, and the place of β, have changed
   two2 : OnlyTwo (solved_place q) (q * p + p * p) (beta_place p q) p m m2
@@ -148,8 +148,8 @@ module _ (n p q : ℕ) (shape : Shape) (theta x : List Float) (zt : Sparse) (r m
   long1 = s.before.only.len
 
   -- entry (a, b) of X'WX still stands where it was written
-  crossed-is : (a b : ℕ) → a < p → b ≤ a → at p C4 a b ≡ cross_at x p n weights a b
-  crossed-is a b la lb =
+  crossed_is : (a b : ℕ) → a < p → b ≤ a → at p C4 a b ≡ cross_at x p n weights a b
+  crossed_is a b la lb =
       let place : a * p + b < p * p = omega (arith, row_fits a p p la) in
       row_at (root_inverse_place p q) (p * p) m4 (omega (arith, in_m, two4.len)) (a * p + b) place
       ∙ s.after.only.kept (root_inverse_place p q + (a * p + b)) (inr (omega (arith, turned)))
@@ -161,10 +161,10 @@ module _ (n p q : ℕ) (shape : Shape) (theta x : List Float) (zt : Sparse) (r m
     E = design_of n p shape theta offset x zt
 
     columns_are : (a : ℕ) → a < p → row (a * q) q V1 ≡ unsolved_column E weights a
-    columns_are a l = unsolved-is n p q shape theta offset x zt weights e (row (solved_place q) (q * p) m3) V1 a s.rows.row' s.before.row' l
+    columns_are a l = unsolved_is n p q shape theta offset x zt weights e (row (solved_place q) (q * p) m3) V1 a s.rows.row' s.before.row' l
 
     front : row 0 (q * q) t1 ≡ row factor_place (q * q) t
-    front = only_row 0 (q * q) (unsolved_place n q) (p * q) (inl (omega arith)) (omega (arith, in-t)) s.before.only
+    front = only_row 0 (q * q) (unsolved_place n q) (p * q) (inl (omega arith)) (omega (arith, in_t)) s.before.only
 
     solved_all : W4 ≡ solved_columns E F weights
     solved_all = s.after.row' ∙ solved_is n p q shape theta offset x zt weights e V1 columns_are (row 0 (q * q) t1) F (rw front same)
@@ -177,13 +177,13 @@ module _ (n p q : ℕ) (shape : Shape) (theta x : List Float) (zt : Sparse) (r m
     normal_all i j li lj =
         let lj' : j < p = omega arith in
         let place : i * p + j < p * p = omega (arith, row_fits i p p li) in
-        row_at (normal_place n p q) (p * p) t2 (omega (arith, in-t, long1, s.remains.only.len)) (i * p + j) place ∙ s.remains.below i j li lj
-        ∙ normal_is n p q shape theta offset x zt weights e V1 columns_are C4 W4 i j li (crossed-is i j li lj)
+        row_at (normal_place n p q) (p * p) t2 (omega (arith, in_t, long1, s.remains.only.len)) (i * p + j) place ∙ s.remains.below i j li lj
+        ∙ normal_is n p q shape theta offset x zt weights e V1 columns_are C4 W4 i j li (crossed_is i j li lj)
         ∙ ap (λ (y : List Float). normal_entry E weights y i j) solved_all
         ∙ sym (matrix_at p p (normal_entry E weights (solved_columns E F weights)) i j li lj')
 
     columns_kept : row (unsolved_place n q) (p * q) t2 ≡ V1
-    columns_kept = only_row (unsolved_place n q) (p * q) (normal_place n p q) (p * p) (inl (omega (arith, turned))) (omega (arith, turned, in-t, long1)) s.remains.only
+    columns_kept = only_row (unsolved_place n q) (p * q) (normal_place n p q) (p * p) (inl (omega (arith, turned))) (omega (arith, turned, in_t, long1)) s.remains.only
 
     wy_kept4 : row (wy_place p q) q m4 ≡ row (wy_place p q) q m
     wy_kept4 = kept (wy_place p q) q m4 (inr (omega arith)) (omega arith) two4

@@ -16,7 +16,7 @@ use Rattle.base.specs.Rows.{row, Only, Wrote}
 use Rattle.base.proofs.Commutes.{times_commutes}
 use Rattle.base.proofs.Sums.{lt_or_ge, sum_cong}
 use Rattle.base.proofs.Fills.{row_fits, build_at, fill_build, length_fill, copied, fillat_step, fillat_above, matrix_at, matrix_length, grid_matrix}
-use Rattle.base.proofs.Rows.{row_at, row_length, row-build, part_is, part_wrote, only_none, only_row, only_trans, only_wide, fillat_only}
+use Rattle.base.proofs.Rows.{row_at, row_length, row_build, part_is, part_wrote, only_none, only_row, only_trans, only_wide, fillat_only}
 use Rattle.base.proofs.TwoRows.{part_made}
 use Rattle.model.specs.declared.sizes.Shape.{Shape}
 use Rattle.lambda.specs.Product.{lambda_transposed_at}
@@ -47,7 +47,7 @@ row_within b n o k w fits inside =
 
 -- a row of a matrix
 pub matrix_line : (r c : ℕ) (f : ℕ → ℕ → Float) (a : ℕ) → a < r → row (a * c) c (matrix r c f) ≡ build (f a) c
-matrix_line r c f a l = row-build (a * c) c (matrix r c f) (omega (arith, row_fits a r c l, matrix_length r c f)) (f a) (λ k m. matrix_at r c f a k l m)
+matrix_line r c f a l = row_build (a * c) c (matrix r c f) (omega (arith, row_fits a r c l, matrix_length r c f)) (f a) (λ k m. matrix_at r c f a k l m)
 
 -- a part that came back filled by rows
 pub matrix_part : (b r c e : ℕ) (f : ℕ → ℕ → Float) (w ys : List Float) → e ≡ b + r * c → e ≤ length w → length ys ≡ length (mid_of b (e - b) w)
@@ -131,10 +131,10 @@ module _ (C W : List Float) (p q a unsolved normal : ℕ) (v : List Float) (l : 
   abbrev rule : ℕ → Float
   rule = less_mixed C (row unsolved (p * q) v) W p q a
 
-  pub mixed-step : (d u ve o b : ℕ) (w : List Float) (s : Float) → d ≡ a * p → u ≡ a * q → ve ≡ unsolved + u + q → o ≡ b * q → b ≤ a
+  pub mixed_step : (d u ve o b : ℕ) (w : List Float) (s : Float) → d ≡ a * p → u ≡ a * q → ve ≡ unsolved + u + q → o ≡ b * q → b ≤ a
       → s ≡ sum_to q (product_from W o (take (ve - (unsolved + u)) (drop (unsolved + u) w))) → w ≡ fill_at (normal + d) b rule v
       → set w (normal + d + b) ((C ! (d + b)) ⊖ s) ≡ fill_at (normal + d) (b + 1) rule v
-  mixed-step d u ve o b w s ed eu ev eo lb es e = ap (λ (y : Float). set w (normal + d + b) y) entry ∙ fillat_step (normal + d) rule v b w e
+  mixed_step d u ve o b w s ed eu ev eo lb es e = ap (λ (y : Float). set w (normal + d + b) y) entry ∙ fillat_step (normal + d) rule v b w e
     where
       ends : unsolved + u + q ≤ normal
       ends = omega (arith, eu, apart, row_fits a p q l)
@@ -167,22 +167,22 @@ less_solved_lem s v y q a = refl
 
 -- one entry more of the right side, v being the list before the first and w the list now
 module _ (p q unsolved wy beta : ℕ) (t v : List Float) (room : unsolved + p * q ≤ length t) (apart : wy + q ≤ beta) (fits : beta + p ≤ length v) where
-  abbrev side-rule : ℕ → Float
-  side-rule = less_solved (row beta p v) (row unsolved (p * q) t) (row wy q v) q
+  abbrev side_rule : ℕ → Float
+  side_rule = less_solved (row beta p v) (row unsolved (p * q) t) (row wy q v) q
 
-  pub side-step : (a u ve ye : ℕ) (w : List Float) (s : Float) → a < p → u ≡ a * q → ve ≡ unsolved + u + q → ye ≡ wy + q
-      → s ≡ dot_of q (take (ve - (unsolved + u)) (drop (unsolved + u) t)) (take (ye - wy) (drop wy w)) → w ≡ fill_at beta a side-rule v
-      → set w (beta + a) ((w ! (beta + a)) ⊖ s) ≡ fill_at beta (a + 1) side-rule v
-  side-step a u ve ye w s l eu ev ey es e = ap (λ (y : Float). set w (beta + a) y) entry ∙ fillat_step beta side-rule v a w e
+  pub side_step : (a u ve ye : ℕ) (w : List Float) (s : Float) → a < p → u ≡ a * q → ve ≡ unsolved + u + q → ye ≡ wy + q
+      → s ≡ dot_of q (take (ve - (unsolved + u)) (drop (unsolved + u) t)) (take (ye - wy) (drop wy w)) → w ≡ fill_at beta a side_rule v
+      → set w (beta + a) ((w ! (beta + a)) ⊖ s) ≡ fill_at beta (a + 1) side_rule v
+  side_step a u ve ye w s l eu ev ey es e = ap (λ (y : Float). set w (beta + a) y) entry ∙ fillat_step beta side_rule v a w e
     where
       column : take (ve - (unsolved + u)) (drop (unsolved + u) t) ≡ row (a * q) q (row unsolved (p * q) t)
       column = part_is (unsolved + u) q ve t ev ∙ rw eu (row_within unsolved (p * q) (a * q) q t room (row_fits a p q l))
 
       solved : take (ye - wy) (drop wy w) ≡ row wy q v
-      solved = part_is wy q ye w ey ∙ rw e (only_row wy q beta p (inl apart) (omega arith) (fillat_only beta p a side-rule v (omega arith)))
+      solved = part_is wy q ye w ey ∙ rw e (only_row wy q beta p (inl apart) (omega arith) (fillat_only beta p a side_rule v (omega arith)))
 
       stood : w ! (beta + a) ≡ row beta p v ! a
-      stood = ap (λ (y : List Float). y ! (beta + a)) e ∙ fillat_above beta a side-rule v (beta + a) (omega arith) ∙ sym (row_at beta p v fits a l)
+      stood = ap (λ (y : List Float). y ! (beta + a)) e ∙ fillat_above beta a side_rule v (beta + a) (omega arith) ∙ sym (row_at beta p v fits a l)
 
-      entry : (w ! (beta + a)) ⊖ s ≡ side-rule a
+      entry : (w ! (beta + a)) ⊖ s ≡ side_rule a
       entry = rw (stood, es, column, solved) (less_solved_lem (row beta p v) (row unsolved (p * q) t) (row wy q v) q a)

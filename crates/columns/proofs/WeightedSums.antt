@@ -50,14 +50,14 @@ unfoldable pub dot_to : List Float → ℕ → List Float → List Float → ℕ
 dot_to x p w v i a = sum_to i (λ j. (v ! j) ⊗ xw_at x p w a j)
 
 module _ (x : List Float) (p : ℕ) (w v : List Float) (b count : ℕ) where
-  pub dots-none : (s : List Float) → s ≡ replicate count zero_f → s ≡ build (starting_at (dot_to x p w v 0) b) count
+  pub dots_none : (s : List Float) → s ≡ replicate count zero_f → s ≡ build (starting_at (dot_to x p w v 0) b) count
   unfolding starting_at dot_to
-  dots-none s e = sums_none (starting_at (dot_to x p w v 0) b) count s e (λ k. sum_none (λ j. (v ! j) ⊗ xw_at x p w (b + k) j))
+  dots_none s e = sums_none (starting_at (dot_to x p w v 0) b) count s e (λ k. sum_none (λ j. (v ! j) ⊗ xw_at x p w (b + k) j))
 
-  pub dots-step : (i o c : ℕ) (s t : List Float) → o ≡ i * p → c ≡ o + b → s ≡ build (starting_at (dot_to x p w v i) b) count
+  pub dots_step : (i o c : ℕ) (s t : List Float) → o ≡ i * p → c ≡ o + b → s ≡ build (starting_at (dot_to x p w v i) b) count
       → t ≡ fill_to count (weighted_more (w ! i) (v ! i) x c s) s → t ≡ build (starting_at (dot_to x p w v (i + 1)) b) count
   unfolding starting_at dot_to
-  dots-step i o c s t eo ec es et =
+  dots_step i o c s t eo ec es et =
       et
       ∙ sums_step (starting_at (dot_to x p w v i) b) (starting_at (dot_to x p w v (i + 1)) b) count (w ! i) (v ! i) x c s es
       (λ k.
@@ -65,9 +65,9 @@ module _ (x : List Float) (p : ℕ) (w v : List Float) (b count : ℕ) where
       ap (λ (m : ℕ). dot_to x p w v i (b + k) ⊕ ((v ! i) ⊗ ((x ! m) ⊗ (w ! i)))) place
       ∙ sum_step (λ j. (v ! j) ⊗ xw_at x p w (b + k) j) i (dot_to x p w v i (b + k)) refl)
 
-  pub dots-end : (n i : ℕ) (s : List Float) → i ≤ n → n ≤ i → s ≡ build (starting_at (dot_to x p w v i) b) count → s ≡ build (starting_at (weighted_dot x p n w v) b) count
+  pub dots_end : (n i : ℕ) (s : List Float) → i ≤ n → n ≤ i → s ≡ build (starting_at (dot_to x p w v i) b) count → s ≡ build (starting_at (weighted_dot x p n w v) b) count
   unfolding starting_at dot_to weighted_dot
-  dots-end n i s l m e =
+  dots_end n i s l m e =
       let whole : i ≡ n = omega arith in
       e ∙ ap (λ (j : ℕ). build (starting_at (dot_to x p w v j) b) count) whole
       ∙ build_cong (starting_at (dot_to x p w v n) b) (starting_at (weighted_dot x p n w v) b) count
@@ -83,12 +83,12 @@ module _ (columns : List ℕ) (values x : List Float) (p : ℕ) (w : List Float)
   entries_none s e =
       sums_none (starting_at (entries_side columns values x p w begin begin) b) count s e (λ k. from_none begin (λ j. (values ! j) ⊗ xw_at x p w (b + k) (columns !! j)))
 
-  pub entries-step : (k o c : ℕ) (s t : List Float) → begin ≤ k → o ≡ (columns !! k) * p → c ≡ o + b
+  pub entries_step : (k o c : ℕ) (s t : List Float) → begin ≤ k → o ≡ (columns !! k) * p → c ≡ o + b
       → s ≡ build (starting_at (entries_side columns values x p w begin k) b) count
       → t ≡ fill_to count (weighted_more (w ! (columns !! k)) (values ! k) x c s) s
       → t ≡ build (starting_at (entries_side columns values x p w begin (k + 1)) b) count
   unfolding starting_at entries_side
-  entries-step k o c s t l eo ec es et =
+  entries_step k o c s t l eo ec es et =
       let i = columns !! k in
       et
       ∙ sums_step (starting_at (entries_side columns values x p w begin k) b) (starting_at (entries_side columns values x p w begin (k + 1)) b) count (w ! i) (values ! k) x c s es
@@ -147,9 +147,9 @@ sides_step Z rows n x p w g o e v out ys r l eo ee h ly eout y =
 -- ---- several columns more: those that were written before are written again
 
 module _ (f : ℕ → Float) (p b o count : ℕ) (v w : List Float) (from : o ≤ b) (to : b < o + count) (within : o + count ≤ p) (fits : p ≤ length v) (after : w ≡ fill_at o count (starting_at f o) v) where
-  again-in : (i : ℕ) → o ≤ i → i < o + count → w ! i ≡ f i
+  again_in : (i : ℕ) → o ≤ i → i < o + count → w ! i ≡ f i
   unfolding starting_at
-  again-in i l m =
+  again_in i l m =
       let e : o + (i - o) ≡ i = omega arith in
       ap (λ (j : ℕ). w ! j) (sym e) ∙ ap (λ (y : List Float). y ! (o + (i - o))) after ∙ fillat_in o count (starting_at f o) v (omega arith) (i - o) (omega arith) ∙ ap f e
 
@@ -158,7 +158,7 @@ module _ (f : ℕ → Float) (p b o count : ℕ) (v w : List Float) (from : o �
     again_long = ap length before ∙ length_fill b f u
 
     again_done : (i : ℕ) → i < o + count → w ! i ≡ f i
-    again_done i l = ⊎_elim earlier (λ (m : o ≤ i). again-in i m l) (lt_or_ge i o)
+    again_done i l = ⊎_elim earlier (λ (m : o ≤ i). again_in i m l) (lt_or_ge i o)
       where
         earlier : i < o → w ! i ≡ f i
         earlier m =
@@ -172,5 +172,5 @@ module _ (f : ℕ → Float) (p b o count : ℕ) (v w : List Float) (from : o �
     again_filled : w ≡ fill_to (o + count) f u
     again_filled = fill_is (o + count) f u w (omega (arith, again_long)) (ap length after ∙ length_fillat o count (starting_at f o) v ∙ again_long) again_done again_rest
 
-  pub columns-further : Further f p b (o + count) v w
-  columns-further = record { behind = to; within = within; filled = again_filled }
+  pub columns_further : Further f p b (o + count) v w
+  columns_further = record { behind = to; within = within; filled = again_filled }

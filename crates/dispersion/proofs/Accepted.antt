@@ -10,7 +10,7 @@ use Rattle.model.specs.Items.{Item, is_solve, is_ok, count_of}
 use Rattle.model.proofs.Tallies.{count_append}
 use Rattle.rule.proofs.Accepted.{stuck_at}
 use Rattle.dispersion.specs.Phi.{round_of}
-use Rattle.dispersion.specs.Rounds.{Result, result, no_result, Total, Dispersed, totalBefore, withFlag, lastFit, afterRound, afterFit, dispersionFrom, dispersionOf, fixed_of}
+use Rattle.dispersion.specs.Rounds.{Result, result, no_result, Total, Dispersed, total_before, with_flag, last_fit, after_round, after_fit, dispersion_from, dispersion_of, fixed_of}
 use Rattle.dispersion.specs.declared.round.Round.{Round}
 use Rattle.dispersion.specs.declared.round.Round.TheVariants.{Settled, Next}
 
@@ -24,42 +24,42 @@ abbrev pub TotalPaid : {F : Type 0} → Total F → Type 0
 TotalPaid t = count_of is_solve t.items ≡ count_of is_ok t.items + stuck_by t.outcome
 
 -- the last inner fit, with the flag
-flag_stuck : {F : Type 0} (flag : Bool) (phi : Float) (x : Result F) → stuck_by (withFlag flag phi x) ≡ stuck_by x
-unfolding withFlag
+flag_stuck : {F : Type 0} (flag : Bool) (phi : Float) (x : Result F) → stuck_by (with_flag flag phi x) ≡ stuck_by x
+unfolding with_flag
 flag_stuck flag phi (result f) = refl
 flag_stuck flag phi (no_result e) = refl
 
-last_paid : {F : Type 0} (flag : Bool) (phi : Float) (t : Total F) → TotalPaid t → TotalPaid (lastFit flag phi t)
-unfolding lastFit
+last_paid : {F : Type 0} (flag : Bool) (phi : Float) (t : Total F) → TotalPaid t → TotalPaid (last_fit flag phi t)
+unfolding last_fit
 last_paid flag phi t p = rw (flag_stuck flag phi t.outcome) p
 
 -- ---- a round
 module _ {F : Type 0} (effective : Float) (dev_sum : F → Float) (phi : Float) (is : List Item) (rest : Float → Total (Dispersed F)) (paid : (next : Float) → TotalPaid (rest next)) where
-  round-paid : (r : Round) (f : F) → count_of is_solve is ≡ count_of is_ok is → TotalPaid (afterRound r f phi is rest)
-  unfolding afterRound totalBefore
-  round-paid Settled f q = omega (arith, q)
-  round-paid (Next next) f q =
+  round_paid : (r : Round) (f : F) → count_of is_solve is ≡ count_of is_ok is → TotalPaid (after_round r f phi is rest)
+  unfolding after_round total_before
+  round_paid Settled f q = omega (arith, q)
+  round_paid (Next next) f q =
       let js = (rest next).items in
       omega (arith, q, paid next, count_append is_solve is js, count_append is_ok is js)
 
-  fit-paid : (x : Result F) → count_of is_solve is ≡ count_of is_ok is + stuck_by x → TotalPaid (afterFit effective dev_sum phi x is rest)
-  unfolding afterFit
-  fit-paid (no_result e) q = q
-  fit-paid (result f) q = round-paid (round_of effective phi (dev_sum f)) f (omega (arith, q))
+  fit_paid : (x : Result F) → count_of is_solve is ≡ count_of is_ok is + stuck_by x → TotalPaid (after_fit effective dev_sum phi x is rest)
+  unfolding after_fit
+  fit_paid (no_result e) q = q
+  fit_paid (result f) q = round_paid (round_of effective phi (dev_sum f)) f (omega (arith, q))
 
 -- ---- the loop
 module _ {F : Type 0} (effective : Float) (dev_sum : F → Float) (inner : Float → Total F) (paid : (phi : Float) → TotalPaid (inner phi)) where
-  from_paid : (left : ℕ) (phi : Float) → TotalPaid (dispersionFrom effective dev_sum inner left phi)
-  unfolding dispersionFrom
+  from_paid : (left : ℕ) (phi : Float) → TotalPaid (dispersion_from effective dev_sum inner left phi)
+  unfolding dispersion_from
   from_paid zero phi = last_paid false phi (inner phi) (paid phi)
   from_paid (suc left) phi =
-      fit-paid effective dev_sum phi (inner phi).items (dispersionFrom effective dev_sum inner left) (λ next. from_paid left next) (inner phi).outcome (paid phi)
+      fit_paid effective dev_sum phi (inner phi).items (dispersion_from effective dev_sum inner left) (λ next. from_paid left next) (inner phi).outcome (paid phi)
 
-  pub loop-paid : TotalPaid (dispersionOf effective dev_sum inner)
-  unfolding dispersionOf
-  loop-paid = from_paid 240 one_f
+  pub loop_paid : TotalPaid (dispersion_of effective dev_sum inner)
+  unfolding dispersion_of
+  loop_paid = from_paid 240 one_f
 
   -- the one fit of a family without dispersion
-  pub fixed-paid : TotalPaid (fixed_of inner)
+  pub fixed_paid : TotalPaid (fixed_of inner)
   unfolding fixed_of
-  fixed-paid = last_paid true one_f (inner one_f) (paid one_f)
+  fixed_paid = last_paid true one_f (inner one_f) (paid one_f)

@@ -5,7 +5,7 @@ use Prim.Native.Nat.{ℕ, suc}
 use lib.Ieee.{Float}
 use Rattle.model.specs.declared.ends.End.{End}
 use Rattle.dispersion.specs.Phi.{round_of}
-use Rattle.dispersion.specs.Rounds.{Result, result, no_result, Total, totalBefore, afterRound, afterFit, dispersionFrom}
+use Rattle.dispersion.specs.Rounds.{Result, result, no_result, Total, total_before, after_round, after_fit, dispersion_from}
 use Rattle.dispersion.specs.declared.round.Round.TheVariants.{Settled, Next}
 
 -- a result was found
@@ -14,16 +14,16 @@ is_result (result f) = true
 is_result (no_result e) = false
 
 module _ {F : Type 0} (effective : Float) (dev_sum : F → Float) (inner : Float → Total F) (left : ℕ) (phi : Float) where
-  pub round-unfitted : (e : End) → (inner phi).outcome ≡ no_result e → dispersionFrom effective dev_sum inner (suc left) phi ≡ record { outcome = no_result e; items = (inner phi).items }
-  unfolding dispersionFrom afterFit
-  round-unfitted e a = rw a refl
+  pub round_unfitted : (e : End) → (inner phi).outcome ≡ no_result e → dispersion_from effective dev_sum inner (suc left) phi ≡ record { outcome = no_result e; items = (inner phi).items }
+  unfolding dispersion_from after_fit
+  round_unfitted e a = rw a refl
 
-  pub round-settled : (f : F) → (inner phi).outcome ≡ result f → round_of effective phi (dev_sum f) ≡ Settled
-      → dispersionFrom effective dev_sum inner (suc left) phi ≡ record { outcome = result (record { last = f; phi = phi; converged = true }); items = (inner phi).items }
-  unfolding dispersionFrom afterFit afterRound
-  round-settled f a b = rw (a, b) refl
+  pub round_settled : (f : F) → (inner phi).outcome ≡ result f → round_of effective phi (dev_sum f) ≡ Settled
+      → dispersion_from effective dev_sum inner (suc left) phi ≡ record { outcome = result (record { last = f; phi = phi; converged = true }); items = (inner phi).items }
+  unfolding dispersion_from after_fit after_round
+  round_settled f a b = rw (a, b) refl
 
-  pub round-next : (f : F) (next : Float) → (inner phi).outcome ≡ result f → round_of effective phi (dev_sum f) ≡ Next next
-      → dispersionFrom effective dev_sum inner (suc left) phi ≡ totalBefore (inner phi).items (dispersionFrom effective dev_sum inner left next)
-  unfolding dispersionFrom afterFit afterRound
-  round-next f next a b = rw (a, b) refl
+  pub round_next : (f : F) (next : Float) → (inner phi).outcome ≡ result f → round_of effective phi (dev_sum f) ≡ Next next
+      → dispersion_from effective dev_sum inner (suc left) phi ≡ total_before (inner phi).items (dispersion_from effective dev_sum inner left next)
+  unfolding dispersion_from after_fit after_round
+  round_next f next a b = rw (a, b) refl

@@ -25,40 +25,40 @@ pub record Dispersed (F : Type 0) : Type 0 where
 
 module _ {F : Type 0} where
   -- items before those of what follows
-  unfoldable pub totalBefore : List Item → Total F → Total F
-  totalBefore is t = record { outcome = t.outcome; items = is ++ t.items }
+  unfoldable pub total_before : List Item → Total F → Total F
+  total_before is t = record { outcome = t.outcome; items = is ++ t.items }
 
   -- an inner fit at phi as the last, with the flag
-  unfoldable pub withFlag : Bool → Float → Result F → Result (Dispersed F)
-  withFlag flag phi (result f) = result (record { last = f; phi = phi; converged = flag })
-  withFlag flag phi (no_result e) = no_result e
+  unfoldable pub with_flag : Bool → Float → Result F → Result (Dispersed F)
+  with_flag flag phi (result f) = result (record { last = f; phi = phi; converged = flag })
+  with_flag flag phi (no_result e) = no_result e
 
   -- and nothing after it
-  unfoldable pub lastFit : Bool → Float → Total F → Total (Dispersed F)
-  lastFit flag phi t = record { outcome = withFlag flag phi t.outcome; items = t.items }
+  unfoldable pub last_fit : Bool → Float → Total F → Total (Dispersed F)
+  last_fit flag phi t = record { outcome = with_flag flag phi t.outcome; items = t.items }
 
 module _ {F : Type 0} where
   -- by what follows a round: the fit stands, or the rest goes on at the next phi
-  unfoldable pub afterRound : Round → F → Float → List Item → (Float → Total (Dispersed F)) → Total (Dispersed F)
-  afterRound Settled f phi is rest = record { outcome = result (record { last = f; phi = phi; converged = true }); items = is }
-  afterRound (Next next) f phi is rest = totalBefore is (rest next)
+  unfoldable pub after_round : Round → F → Float → List Item → (Float → Total (Dispersed F)) → Total (Dispersed F)
+  after_round Settled f phi is rest = record { outcome = result (record { last = f; phi = phi; converged = true }); items = is }
+  after_round (Next next) f phi is rest = total_before is (rest next)
 
   -- by what a round's inner fit comes to: without a result the loop ends so
-  unfoldable pub afterFit : Float → (F → Float) → Float → Result F → List Item → (Float → Total (Dispersed F)) → Total (Dispersed F)
-  afterFit effective dev_sum phi (no_result e) is rest = record { outcome = no_result e; items = is }
-  afterFit effective dev_sum phi (result f) is rest = afterRound (round_of effective phi (dev_sum f)) f phi is rest
+  unfoldable pub after_fit : Float → (F → Float) → Float → Result F → List Item → (Float → Total (Dispersed F)) → Total (Dispersed F)
+  after_fit effective dev_sum phi (no_result e) is rest = record { outcome = no_result e; items = is }
+  after_fit effective dev_sum phi (result f) is rest = after_round (round_of effective phi (dev_sum f)) f phi is rest
 
 module _ {F : Type 0} where
   -- the loop from phi on, with so many rounds left, then one more with the flag false; effective is the effective n, dev_sum the deviance sum of a fit
-  unfoldable pub dispersionFrom : Float → (F → Float) → (Float → Total F) → ℕ → Float → Total (Dispersed F)
-  dispersionFrom effective dev_sum inner zero phi = lastFit false phi (inner phi)
-  dispersionFrom effective dev_sum inner (suc left) phi = afterFit effective dev_sum phi (inner phi).outcome (inner phi).items (dispersionFrom effective dev_sum inner left)
+  unfoldable pub dispersion_from : Float → (F → Float) → (Float → Total F) → ℕ → Float → Total (Dispersed F)
+  dispersion_from effective dev_sum inner zero phi = last_fit false phi (inner phi)
+  dispersion_from effective dev_sum inner (suc left) phi = after_fit effective dev_sum phi (inner phi).outcome (inner phi).items (dispersion_from effective dev_sum inner left)
 
 module _ {F : Type 0} where
   -- the dispersion loop: phi from 1, 240 rounds
-  unfoldable pub dispersionOf : Float → (F → Float) → (Float → Total F) → Total (Dispersed F)
-  dispersionOf effective dev_sum inner = dispersionFrom effective dev_sum inner 240 one_f
+  unfoldable pub dispersion_of : Float → (F → Float) → (Float → Total F) → Total (Dispersed F)
+  dispersion_of effective dev_sum inner = dispersion_from effective dev_sum inner 240 one_f
 
   -- one inner fit at phi 1, for a family without dispersion; the flag is true
   unfoldable pub fixed_of : (Float → Total F) → Total (Dispersed F)
-  fixed_of inner = lastFit true one_f (inner one_f)
+  fixed_of inner = last_fit true one_f (inner one_f)

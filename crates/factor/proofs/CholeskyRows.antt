@@ -50,35 +50,35 @@ cholesky_row_step s i j b X l m e = rw (← cholesky_below_lem s i j (λ k. X ! 
 -- ---- from row i, which begins at io: P before it, X with its entries before the diagonal, r the test of its pivot
 module _ (s i io : ℕ) (A P X : List Float) (sum : Float) (r : Bool) (l : i < s) (h : s * s ≤ length A) (eo : io ≡ i * s) (eP : P ≡ fill_by (cholesky_rule s) (i * s) A)
     (eX : X ≡ row_by (cholesky_rule s) (i * s) i P) (es : sum ≡ rows_dot s (λ k. X ! k) i i i) (er : r ≡ positive ((X ! (io + i)) ⊖ sum)) (so : Done ≡ first_bad i (cholesky_passes s A (cholesky_of s A))) where
-  cholesky-pivot : cholesky_pivot s i (λ k. cholesky_of s A ! k) (at s A i i) ≡ (X ! (io + i)) ⊖ sum
+  cholesky_pivot_lem : cholesky_pivot s i (λ k. cholesky_of s A ! k) (at s A i i) ≡ (X ! (io + i)) ⊖ sum
   unfolding cholesky_pivot rows_dot cholesky_of
-  cholesky-pivot =
+  cholesky_pivot_lem =
       let old : X ! (i * s + i) ≡ A ! (i * s + i) =
       ap (λ (w : List Float). w ! (i * s + i)) (row_reached (cholesky_rule s) s i A P X l eP eX) ∙ by_rest (cholesky_rule s) (i * s + i) A (i * s + i) (omega arith) in
       rw (eo, es, old)
       (ap (λ (z : Float). (A ! (i * s + i)) ⊖ z) (sum_cong i _ _ (λ k m. rw (row_stays (cholesky_rule s) s i A P X l eP eX k m) refl)))
 
-  cholesky-test : cholesky_passes s A (cholesky_of s A) i ≡ r
+  cholesky_test : cholesky_passes s A (cholesky_of s A) i ≡ r
   unfolding cholesky_passes
-  cholesky-test = ap positive cholesky-pivot ∙ sym er
+  cholesky_test = ap positive cholesky_pivot_lem ∙ sym er
 
   -- its pivot fails
-  pub cholesky-stop : not r ≡ true → CholeskyLeaves s A (Bad i) X
+  pub cholesky_stop : r ≡ false → CholeskyLeaves s A (Bad i) X
   unfolding cholesky_end reach
-  cholesky-stop e =
+  cholesky_stop e =
       record {
-        end = first_stop (cholesky_passes s A (cholesky_of s A)) s i so (cholesky-test ∙ not-true r e) l;
+        end = first_stop (cholesky_passes s A (cholesky_of s A)) s i so (cholesky_test ∙ e) l;
         out = row_reached (cholesky_rule s) s i A P X l eP eX;
       }
 
   -- it passes, and its root is written
-  pub cholesky-go : not r ≡ false
+  pub cholesky_go : r ≡ true
       → (set X (io + i) (sqrt_of ((X ! (io + i)) ⊖ sum)) ≡ fill_by (cholesky_rule s) ((i + 1) * s) A) × (Done ≡ first_bad (i + 1) (cholesky_passes s A (cholesky_of s A)))
   unfolding cholesky_pivot
-  cholesky-go e =
+  cholesky_go e =
       let now : sqrt_of ((X ! (i * s + i)) ⊖ sum) ≡ cholesky_rule s (i * s + i) (λ k. X ! k) (X ! (i * s + i)) =
       rw es (sym (cholesky_on s i (λ k. X ! k) (X ! (i * s + i)) l)) in
-      (rw eo (row_done (cholesky_rule s) s i A P X l eP eX _ (cholesky_above s i) now), first_step (cholesky_passes s A (cholesky_of s A)) i so (cholesky-test ∙ not-false r e))
+      (rw eo (row_done (cholesky_rule s) s i A P X l eP eX _ (cholesky_above s i) now), first_step (cholesky_passes s A (cholesky_of s A)) i so (cholesky_test ∙ e))
 
 -- no row is left
 pub cholesky_done : (s i : ℕ) (A X : List Float) → i ≤ s → s ≤ i → X ≡ fill_by (cholesky_rule s) (i * s) A → Done ≡ first_bad i (cholesky_passes s A (cholesky_of s A)) → CholeskyLeaves s A Done X

@@ -25,21 +25,21 @@ use Rattle.factor.proofs.CholeskyRows.{cholesky_below_lem, cholesky_on, cholesky
 
 -- ---- the rule looks at the lower triangle before its place only
 module _ (s i j : ℕ) (x y : ℕ → Float) (l : j ≤ i) (same : (a c : ℕ) → c ≤ a → a * s + c < i * s + j → cell s x a c ≡ cell s y a c) where
-  dot-same : rows_dot s x i j j ≡ rows_dot s y i j j
+  dot_same : rows_dot s x i j j ≡ rows_dot s y i j j
   unfolding rows_dot
-  dot-same =
+  dot_same =
       sum_cong j _ _
       (λ k m.
       let up : j * s ≤ i * s = mul-le-mul_right s l in
       rw (same i k (omega arith) (omega arith), same j k (omega arith) (omega arith)) refl)
 
-  cholesky-below-same : (a b : Float) → i < s → j < i → a ≡ b → cholesky_below s i j x a ≡ cholesky_below s i j y b
+  cholesky_below_same : (a b : Float) → i < s → j < i → a ≡ b → cholesky_below s i j x a ≡ cholesky_below s i j y b
   unfolding cholesky_below
-  cholesky-below-same a b n m e = rw (e, dot-same, same j j (omega arith) (omega (arith, row_fits j i s m))) refl
+  cholesky_below_same a b n m e = rw (e, dot_same, same j j (omega arith) (omega (arith, row_fits j i s m))) refl
 
 cholesky_pivot_same : (s i : ℕ) (x y : ℕ → Float) (a b : Float) → ((p c : ℕ) → c ≤ p → p * s + c < i * s + i → cell s x p c ≡ cell s y p c) → a ≡ b → cholesky_pivot s i x a ≡ cholesky_pivot s i y b
 unfolding cholesky_pivot
-cholesky_pivot_same s i x y a b same e = rw (e, dot-same s i i x y (omega arith) same) refl
+cholesky_pivot_same s i x y a b same e = rw (e, dot_same s i i x y (omega arith) same) refl
 
 -- ---- the textbook's equations
 module _ (s : ℕ) (A : List Float) (h : s * s ≤ length A) where
@@ -54,21 +54,21 @@ module _ (s : ℕ) (A : List Float) (h : s * s ≤ length A) where
   unfolding cholesky_of
   earlier i j l m a c q = sym (by_kept (cholesky_rule s) (i * s + j) (s * s) A (a * s + c) q (omega (arith, row_fits i s s l)))
 
-  root-of : (i : ℕ) → i < s → at s (cholesky_of s A) i i ≡ sqrt_of (cholesky_pivot s i (λ k. cholesky_of s A ! k) (at s A i i))
-  root-of i l = written i i l l ∙ cholesky_on s i _ _ l ∙ ap sqrt_of (cholesky_pivot_same s i _ _ _ _ (λ a c m q. earlier i i l l a c q) refl)
+  root_of_lem : (i : ℕ) → i < s → at s (cholesky_of s A) i i ≡ sqrt_of (cholesky_pivot s i (λ k. cholesky_of s A ! k) (at s A i i))
+  root_of_lem i l = written i i l l ∙ cholesky_on s i _ _ l ∙ ap sqrt_of (cholesky_pivot_same s i _ _ _ _ (λ a c m q. earlier i i l l a c q) refl)
 
   below_of : (i j : ℕ) → i < s → j < i → at s (cholesky_of s A) i j ≡ cholesky_below s i j (λ k. cholesky_of s A ! k) (at s A i j)
   below_of i j l m =
       let m' : j < s = omega arith in
-      written i j l m' ∙ cholesky_below_lem s i j _ _ l m ∙ cholesky-below-same s i j _ _ (omega arith) (λ a c n q. earlier i j l m' a c q) _ _ l m refl
+      written i j l m' ∙ cholesky_below_lem s i j _ _ l m ∙ cholesky_below_same s i j _ _ (omega arith) (λ a c n q. earlier i j l m' a c q) _ _ l m refl
 
-  pub cholesky-of-textbook : CholeskyTextbook s A (cholesky_of s A)
+  pub cholesky_of_textbook : CholeskyTextbook s A (cholesky_of s A)
   unfolding cholesky_pivot cholesky_below rows_dot
-  cholesky-of-textbook = record { root = root-of; below = below_of }
+  cholesky_of_textbook = record { root = root_of_lem; below = below_of }
 
-  pub cholesky-of-keeps : KeptAbove s A (cholesky_of s A)
+  pub cholesky_of_keeps : KeptAbove s A (cholesky_of s A)
   unfolding cholesky_of
-  cholesky-of-keeps =
+  cholesky_of_keeps =
       record {
         above = λ i j m l. written i j (omega arith) l ∙ cholesky_above s i j m l _ _;
         past = λ t l. by_rest (cholesky_rule s) (s * s) A t l;
@@ -77,7 +77,7 @@ module _ (s : ℕ) (A : List Float) (h : s * s ≤ length A) where
 -- ---- what `cholesky` leaves
 pub cholesky_textbook : (s : ℕ) (A X : List Float) → s * s ≤ length A → CholeskyLeaves s A Done X → CholeskyTextbook s A X × KeptAbove s A X
 unfolding reach cholesky_of
-cholesky_textbook s A X h d = rw d.out (cholesky-of-textbook s A h, cholesky-of-keeps s A h)
+cholesky_textbook s A X h d = rw d.out (cholesky_of_textbook s A h, cholesky_of_keeps s A h)
 
 -- every pivot is above zero and finite
 pub cholesky_pivots : (s : ℕ) (A X : List Float) → CholeskyLeaves s A Done X → (i : ℕ) → i < s → positive (cholesky_pivot s i (λ k. X ! k) (at s A i i)) ≡ true
@@ -115,11 +115,11 @@ cholesky_fixes s A B F G ab f g i j l m = go (suc (i * s + j)) i j l m (omega ar
         (λ (e : j ≡ i). rw e
         (f.root i l ∙ ap sqrt_of (cholesky_pivot_same s i (λ k. F ! k) (λ k. G ! k) _ _ (λ a c p r. go n a c (inside s a c i i p l (omega arith) r) p (omega arith)) (ab i i l (omega arith))) ∙ sym (g.root i l)))
         (λ (p : j < i).
-        f.below i j l p ∙ cholesky-below-same s i j (λ k. F ! k) (λ k. G ! k) m (λ a c p' r. go n a c (inside s a c i j p' l m r) p' (omega arith)) _ _ l p (ab i j l m) ∙ sym (g.below i j l p))
+        f.below i j l p ∙ cholesky_below_same s i j (λ k. F ! k) (λ k. G ! k) m (λ a c p' r. go n a c (inside s a c i j p' l m r) p' (omega arith)) _ _ l p (ab i j l m) ∙ sym (g.below i j l p))
         (eq-or-lt_of_le m)
 
 pub cholesky_lower : (s : ℕ) (A B : List Float) → s * s ≤ length A → s * s ≤ length B → SameBelow s A B → SameBelow s (cholesky_of s A) (cholesky_of s B)
-cholesky_lower s A B h k ab = cholesky_fixes s A B (cholesky_of s A) (cholesky_of s B) ab (cholesky-of-textbook s A h) (cholesky-of-textbook s B k)
+cholesky_lower s A B h k ab = cholesky_fixes s A B (cholesky_of s A) (cholesky_of s B) ab (cholesky_of_textbook s A h) (cholesky_of_textbook s B k)
 
 pub cholesky_end_same : (s : ℕ) (A B F G : List Float) → SameBelow s A B → SameBelow s F G → cholesky_end s A F ≡ cholesky_end s B G
 unfolding cholesky_end cholesky_passes

@@ -29,19 +29,19 @@ module _ (h : List Float → List Float) (s n : ℕ) (b : List Float) (fits : n 
   unfolding each_column
   each_at a k l m = grid_in n s (column_at h s b) b fits a k l m
 
-  pub each-length : length (each_column h s n b) ≡ length b
+  pub each_length : length (each_column h s n b) ≡ length b
   unfolding each_column
-  each-length = length_grid n s (column_at h s b) b
+  each_length = length_grid n s (column_at h s b) b
 
-  each-past : (t : ℕ) → n * s ≤ t → each_column h s n b ! t ≡ b ! t
+  each_past : (t : ℕ) → n * s ≤ t → each_column h s n b ! t ≡ b ! t
   unfolding each_column
-  each-past t l = grid_past n s (column_at h s b) b t l
+  each_past t l = grid_past n s (column_at h s b) b t l
 
   each_row : ((c : List Float) → length (h c) ≡ length c) → (a : ℕ) → a < n → row (a * s) s (each_column h s n b) ≡ h (row (a * s) s b)
   unfolding column_at
   each_row keeps a l =
       let old : a * s + s ≤ length b = omega (arith, row_fits a n s l) in
-      let new : a * s + s ≤ length (each_column h s n b) = omega (arith, each-length) in
+      let new : a * s + s ≤ length (each_column h s n b) = omega (arith, each_length) in
       ext_get_or nan (row (a * s) s (each_column h s n b)) (h (row (a * s) s b)) (row_length (a * s) s (each_column h s n b) new ∙ sym (keeps (row (a * s) s b) ∙ row_length (a * s) s b old))
       (λ k m.
       let m' : k < s = omega (arith, row_length (a * s) s (each_column h s n b) new) in
@@ -73,7 +73,7 @@ unfolding each_column column_at
 each_then h k m s n b Y Z fits keeps same eY eZ = is
   where
     long : length Y ≡ length b
-    long = ap length eY ∙ each-length k s n b fits
+    long = ap length eY ∙ each_length k s n b fits
 
     room : n * s ≤ length Y
     room = omega (arith, long)
@@ -89,10 +89,10 @@ each_then h k m s n b Y Z fits keeps same eY eZ = is
 
     past : (t : ℕ) → n * s ≤ t → Z ! t ≡ b ! t
     past t l =
-        ap (λ (w : List Float). w ! t) eZ ∙ each-past h s n Y room t l ∙ ap (λ (w : List Float). w ! t) eY ∙ each-past k s n b fits t l
+        ap (λ (w : List Float). w ! t) eZ ∙ each_past h s n Y room t l ∙ ap (λ (w : List Float). w ! t) eY ∙ each_past k s n b fits t l
 
     is : Z ≡ each_column m s n b
-    is = grid_is n s (column_at m s b) b Z fits (ap length eZ ∙ each-length h s n Y room ∙ long) inside past
+    is = grid_is n s (column_at m s b) b Z fits (ap length eZ ∙ each_length h s n Y room ∙ long) inside past
 
 -- ---- one column more, lent as the part from o to e
 module _ (h : List Float → List Float) (s a : ℕ) (b X : List Float) (o e : ℕ) (eX : X ≡ each_column h s a b) (eo : o ≡ a * s) (ee : e ≡ o + s) (fits : e ≤ length X) where
@@ -107,8 +107,8 @@ module _ (h : List Float → List Float) (s a : ℕ) (b X : List Float) (o e : �
       let only : Only 0 (a * s) b X = rw eX (grid_wrote a s (column_at h s b) b (omega (arith, same_length))).only in
       part_is o s e X ee ∙ rw eo (only_row (a * s) s 0 (a * s) (inr (omega arith)) (omega (arith, same_length)) only)
 
-  pub part-entry : (k : ℕ) → k < s → mid_of o (e - o) X ! k ≡ at s b a k
-  part-entry k l = ap (λ (c : List Float). c ! k) part_before ∙ row_at (a * s) s b (omega (arith, same_length)) k l
+  pub part_entry : (k : ℕ) → k < s → mid_of o (e - o) X ! k ≡ at s b a k
+  part_entry k l = ap (λ (c : List Float). c ! k) part_before ∙ row_at (a * s) s b (omega (arith, same_length)) k l
 
   pub each_part : (ys : List Float) → length ys ≡ length (mid_of o (e - o) X) → ys ≡ h (mid_of o (e - o) X) → put_mid o (e - o) X ys ≡ each_column h s (a + 1) b
   unfolding each_column column_at
@@ -118,21 +118,21 @@ module _ (h : List Float → List Float) (s a : ℕ) (b X : List Float) (o e : �
 -- ---- one entry of each column by a rule
 module _ (g : Rule) (i s a : ℕ) (b X : List Float) (o e : ℕ) (eX : X ≡ each_column (ruled g i) s a b) (eo : o ≡ a * s) (ee : e ≡ o + s) (fits : e ≤ length X)
     (ys : List Float) (r : Bool) (made : Entered g i (mid_of o (e - o) X) r ys) where
-  pub entered-list : length ys ≡ length (mid_of o (e - o) X) → put_mid o (e - o) X ys ≡ each_column (ruled g i) s (a + 1) b
-  entered-list k = each_part (ruled g i) s a b X o e eX eo ee fits ys k made.list
+  pub entered_list : length ys ≡ length (mid_of o (e - o) X) → put_mid o (e - o) X ys ≡ each_column (ruled g i) s (a + 1) b
+  entered_list k = each_part (ruled g i) s a b X o e eX eo ee fits ys k made.list
 
-  pub entered-fine : (t u : Bool) → u ≡ (t && r) → t ≡ all_to a (λ c. finite (column_at (ruled g i) s b c i)) → u ≡ all_to (a + 1) (λ c. finite (column_at (ruled g i) s b c i))
+  pub entered_fine : (t u : Bool) → u ≡ (t && r) → t ≡ all_to a (λ c. finite (column_at (ruled g i) s b c i)) → u ≡ all_to (a + 1) (λ c. finite (column_at (ruled g i) s b c i))
   unfolding all_to column_at
-  entered-fine t u q so =
+  entered_fine t u q so =
       let last : r ≡ finite (ruled g i (row (a * s) s b) ! i) =
       made.fine ∙ ap (λ (c : List Float). finite (c ! i)) (made.list ∙ ap (ruled g i) (part_before (ruled g i) s a b X o e eX eo ee fits)) in
       rw (q, so, last, add-one) refl
 
 module _ (g : Rule) (i s n : ℕ) (b X : List Float) (r : Bool) (fits : n * s ≤ length b) (made : RowEntered g i s n b r X) where
   -- the other entries are as they were
-  entered-other : (a k : ℕ) → a < n → k < s → (k ≡ i → ⊥) → at s X a k ≡ at s b a k
+  entered_other : (a k : ℕ) → a < n → k < s → (k ≡ i → ⊥) → at s X a k ≡ at s b a k
   unfolding column_at ruled
-  entered-other a k l m apart =
+  entered_other a k l m apart =
       ap (λ (w : List Float). at s w a k) made.list ∙ each_at (ruled g i) s n b fits a k l m
       ∙ get_or-set_other (row (a * s) s b) i k _ nan apart ∙ row_at (a * s) s b (omega (arith, row_fits a n s l)) k m
 
@@ -146,13 +146,13 @@ module _ (g : Rule) (i s n : ℕ) (b X : List Float) (r : Bool) (fits : n * s �
   fine_up t u m q so v a k l w =
       let p : (true ≡ t) × (true ≡ r) = and_true t r (sym (sym q ∙ v)) in
       let w' : k < suc i = omega arith in
-      ⊎_elim (λ (y : k ≡ i). rw y (entered_here m p.1 a l)) (λ (y : k < i). ap finite (entered-other a k l (omega arith) (λ z. omega arith)) ∙ so (sym p.0) a k l y) (last_or_before w')
+      ⊎_elim (λ (y : k ≡ i). rw y (entered_here m p.1 a l)) (λ (y : k < i). ap finite (entered_other a k l (omega arith) (λ z. omega arith)) ∙ so (sym p.0) a k l y) (last_or_before w')
 
   -- the same behind it
-  pub fine-down : (t u : Bool) → i < s → u ≡ (t && r) → (t ≡ true → (a k : ℕ) → a < n → i < k → k < s → finite (at s b a k) ≡ true) → u ≡ true → (a k : ℕ) → a < n → i ≤ k → k < s → finite (at s X a k) ≡ true
-  fine-down t u m q so v a k l w y =
+  pub fine_down : (t u : Bool) → i < s → u ≡ (t && r) → (t ≡ true → (a k : ℕ) → a < n → i < k → k < s → finite (at s b a k) ≡ true) → u ≡ true → (a k : ℕ) → a < n → i ≤ k → k < s → finite (at s X a k) ≡ true
+  fine_down t u m q so v a k l w y =
       let p : (true ≡ t) × (true ≡ r) = and_true t r (sym (sym q ∙ v)) in
-      ⊎_elim (λ (z : i ≡ k). rw (← z) (entered_here m p.1 a l)) (λ (z : i < k). ap finite (entered-other a k l y (λ f. omega arith)) ∙ so (sym p.0) a k l z y) (eq-or-lt_of_le w)
+      ⊎_elim (λ (z : i ≡ k). rw (← z) (entered_here m p.1 a l)) (λ (z : i < k). ap finite (entered_other a k l y (λ f. omega arith)) ∙ so (sym p.0) a k l z y) (eq-or-lt_of_le w)
 
 -- ---- row after row
 pub each_up : (g : Rule) (i s n : ℕ) (b Y Z : List Float) → n * s ≤ length b → Y ≡ each_column (fill_by g i) s n b → Z ≡ each_column (ruled g i) s n Y → Z ≡ each_column (fill_by g (i + 1)) s n b

@@ -76,26 +76,26 @@ module _ (s i j head io : ℕ) (X : List Float) (t : Bool) (l : Float) (eo : io 
       (omega arith, grown (sym p.0) (eqb-true head j (sym r.0)) (sym r.1))
   by_case false e = (omega arith, kept)
 
-  pub next-made : (r : ℕ) → r ≡ next_head t head j l → (r ≤ j + 1) × ZeroHead t s i (set X (io + j) l) r
+  pub next_made : (r : ℕ) → r ≡ next_head t head j l → (r ≤ j + 1) × ZeroHead t s i (set X (io + j) l) r
   unfolding next_head
-  next-made r e = rw e (by_case (t && (eqb head j && eq l zero_f)) refl)
+  next_made r e = rw e (by_case (t && (eqb head j && eq l zero_f)) refl)
 
 module _ (t : Bool) (head j : ℕ) (l : Float) where
-  pub next-grown : t ≡ true → head ≡ j → eq l zero_f ≡ true → j + 1 ≡ next_head t head j l
+  pub next_grown : t ≡ true → head ≡ j → eq l zero_f ≡ true → j + 1 ≡ next_head t head j l
   unfolding next_head
-  next-grown p q r = rw (p, eq-eqb head j q, r) refl
+  next_grown p q r = rw (p, eq-eqb head j q, r) refl
 
-  pub next-other : eq l zero_f ≡ false → head ≡ next_head t head j l
+  pub next_other : eq l zero_f ≡ false → head ≡ next_head t head j l
   unfolding next_head
-  next-other r = rw (r, and_no (eqb head j), and_no t) refl
+  next_other r = rw (r, and_no (eqb head j), and_no t) refl
 
-  pub next-apart : (head ≡ j → ⊥) → head ≡ next_head t head j l
+  pub next_apart : (head ≡ j → ⊥) → head ≡ next_head t head j l
   unfolding next_head
-  next-apart q = rw (ne_eqb head j q, and_no t) refl
+  next_apart q = rw (ne_eqb head j q, and_no t) refl
 
-  pub next-barred : t ≡ false → head ≡ next_head t head j l
+  pub next_barred : t ≡ false → head ≡ next_head t head j l
   unfolding next_head
-  next-barred p = rw p refl
+  next_barred p = rw p refl
 
 -- ---- one row more that is finite
 all_cong : (n : ℕ) (t u : ℕ → Bool) → ((k : ℕ) → k < n → t k ≡ u k) → all_to n t ≡ all_to n u
@@ -103,9 +103,9 @@ unfolding all_to
 all_cong zero t u h = refl
 all_cong (suc n) t u h = rw (all_cong n t u (λ k l. h k (omega arith)), h n (omega arith)) refl
 
-pub fine_some : (s i o m : ℕ) (x : List Float) (t r : Bool) → o ≡ i * s → i + 1 ≤ m → not t ≡ false → r ≡ all_to (i + 1) (finite_at (take m (drop o x))) → r ≡ (t && all_to (i + 1) (λ k. finite (at s x i k)))
+pub fine_some : (s i o m : ℕ) (x : List Float) (t r : Bool) → o ≡ i * s → i + 1 ≤ m → t ≡ true → r ≡ all_to (i + 1) (finite_at (take m (drop o x))) → r ≡ (t && all_to (i + 1) (λ k. finite (at s x i k)))
 fine_some s i o m x t r eo l q e =
-    rw (not-false t q) (e ∙ all_cong (i + 1) (finite_at (take m (drop o x))) (λ k. finite (at s x i k)) (λ k h. ap finite (part_at o m k x (omega arith) ∙ ap (λ (p : ℕ). x ! (p + k)) eo)))
+    rw q (e ∙ all_cong (i + 1) (finite_at (take m (drop o x))) (λ k. finite (at s x i k)) (λ k h. ap finite (part_at o m k x (omega arith) ∙ ap (λ (p : ℕ). x ! (p + k)) eo)))
 
 pub fine_next : (s i io : ℕ) (X : List Float) (v : Float) (t r : Bool) → i < s → io ≡ i * s → r ≡ (t && all_to (i + 1) (λ k. finite (at s (set X (io + i) v) i k))) → (t ≡ true → FineRows s X i) → r ≡ true → FineRows s (set X (io + i) v) (i + 1)
 fine_next s i io X v t r l eo e fine q a k m n =

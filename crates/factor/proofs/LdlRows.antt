@@ -16,7 +16,7 @@ use Rattle.factor.specs.Triangle.{triangle, row_by, usable, first_bad, reach}
 use Rattle.factor.specs.Factor.{ldl_sum, ldl_pivot, ldl_below, ldl_rule, ldl_of, ldl_passes, ldl_end, LdlLeaves}
 use Rattle.factor.specs.declared.pivots.Factored.TheVariants.{Done, Bad}
 use Rattle.factor.proofs.PivotTests.{first_step, first_end, first_stop}
-use Rattle.factor.proofs.RowByRow.{triangle_below, triangle_on, triangle_above, row_step, row_reached, pivot-now, row_done}
+use Rattle.factor.proofs.RowByRow.{triangle_below, triangle_on, triangle_above, row_step, row_reached, pivot_now, row_done}
 
 -- ---- LDL'
 ldl_rule_at : (s : ℕ) (A : List Float) (i j : ℕ) (x : ℕ → Float) (o : Float) → j < s → ldl_rule s A (i * s + j) x o ≡ triangle i j (ldl_below s i j x (at s A i j)) (ldl_pivot s i x (at s A i j)) o
@@ -41,30 +41,30 @@ ldl_row_step s A i j b X l m e = rw (← ldl_below_lem s A i j (λ k. X ! k) (X 
 -- ---- from row i, which begins at io: P before it, X with its entries before the diagonal, r the test of its pivot
 module _ (s i io : ℕ) (A b P X : List Float) (sum : Float) (r : Bool) (l : i < s) (h : s * s ≤ length b) (eo : io ≡ i * s) (eP : P ≡ fill_by (ldl_rule s A) (i * s) b)
     (eX : X ≡ row_by (ldl_rule s A) (i * s) i P) (es : sum ≡ ldl_sum s (λ k. X ! k) i i) (er : r ≡ usable ((A ! (io + i)) ⊖ sum)) (so : Done ≡ first_bad i (ldl_passes s (ldl_of s A b))) where
-  ldl-now : (A ! (io + i)) ⊖ sum ≡ ldl_rule s A (i * s + i) (λ k. X ! k) (X ! (i * s + i))
+  ldl_now : (A ! (io + i)) ⊖ sum ≡ ldl_rule s A (i * s + i) (λ k. X ! k) (X ! (i * s + i))
   unfolding ldl_pivot
-  ldl-now = rw (eo, es) (sym (ldl_on s A i (λ k. X ! k) (X ! (i * s + i)) l))
+  ldl_now = rw (eo, es) (sym (ldl_on s A i (λ k. X ! k) (X ! (i * s + i)) l))
 
-  ldl-test : ldl_passes s (ldl_of s A b) i ≡ r
+  ldl_test : ldl_passes s (ldl_of s A b) i ≡ r
   unfolding ldl_passes ldl_of
-  ldl-test = ap usable (pivot-now (ldl_rule s A) s i b P X l eP eX h ∙ sym ldl-now) ∙ sym er
+  ldl_test = ap usable (pivot_now (ldl_rule s A) s i b P X l eP eX h ∙ sym ldl_now) ∙ sym er
 
   -- its pivot fails
-  pub ldl-stop : not r ≡ true → LdlLeaves s A b (Bad i) X
+  pub ldl_stop : r ≡ false → LdlLeaves s A b (Bad i) X
   unfolding ldl_end reach
-  ldl-stop e =
+  ldl_stop e =
       record {
-        end = first_stop (ldl_passes s (ldl_of s A b)) s i so (ldl-test ∙ not-true r e) l;
+        end = first_stop (ldl_passes s (ldl_of s A b)) s i so (ldl_test ∙ e) l;
         out = row_reached (ldl_rule s A) s i b P X l eP eX;
       }
 
   -- it passes, and is written
-  pub ldl-go : not r ≡ false
+  pub ldl_go : r ≡ true
       → (set X (io + i) ((A ! (io + i)) ⊖ sum) ≡ fill_by (ldl_rule s A) ((i + 1) * s) b) × (Done ≡ first_bad (i + 1) (ldl_passes s (ldl_of s A b)))
-  ldl-go e =
+  ldl_go e =
       let w : set X (i * s + i) ((A ! (io + i)) ⊖ sum) ≡ fill_by (ldl_rule s A) ((i + 1) * s) b =
-      row_done (ldl_rule s A) s i b P X l eP eX ((A ! (io + i)) ⊖ sum) (ldl_above s A i) ldl-now in
-      (rw eo (rw eo at w), first_step (ldl_passes s (ldl_of s A b)) i so (ldl-test ∙ not-false r e))
+      row_done (ldl_rule s A) s i b P X l eP eX ((A ! (io + i)) ⊖ sum) (ldl_above s A i) ldl_now in
+      (rw eo (rw eo at w), first_step (ldl_passes s (ldl_of s A b)) i so (ldl_test ∙ e))
 
 -- no row is left
 pub ldl_done : (s i : ℕ) (A b X : List Float) → i ≤ s → s ≤ i → X ≡ fill_by (ldl_rule s A) (i * s) b → Done ≡ first_bad i (ldl_passes s (ldl_of s A b)) → LdlLeaves s A b Done X

@@ -26,22 +26,22 @@ use Rattle.factor.proofs.LdlRows.{ldl_below_lem, ldl_on, ldl_above}
 
 -- ---- the rule looks at the lower triangle before its place only
 module _ (s i j : ℕ) (x y : ℕ → Float) (l : j ≤ i) (same : (a c : ℕ) → c ≤ a → a * s + c < i * s + j → cell s x a c ≡ cell s y a c) where
-  ldl-sum-same : ldl_sum s x i j ≡ ldl_sum s y i j
+  ldl_sum_same : ldl_sum s x i j ≡ ldl_sum s y i j
   unfolding ldl_sum ldl_term
-  ldl-sum-same =
+  ldl_sum_same =
       sum_cong j _ _
       (λ k m.
       let up : j * s ≤ i * s = mul-le-mul_right s l in
       let row : k * s ≤ j * s = mul-le-mul_right s (omega arith) in
       rw (same i k (omega arith) (omega arith), same j k (omega arith) (omega arith), same k k (omega arith) (omega arith)) refl)
 
-  ldl-below-same : (a b : Float) → i < s → j < i → a ≡ b → ldl_below s i j x a ≡ ldl_below s i j y b
+  ldl_below_same : (a b : Float) → i < s → j < i → a ≡ b → ldl_below s i j x a ≡ ldl_below s i j y b
   unfolding ldl_below
-  ldl-below-same a b n m e = rw (e, ldl-sum-same, same j j (omega arith) (omega (arith, row_fits j i s m))) refl
+  ldl_below_same a b n m e = rw (e, ldl_sum_same, same j j (omega arith) (omega (arith, row_fits j i s m))) refl
 
 ldl_pivot_same : (s i : ℕ) (x y : ℕ → Float) (a b : Float) → ((p c : ℕ) → c ≤ p → p * s + c < i * s + i → cell s x p c ≡ cell s y p c) → a ≡ b → ldl_pivot s i x a ≡ ldl_pivot s i y b
 unfolding ldl_pivot
-ldl_pivot_same s i x y a b same e = rw (e, ldl-sum-same s i i x y (omega arith) same) refl
+ldl_pivot_same s i x y a b same e = rw (e, ldl_sum_same s i i x y (omega arith) same) refl
 
 -- ---- the textbook's equations
 module _ (s : ℕ) (A b : List Float) (h : s * s ≤ length b) where
@@ -53,21 +53,21 @@ module _ (s : ℕ) (A b : List Float) (h : s * s ≤ length b) where
   unfolding ldl_of
   earlier i j l m a c q = sym (by_kept (ldl_rule s A) (i * s + j) (s * s) b (a * s + c) q (omega (arith, row_fits i s s l)))
 
-  pivot-of : (i : ℕ) → i < s → at s (ldl_of s A b) i i ≡ ldl_pivot s i (λ k. ldl_of s A b ! k) (at s A i i)
-  pivot-of i l = written i i l l ∙ ldl_on s A i _ _ l ∙ ldl_pivot_same s i _ _ _ _ (λ a c m q. earlier i i l l a c q) refl
+  pivot_of : (i : ℕ) → i < s → at s (ldl_of s A b) i i ≡ ldl_pivot s i (λ k. ldl_of s A b ! k) (at s A i i)
+  pivot_of i l = written i i l l ∙ ldl_on s A i _ _ l ∙ ldl_pivot_same s i _ _ _ _ (λ a c m q. earlier i i l l a c q) refl
 
   below_of : (i j : ℕ) → i < s → j < i → at s (ldl_of s A b) i j ≡ ldl_below s i j (λ k. ldl_of s A b ! k) (at s A i j)
   below_of i j l m =
       let m' : j < s = omega arith in
-      written i j l m' ∙ ldl_below_lem s A i j _ _ l m ∙ ldl-below-same s i j _ _ (omega arith) (λ a c n q. earlier i j l m' a c q) _ _ l m refl
+      written i j l m' ∙ ldl_below_lem s A i j _ _ l m ∙ ldl_below_same s i j _ _ (omega arith) (λ a c n q. earlier i j l m' a c q) _ _ l m refl
 
-  pub ldl-of-textbook : LdlTextbook s A (ldl_of s A b)
+  pub ldl_of_textbook : LdlTextbook s A (ldl_of s A b)
   unfolding ldl_pivot ldl_below ldl_sum ldl_term
-  ldl-of-textbook = record { pivot = pivot-of; below = below_of }
+  ldl_of_textbook = record { pivot = pivot_of; below = below_of }
 
-  pub ldl-of-keeps : KeptAbove s b (ldl_of s A b)
+  pub ldl_of_keeps : KeptAbove s b (ldl_of s A b)
   unfolding ldl_of
-  ldl-of-keeps =
+  ldl_of_keeps =
       record {
         above = λ i j m l. written i j (omega arith) l ∙ ldl_above s A i j m l _ _ ∙ by_rest (ldl_rule s A) (i * s + j) b (i * s + j) (omega arith);
         past = λ t l. by_rest (ldl_rule s A) (s * s) b t l;
@@ -76,7 +76,7 @@ module _ (s : ℕ) (A b : List Float) (h : s * s ≤ length b) where
 -- ---- what `ldl` leaves
 pub ldl_textbook : (s : ℕ) (A b X : List Float) → s * s ≤ length b → LdlLeaves s A b Done X → LdlTextbook s A X × KeptAbove s b X
 unfolding reach ldl_of
-ldl_textbook s A b X h d = rw d.out (ldl-of-textbook s A b h, ldl-of-keeps s A b h)
+ldl_textbook s A b X h d = rw d.out (ldl_of_textbook s A b h, ldl_of_keeps s A b h)
 
 -- every pivot can be divided by
 pub ldl_pivots : (s : ℕ) (A b X : List Float) → LdlLeaves s A b Done X → (i : ℕ) → i < s → usable (at s X i i) ≡ true
@@ -114,12 +114,12 @@ ldl_fixes s A B F G ab f g i j l m = go (suc (i * s + j)) i j l m (omega arith)
         (λ (e : j ≡ i). rw e
         (f.pivot i l ∙ ldl_pivot_same s i (λ k. F ! k) (λ k. G ! k) _ _ (λ a c p r. go n a c (inside s a c i i p l (omega arith) r) p (omega arith)) (ab i i l (omega arith)) ∙ sym (g.pivot i l)))
         (λ (p : j < i).
-        f.below i j l p ∙ ldl-below-same s i j (λ k. F ! k) (λ k. G ! k) m (λ a c p' r. go n a c (inside s a c i j p' l m r) p' (omega arith)) _ _ l p (ab i j l m) ∙ sym (g.below i j l p))
+        f.below i j l p ∙ ldl_below_same s i j (λ k. F ! k) (λ k. G ! k) m (λ a c p' r. go n a c (inside s a c i j p' l m r) p' (omega arith)) _ _ l p (ab i j l m) ∙ sym (g.below i j l p))
         (eq-or-lt_of_le m)
 
 -- so neither what the buffer held nor what stands above A's diagonal has a part in it
 pub ldl_lower : (s : ℕ) (A B b c : List Float) → s * s ≤ length b → s * s ≤ length c → SameBelow s A B → SameBelow s (ldl_of s A b) (ldl_of s B c)
-ldl_lower s A B b c h k ab = ldl_fixes s A B (ldl_of s A b) (ldl_of s B c) ab (ldl-of-textbook s A b h) (ldl-of-textbook s B c k)
+ldl_lower s A B b c h k ab = ldl_fixes s A B (ldl_of s A b) (ldl_of s B c) ab (ldl_of_textbook s A b h) (ldl_of_textbook s B c k)
 
 -- nor in the end
 pub ldl_end_same : (s : ℕ) (F G : List Float) → SameBelow s F G → ldl_end s F ≡ ldl_end s G

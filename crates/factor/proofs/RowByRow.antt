@@ -98,8 +98,8 @@ module _ (g : Rule) (s i : ℕ) (b P X : List Float) (l : i < s) (eP : P ≡ fil
   row_reached = eX ∙ ap (row_by g (i * s) i) eP ∙ row_on g (i * s) i b
 
   -- the pivot that the whole run writes is the rule's value now
-  pub pivot-now : s * s ≤ length b → fill_by g (s * s) b ! (i * s + i) ≡ g (i * s + i) (λ k. X ! k) (X ! (i * s + i))
-  pivot-now h = rw row_reached (by_entry g (s * s) b (i * s + i) (omega (arith, row_fits i s s l)) h)
+  pub pivot_now : s * s ≤ length b → fill_by g (s * s) b ! (i * s + i) ≡ g (i * s + i) (λ k. X ! k) (X ! (i * s + i))
+  pivot_now h = rw row_reached (by_entry g (s * s) b (i * s + i) (omega (arith, row_fits i s s l)) h)
 
   -- its entries before the diagonal stay
   pub row_stays : (j : ℕ) → j < i → fill_by g (s * s) b ! (i * s + j) ≡ X ! (i * s + j)

@@ -45,25 +45,25 @@ all_down g s b ca h =
     rw z at f
 
 module _ (s : ℕ) (L b : List Float) (h : s ≤ length b) where
-  pub unit-forward-solves : SolvesUnit s L b (unit_forward s L b)
+  pub unit_forward_solves : SolvesUnit s L b (unit_forward s L b)
   unfolding unit_forward unit_forward_rule across_term
-  unit-forward-solves = let f : Follows (unit_forward_rule s L) s b (unit_forward s L b) = by_follows (unit_forward_rule s L) s b (unit_forward_causal s L) h in record { each = f.done; rest = f.rest }
+  unit_forward_solves = let f : Follows (unit_forward_rule s L) s b (unit_forward s L b) = by_follows (unit_forward_rule s L) s b (unit_forward_causal s L) h in record { each = f.done; rest = f.rest }
 
-  pub forward-solves : Solves s L b (forward s L b)
+  pub forward_solves : Solves s L b (forward s L b)
   unfolding forward forward_rule unit_forward_rule across_term
-  forward-solves = let f : Follows (forward_rule s L) s b (forward s L b) = by_follows (forward_rule s L) s b (forward_causal s L) h in record { each = f.done; rest = f.rest }
+  forward_solves = let f : Follows (forward_rule s L) s b (forward s L b) = by_follows (forward_rule s L) s b (forward_causal s L) h in record { each = f.done; rest = f.rest }
 
-  pub over-d-divides : Divides s L b (over_d s L b)
+  pub over_d_divides : Divides s L b (over_d s L b)
   unfolding over_d over_drule
-  over-d-divides = let f : Follows (over_drule s L) s b (over_d s L b) = by_follows (over_drule s L) s b (over_d_causal s L) h in record { each = f.done; rest = f.rest }
+  over_d_divides = let f : Follows (over_drule s L) s b (over_d s L b) = by_follows (over_drule s L) s b (over_d_causal s L) h in record { each = f.done; rest = f.rest }
 
-  pub unit-backward-solves : SolvesUnitBack s L b (unit_backward s L b)
+  pub unit_backward_solves : SolvesUnitBack s L b (unit_backward s L b)
   unfolding unit_backward unit_backward_rule down_term
-  unit-backward-solves = let f : FollowsDown (unit_backward_rule s L) s 0 b (unit_backward s L b) = all_down (unit_backward_rule s L) s b (unit_backward_causal s L) h in record { each = λ i l. f.done i (omega arith) l; rest = f.after }
+  unit_backward_solves = let f : FollowsDown (unit_backward_rule s L) s 0 b (unit_backward s L b) = all_down (unit_backward_rule s L) s b (unit_backward_causal s L) h in record { each = λ i l. f.done i (omega arith) l; rest = f.after }
 
-  pub backward-solves : SolvesBack s L b (backward s L b)
+  pub backward_solves : SolvesBack s L b (backward s L b)
   unfolding backward backward_rule unit_backward_rule down_term
-  backward-solves = let f : FollowsDown (backward_rule s L) s 0 b (backward s L b) = all_down (backward_rule s L) s b (backward_causal s L) h in record { each = λ i l. f.done i (omega arith) l; rest = f.after }
+  backward_solves = let f : FollowsDown (backward_rule s L) s 0 b (backward s L b) = all_down (backward_rule s L) s b (backward_causal s L) h in record { each = λ i l. f.done i (omega arith) l; rest = f.after }
 
 -- ---- rules that agree fill alike
 by_cong : (g k : Rule) (n : ℕ) (b : List Float) → ((t : ℕ) → t < n → (x : ℕ → Float) (o : Float) → g t x o ≡ k t x o) → fill_by g n b ≡ fill_by k n b
@@ -79,38 +79,38 @@ down_cong g k n (suc c) b l h =
 
 -- ---- the solutions for two factors with the same lower triangle
 module _ (s : ℕ) (F G : List Float) (same : SameBelow s F G) where
-  unit-forward-rule-same : (t : ℕ) → t < s → (x : ℕ → Float) (o : Float) → unit_forward_rule s F t x o ≡ unit_forward_rule s G t x o
+  unit_forward_rule_same : (t : ℕ) → t < s → (x : ℕ → Float) (o : Float) → unit_forward_rule s F t x o ≡ unit_forward_rule s G t x o
   unfolding unit_forward_rule across_term
-  unit-forward-rule-same t l x o = ap (λ (z : Float). o ⊖ z) (sum_cong t _ _ (λ k m. rw (same t k l (omega arith)) refl))
+  unit_forward_rule_same t l x o = ap (λ (z : Float). o ⊖ z) (sum_cong t _ _ (λ k m. rw (same t k l (omega arith)) refl))
 
-  unit-backward-rule-same : (t : ℕ) → t < s → (x : ℕ → Float) (o : Float) → unit_backward_rule s F t x o ≡ unit_backward_rule s G t x o
+  unit_backward_rule_same : (t : ℕ) → t < s → (x : ℕ → Float) (o : Float) → unit_backward_rule s F t x o ≡ unit_backward_rule s G t x o
   unfolding unit_backward_rule down_term
-  unit-backward-rule-same t l x o = ap (λ (z : Float). o ⊖ z) (from_cong (t + 1) s _ _ (λ k m n. rw (same k t n (omega arith)) refl))
+  unit_backward_rule_same t l x o = ap (λ (z : Float). o ⊖ z) (from_cong (t + 1) s _ _ (λ k m n. rw (same k t n (omega arith)) refl))
 
-  pub forward-same : (b : List Float) → forward s F b ≡ forward s G b
+  pub forward_same : (b : List Float) → forward s F b ≡ forward s G b
   unfolding forward forward_rule
-  forward-same b = by_cong (forward_rule s F) (forward_rule s G) s b (λ t l x o. rw (unit-forward-rule-same t l x o, same t t l (omega arith)) refl)
+  forward_same b = by_cong (forward_rule s F) (forward_rule s G) s b (λ t l x o. rw (unit_forward_rule_same t l x o, same t t l (omega arith)) refl)
 
-  pub backward-same : (b : List Float) → backward s F b ≡ backward s G b
+  pub backward_same : (b : List Float) → backward s F b ≡ backward s G b
   unfolding backward backward_rule
-  backward-same b = down_cong (backward_rule s F) (backward_rule s G) s s b (omega arith) (λ t l x o. rw (unit-backward-rule-same t l x o, same t t l (omega arith)) refl)
+  backward_same b = down_cong (backward_rule s F) (backward_rule s G) s s b (omega arith) (λ t l x o. rw (unit_backward_rule_same t l x o, same t t l (omega arith)) refl)
 
-  pub ldl-solve-same : (b : List Float) → ldl_solve s F b ≡ ldl_solve s G b
+  pub ldl_solve_same : (b : List Float) → ldl_solve s F b ≡ ldl_solve s G b
   unfolding ldl_solve unit_forward over_d unit_backward over_drule
-  ldl-solve-same b =
-      down_cong (unit_backward_rule s F) (unit_backward_rule s G) s s _ (omega arith) unit-backward-rule-same
+  ldl_solve_same b =
+      down_cong (unit_backward_rule s F) (unit_backward_rule s G) s s _ (omega arith) unit_backward_rule_same
       ∙ ap (fill_down (unit_backward_rule s G) s s)
       (by_cong (over_drule s F) (over_drule s G) s _ (λ t l x o. rw (same t t l (omega arith)) refl)
-      ∙ ap (fill_by (over_drule s G) s) (by_cong (unit_forward_rule s F) (unit_forward_rule s G) s b unit-forward-rule-same))
+      ∙ ap (fill_by (over_drule s G) s) (by_cong (unit_forward_rule s F) (unit_forward_rule s G) s b unit_forward_rule_same))
 
-  pub cholesky-solve-same : (b : List Float) → cholesky_solve s F b ≡ cholesky_solve s G b
+  pub cholesky_solve_same : (b : List Float) → cholesky_solve s F b ≡ cholesky_solve s G b
   unfolding cholesky_solve
-  cholesky-solve-same b = rw (forward-same b) (backward-same (forward s G b))
+  cholesky_solve_same b = rw (forward_same b) (backward_same (forward s G b))
 
-  pub ldl-inverse-same : (i c : ℕ) → ldl_inverse_at s F i c ≡ ldl_inverse_at s G i c
+  pub ldl_inverse_same : (i c : ℕ) → ldl_inverse_at s F i c ≡ ldl_inverse_at s G i c
   unfolding ldl_inverse_at ldl_column
-  ldl-inverse-same i c = ap (λ (w : List Float). w ! i) (ldl-solve-same _)
+  ldl_inverse_same i c = ap (λ (w : List Float). w ! i) (ldl_solve_same _)
 
-  pub cholesky-inverse-same : (c i : ℕ) → cholesky_column_at s F c i ≡ cholesky_column_at s G c i
+  pub cholesky_inverse_same : (c i : ℕ) → cholesky_column_at s F c i ≡ cholesky_column_at s G c i
   unfolding cholesky_column_at cholesky_column
-  cholesky-inverse-same c i = ap (λ (w : List Float). w ! i) (forward-same _)
+  cholesky_inverse_same c i = ap (λ (w : List Float). w ! i) (forward_same _)

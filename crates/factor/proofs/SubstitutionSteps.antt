@@ -12,22 +12,22 @@ use Rattle.factor.specs.Substitution.{across_term, down_term, unit_forward_rule,
 use Rattle.factor.specs.Heads.{Zeros}
 
 module _ (s : ℕ) (L : List Float) (i o : ℕ) (b X : List Float) (eo : o ≡ i * s) where
-  pub unit-forward-step : X ≡ fill_by (unit_forward_rule s L) i b → set X i ((X ! i) ⊖ sum_to i (product_from L o X)) ≡ fill_by (unit_forward_rule s L) (i + 1) b
+  pub unit_forward_step : X ≡ fill_by (unit_forward_rule s L) i b → set X i ((X ! i) ⊖ sum_to i (product_from L o X)) ≡ fill_by (unit_forward_rule s L) (i + 1) b
   unfolding unit_forward_rule across_term
-  unit-forward-step e = rw eo (by_step (unit_forward_rule s L) i b X e)
+  unit_forward_step e = rw eo (by_step (unit_forward_rule s L) i b X e)
 
-  pub forward-step : X ≡ fill_by (forward_rule s L) i b → set X i (((X ! i) ⊖ sum_to i (product_from L o X)) ⊘ (L ! (o + i))) ≡ fill_by (forward_rule s L) (i + 1) b
+  pub forward_step : X ≡ fill_by (forward_rule s L) i b → set X i (((X ! i) ⊖ sum_to i (product_from L o X)) ⊘ (L ! (o + i))) ≡ fill_by (forward_rule s L) (i + 1) b
   unfolding forward_rule unit_forward_rule across_term
-  forward-step e = rw eo (by_step (forward_rule s L) i b X e)
+  forward_step e = rw eo (by_step (forward_rule s L) i b X e)
 
-  pub over-d-step : X ≡ fill_by (over_drule s L) i b → set X i ((X ! i) ⊘ (L ! (o + i))) ≡ fill_by (over_drule s L) (i + 1) b
+  pub over_d_step : X ≡ fill_by (over_drule s L) i b → set X i ((X ! i) ⊘ (L ! (o + i))) ≡ fill_by (over_drule s L) (i + 1) b
   unfolding over_drule
-  over-d-step e = rw eo (by_step (over_drule s L) i b X e)
+  over_d_step e = rw eo (by_step (over_drule s L) i b X e)
 
-  pub backward-step : (j : ℕ) → j ≡ i + 1 → i < s → X ≡ fill_down (backward_rule s L) s (s - j) b
+  pub backward_step : (j : ℕ) → j ≡ i + 1 → i < s → X ≡ fill_down (backward_rule s L) s (s - j) b
       → set X i (((X ! i) ⊖ sum_from (i + 1) s (down_term s L i (λ k. X ! k))) ⊘ (L ! (o + i))) ≡ fill_down (backward_rule s L) s (s - i) b
   unfolding backward_rule unit_backward_rule
-  backward-step j q l e = rw eo (down_step (backward_rule s L) s i b X l (rw q at e))
+  backward_step j q l e = rw eo (down_step (backward_rule s L) s i b X l (rw q at e))
 
 pub unit_backward_step : (s : ℕ) (L : List Float) (i : ℕ) (b X : List Float) (j : ℕ) → j ≡ i + 1 → i < s → X ≡ fill_down (unit_backward_rule s L) s (s - j) b
     → set X i ((X ! i) ⊖ sum_from (i + 1) s (down_term s L i (λ k. X ! k))) ≡ fill_down (unit_backward_rule s L) s (s - i) b
@@ -36,13 +36,13 @@ unit_backward_step s L i b X j q l e = down_step (unit_backward_rule s L) s i b 
 
 -- ---- one entry by itself
 module _ (s : ℕ) (L : List Float) (i o : ℕ) (X : List Float) (eo : o ≡ i * s) where
-  pub across-products : (r : ℕ) → Zeros 0 r (across_term s L i (λ k. X ! k)) → Zeros 0 r (product_from L o X)
+  pub across_products : (r : ℕ) → Zeros 0 r (across_term s L i (λ k. X ! k)) → Zeros 0 r (product_from L o X)
   unfolding across_term
-  across-products r h = rw eo h
+  across_products r h = rw eo h
 
-  pub unit-forward-entry : set X i ((X ! i) ⊖ sum_to i (product_from L o X)) ≡ ruled (unit_forward_rule s L) i X
+  pub unit_forward_entry : set X i ((X ! i) ⊖ sum_to i (product_from L o X)) ≡ ruled (unit_forward_rule s L) i X
   unfolding ruled unit_forward_rule across_term
-  unit-forward-entry = rw eo refl
+  unit_forward_entry = rw eo refl
 
 pub unit_backward_entry : (s : ℕ) (L : List Float) (i : ℕ) (X : List Float) → set X i ((X ! i) ⊖ sum_from (i + 1) s (down_term s L i (λ k. X ! k))) ≡ ruled (unit_backward_rule s L) i X
 unfolding ruled unit_backward_rule

@@ -3,7 +3,7 @@ use mathlib.Core.Path.{◌≡◌, refl, ap}
 use mathlib.Core.Bool.{true, false}
 use lib.Ieee.{Float, nan, inf, neg, add, sub, div, lt, eq, le, is_nan, of_bits}
 use Rattle.base.specs.Number.{◌⊖◌, one_f, eps_f, clamp_f}
-use Rattle.base.proofs.NumberFacts.{clamp-from, clamp-to}
+use Rattle.base.proofs.NumberFacts.{clamp_from, clamp_to}
 use Rattle.elementary.specs.Exp.{exp_of}
 use Rattle.elementary.specs.Expm1.{expm1_of}
 use Rattle.elementary.proofs.ExpFacts.{exp_nan, exp_inf, exp_minus_inf, exp_nan_only}
@@ -23,7 +23,7 @@ pub record InsideE (p : Float) : Type 0 where
 pub clamped_inside : (p : Float) → is_nan p ≡ false → InsideE (clamp_e p)
 unfolding clamp_e is_nan le lt eq sub add neg of_bits
 clamped_inside p h =
-    record { from = clamp-from eps_f (one_f ⊖ eps_f) p refl refl h refl; to = clamp-to eps_f (one_f ⊖ eps_f) p refl refl h refl }
+    record { from = clamp_from eps_f (one_f ⊖ eps_f) p refl refl h refl; to = clamp_to eps_f (one_f ⊖ eps_f) p refl refl h refl }
 
 exp_number : (x : Float) → is_nan x ≡ false → is_nan (exp_of x) ≡ false
 exp_number x h = number_of exp_of exp_nan_only x h

@@ -10,14 +10,14 @@ use Rattle.intake.specs.declared.Input.TheVariants.{Held, TooLong, Failed}
 use Rattle.intake.specs.declared.Step.{Step}
 use Rattle.intake.specs.declared.Step.TheVariants.{More, Ended}
 use Rattle.intake.specs.Intake.{after_read}
-use Rattle.intake.proofs.Steps.{more_within, held-is}
+use Rattle.intake.proofs.Steps.{more_within, held_is}
 use Rattle.fitmany.specs.Held.{held_of}
 
 -- what is held when reading ends is what was there
 pub ended_within : (room held : ℕ) (got : ℤ) (s : Step) (input : Input) → s ≡ after_read room held got → s ≡ Ended input → held ≤ room → held_of input ≤ room
 ended_within room held got s Failed d e l = omega arith
 ended_within room held got s TooLong d e l = omega arith
-ended_within room held got s (Held n) d e l = let same : n ≡ held = held-is room held n got (sym d ∙ e) in omega arith
+ended_within room held got s (Held n) d e l = let same : n ≡ held = held_is room held n got (sym d ∙ e) in omega arith
 
 -- bytes that move on are more than there were, and within the space
 pub more_of : (room held n : ℕ) (got : ℤ) (s : Step) → s ≡ after_read room held got → s ≡ More n → (held < n) × (n ≤ room)

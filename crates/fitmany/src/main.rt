@@ -1,4 +1,4 @@
-// The program: one job and its responses from standard input, the answer to each on standard output. What is printed of the bytes is `manytext`'s contract and its law `printed-is`.
+// The program: one job and its responses from standard input, the answer to each on standard output. What is printed of the bytes is `manytext`'s contract and its law `printed_is`.
 #![tactic(auto)]
 
 ghost use Rattle.std.specs.Prelude.{◌≤◌, length};

@@ -26,8 +26,8 @@ optional n l o = ⊎_elim (λ (a : length l ≡ 0). inl a) (λ (a : length l ≡
 
 module _ (t : Settings) (s : Shape) (theta y weights offset x : List Float) (starts columns : List ℕ) (values : List Float) (L : LentLengths) (f : CarriedFamily) (l : CarriedLink)
     (e : table_of 1 t s (inputs theta y weights offset x starts columns values) L ≡ Accepted f l) where
-  pub accepted-asked : (r m w : List Float) → length r ≡ L.rows → length m ≡ L.matrices → length w ≡ L.terms → Asked t.n t.p t.rows s theta starts columns values offset x y r m w
-  accepted-asked r m w er em ew =
+  pub accepted_asked : (r m w : List Float) → length r ≡ L.rows → length m ≡ L.matrices → length w ≡ L.terms → Asked t.n t.p t.rows s theta starts columns values offset x y r m w
+  accepted_asked r m w er em ew =
       let a = accepted_sound 1 t s (inputs theta y weights offset x starts columns values) L f l e in
       record {
         ready = record { good = a.sized.shape; effects = sym a.sized.effects; numbers = omega (arith, a.inputs_fit.theta); rows = a.rows };
@@ -37,5 +37,5 @@ module _ (t : Settings) (s : Shape) (theta y weights offset x : List Float) (sta
         y_long = omega (arith, a.inputs_fit.y);
       }
 
-  pub accepted-limit : limit_of t.limit t.link ≤ 1000
-  accepted-limit = limit_few t.limit t.link (accepted_sound 1 t s (inputs theta y weights offset x starts columns values) L f l e).sized.limit
+  pub accepted_limit : limit_of t.limit t.link ≤ 1000
+  accepted_limit = limit_few t.limit t.link (accepted_sound 1 t s (inputs theta y weights offset x starts columns values) L f l e).sized.limit

@@ -21,7 +21,7 @@ use Rattle.table.specs.declared.verdicts.Verdict.TheVariants.{Accepted, Refused}
 use Rattle.table.proofs.Accepting.{accepted_sound}
 use Rattle.call.specs.Fit.{fit_of}
 use Rattle.call.specs.Call.{Lent, lent, lengths_of, left, call_given, call_means, fit_left, call_by, call_of}
-use Rattle.glmm.proofs.Asking.{accepted-asked, accepted-limit}
+use Rattle.glmm.proofs.Asking.{accepted_asked, accepted_limit}
 
 module _ (t : Settings) (s : Shape) (theta y weights offset x : List Float) (starts columns : List ℕ) (values beta se z u b mu eta residual v r m w : List Float) where
   abbrev I : Inputs
@@ -37,10 +37,10 @@ module _ (t : Settings) (s : Shape) (theta y weights offset x : List Float) (sta
 
     pub call_asked : Asked t.n t.p t.rows s theta starts columns values offset x y r m w
     unfolding lengths_of
-    call_asked = accepted-asked t s theta y weights offset x starts columns values (lengths_of L) f l table r m w refl refl refl
+    call_asked = accepted_asked t s theta y weights offset x starts columns values (lengths_of L) f l table r m w refl refl refl
 
     pub call_limit : (k : ℕ) → k ≡ limit_of t.limit t.link → k ≤ 1000
-    call_limit k e = rw e (accepted-limit t s theta y weights offset x starts columns values (lengths_of L) f l table)
+    call_limit k e = rw e (accepted_limit t s theta y weights offset x starts columns values (lengths_of L) f l table)
 
     pub call_writable : Writable t.n t.p t.rows beta se z u b mu eta residual v
     unfolding lengths_of
@@ -65,8 +65,8 @@ module _ (t : Settings) (s : Shape) (theta y weights offset x : List Float) (sta
     call_fitted k answer L' ek e = rw table (rw ek at e)
 
   -- ---- a refusal
-  pub call-refused : (verdict : Verdict) (refusal : Refusal) (answer : Answer) → verdict ≡ table_of 1 t s I (lengths_of L) → verdict ≡ Refused refusal → answer ≡ refused_answer refusal → left answer L ≡ call_of t s I L
+  pub call_refused : (verdict : Verdict) (refusal : Refusal) (answer : Answer) → verdict ≡ table_of 1 t s I (lengths_of L) → verdict ≡ Refused refusal → answer ≡ refused_answer refusal → left answer L ≡ call_of t s I L
   unfolding call_of call_by
-  call-refused verdict refusal answer told given e =
+  call_refused verdict refusal answer told given e =
       let table : table_of 1 t s I (lengths_of L) ≡ Refused refusal = sym told ∙ given in
       rw (table, e) refl

@@ -24,5 +24,5 @@ module _ {n p q : ℕ} {shape : Shape} {theta : List Float} {starts columns : Li
         matrices_long = rw em a.lent.matrices_long;
       }
 
-  pub to-wipe : {i j k : ℕ} → i ≡ length r → j ≡ length m → k ≡ length t → ((n ≤ 512) × (p ≤ 16) × (q ≤ 32)) × ((rows_length n ≤ i) × (matrices_length p q ≤ j) × (terms_length ≤ k))
-  to-wipe er em et = ((a.lent.sizes.n_few, a.lent.sizes.p_few, a.lent.sizes.q_few), (rw er a.lent.rows_long, rw em a.lent.matrices_long, rw et a.lent.terms_long))
+  pub to_wipe : {i j k : ℕ} → i ≡ length r → j ≡ length m → k ≡ length t → ((n ≤ 512) × (p ≤ 16) × (q ≤ 32)) × ((rows_length n ≤ i) × (matrices_length p q ≤ j) × (terms_length ≤ k))
+  to_wipe er em et = ((a.lent.sizes.n_few, a.lent.sizes.p_few, a.lent.sizes.q_few), (rw er a.lent.rows_long, rw em a.lent.matrices_long, rw et a.lent.terms_long))

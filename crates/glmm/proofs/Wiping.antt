@@ -43,10 +43,10 @@ results_by_lem G r m f N N' (result d) h w = rw (h.0, h.1.inverse, h.1.beta, h.1
 
 -- ---- the call
 module _ (G : Given) (T : Total (Dispersed Fitted)) (q : ℕ) (eq : q ≡ q_of G.design) (r r' r'' m m' m'' t t' t'' : List Float) (N N' : Results) (f : Fit) where
-  pub call-left : WorkRoom (n_of G) G.design.p q r m t → FitLeft G T r r' m m' t t' f → N' ≡ cond f.fitted (standing G q f.in_second r' m') N → Wiped (n_of G) G.design.p q r' r'' m' m'' t' t''
+  pub call_left : WorkRoom (n_of G) G.design.p q r m t → FitLeft G T r r' m m' t t' f → N' ≡ cond f.fitted (standing G q f.in_second r' m') N → Wiped (n_of G) G.design.p q r' r'' m' m'' t' t''
       → left f.answer (record { results = N'; rows = r''; matrices = m''; terms = t'' }) ≡ fit_left (n_of G) G.design.p q G T (record { results = N; rows = r; matrices = m; terms = t })
   unfolding fit_left
-  call-left l h e w =
+  call_left l h e w =
       let n = results_by_lem G r' m' f N N' T.outcome h.told (rw eq at e) in
       let a = w.rows ∙ wiped_over (rows_length (n_of G)) r r' l.rows_long h.rows_only in
       let b = w.matrices ∙ wiped_over (matrices_length G.design.p q) m m' l.matrices_long (rw eq h.matrices_only) in

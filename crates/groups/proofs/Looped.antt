@@ -39,14 +39,14 @@ power_one x = pow-suc x 0 ∙ rw (pow-zero x) (one-mul x)
 
 -- ---- one group, by whether it has one effect
 module _ (G : List Float → Given) (phi : Float) (o : Order) (n p q k g : ℕ) (r r' m m' t t' : List Float) (a : GroupSum) where
-  pub group-one : k ≡ 1 → GroupLeft G (one_rule phi o g) n p q (size_of o) r r' m m' t t' a → GroupLeft G (group_rule phi o k g) n p q (size_of o ^ k) r r' m m' t t' a
+  pub group_one : k ≡ 1 → GroupLeft G (one_rule phi o g) n p q (size_of o) r r' m m' t t' a → GroupLeft G (group_rule phi o k g) n p q (size_of o ^ k) r r' m m' t t' a
   unfolding group_by
-  group-one e l =
+  group_one e l =
       record { told = λ x M st rest. rw (eq-eqb k 1 e) (l.told x M st rest); few = rw (e, power_one (size_of o)) l.few; frame = l.frame }
 
-  pub group-several : (s : ℕ) → (k ≡ 1 → ⊥) → s ≡ g * k → GroupLeft G (several_rule phi o s k) n p q (size_of o ^ k) r r' m m' t t' a → GroupLeft G (group_rule phi o k g) n p q (size_of o ^ k) r r' m m' t t' a
+  pub group_several : (s : ℕ) → (k ≡ 1 → ⊥) → s ≡ g * k → GroupLeft G (several_rule phi o s k) n p q (size_of o ^ k) r r' m m' t t' a → GroupLeft G (group_rule phi o k g) n p q (size_of o ^ k) r r' m m' t t' a
   unfolding group_by
-  group-several s e es l = record { told = λ x M st rest. rw (ne_eqb k 1 e, ← es) (l.told x M st rest); few = l.few; frame = l.frame }
+  group_several s e es l = record { told = λ x M st rest. rw (ne_eqb k 1 e, ← es) (l.told x M st rest); few = l.few; frame = l.frame }
 
 pub lone_within : (q k g : ℕ) → k ≡ 1 → g * k + k ≤ q → g < q
 lone_within q k g e h = let w : g * 1 + 1 ≤ q = rw e at h in omega arith

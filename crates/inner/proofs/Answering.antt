@@ -52,8 +52,8 @@ two_within b n c k N h h' p =
 
 -- the slices after an inner fit have room still
 module _ {n p q a b d : ℕ} {shape : Shape} {theta : List Float} {starts columns : List ℕ} {values offset x y r m t r' m' t' : List Float} (k : Asked n p q shape theta starts columns values offset x y r m t) where
-  pub lent-after : Only 0 a r r' → Only 0 b m m' → Only 0 d t t' → WorkRoom n p (effects_of shape) r' m' t'
-  lent-after er em et =
+  pub lent_after : Only 0 a r r' → Only 0 b m m' → Only 0 d t t' → WorkRoom n p (effects_of shape) r' m' t'
+  lent_after er em et =
       let l : WorkRoom n p q r' m' t' = lent_kept k.lent er.len em.len et.len in
       rw k.ready.effects at l
 
@@ -84,22 +84,22 @@ module _ (G : Given) (wish : ℕ) (phi : Float) (L : ℕ) (mu r r1 m m1 t t1 : L
       }
 
   -- ---- without a mode
-  run-failed : (o : Ending) (e : End) → EndingTold o G r1 m1 fit → fit.end ≡ Failed e → o ≡ failed e
-  run-failed (failed e') e h d =
+  run_failed : (o : Ending) (e : End) → EndingTold o G r1 m1 fit → fit.end ≡ Failed e → o ≡ failed e
+  run_failed (failed e') e h d =
       let i : Failed e' ≡ Failed e = sym (ap (λ (f : InnerFit). f.end) h) ∙ d in
       let j : e' ≡ e = cc in
       ap failed j
-  run-failed (stopped k) e h d =
+  run_failed (stopped k) e h d =
       let i : Stopped ≡ Failed e = sym h.end ∙ d in
       absurd (let z : ◌≡◌ {A = ℕ} 0 1 = cc in omega arith)
 
-  failed-is : (e : End) → (run_of G phi L mu).ending ≡ failed e → inner_of G wish phi L mu ≡ record { ending = without_mode e; items = (run_of G phi L mu).items }
+  failed_is : (e : End) → (run_of G phi L mu).ending ≡ failed e → inner_of G wish phi L mu ≡ record { ending = without_mode e; items = (run_of G phi L mu).items }
   unfolding inner_of inner_with after_run
-  failed-is e h = rw h refl
+  failed_is e h = rw h refl
 
-  pub failed-left : (e : End) (a : InnerAnswer) → fit.end ≡ Failed e → a ≡ failed_answer e fit.account → AnswerLeft G wish phi L mu r r1 m m1 t t1 a
-  failed-left e a d ha =
-      let i = failed-is e (run-failed (run_of G phi L mu).ending e x.told d) in
+  pub failed_left : (e : End) (a : InnerAnswer) → fit.end ≡ Failed e → a ≡ failed_answer e fit.account → AnswerLeft G wish phi L mu r r1 m m1 t t1 a
+  failed_left e a d ha =
+      let i = failed_is e (run_failed (run_of G phi L mu).ending e x.told d) in
       rw ha
       (record { told = rw i refl; counted = rw i x.counted; rows_only = x.rows_only; matrices_only = x.matrices_only; terms_only = x.terms_only })
 
@@ -109,9 +109,9 @@ module _ (G : Given) (wish : ℕ) (phi : Float) (L : ℕ) (mu r r1 m m1 t t1 : L
     ending : (run_of G phi L mu).ending ≡ stopped mode
     holds : HoldsMode G mode r1 m1 fit
 
-  run-stopped : (o : Ending) → (run_of G phi L mu).ending ≡ o → EndingTold o G r1 m1 fit → fit.end ≡ Stopped → Held
-  run-stopped (stopped k) e h d = record { mode = k; ending = e; holds = h }
-  run-stopped (failed f) e h d =
+  run_stopped : (o : Ending) → (run_of G phi L mu).ending ≡ o → EndingTold o G r1 m1 fit → fit.end ≡ Stopped → Held
+  run_stopped (stopped k) e h d = record { mode = k; ending = e; holds = h }
+  run_stopped (failed f) e h d =
       let i : Failed f ≡ Stopped = sym (ap (λ (f : InnerFit). f.end) h) ∙ d in
       absurd (let z : ◌≡◌ {A = ℕ} 0 1 = cc in omega arith)
 
@@ -179,5 +179,5 @@ module _ (G : Given) (wish : ℕ) (phi : Float) (L : ℕ) (mu r r1 m m1 t t1 : L
 
     pub stopped_left : (b : InnerAnswer) → fit.end ≡ Stopped → b ≡ stopped_answer fit a → AnswerLeft G wish phi L mu r r2 m m2 t t2 b
     stopped_left b d hb =
-        let h : Held = run-stopped (run_of G phi L mu).ending refl x.told d in
+        let h : Held = run_stopped (run_of G phi L mu).ending refl x.told d in
         mode-left h.mode h.ending h.holds b hb

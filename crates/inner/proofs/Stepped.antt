@@ -84,20 +84,20 @@ module _ (family : CarriedFamily) (link : CarriedLink) (shape : Shape) (theta : 
   G = given_with family link shape theta zt y weights offset n p x
 
   -- no step
-  declined-left : (said : Mode → Integrated) (d : Decline) → ((k : Mode) → said k ≡ answers (Declined d)) → (r m t : List Float) (a : Quadrature) → a ≡ declined_for d → QuadratureLeft G said fit r r m m t t a
+  declined_left : (said : Mode → Integrated) (d : Decline) → ((k : Mode) → said k ≡ answers (Declined d)) → (r m t : List Float) (a : Quadrature) → a ≡ declined_for d → QuadratureLeft G said fit r r m m t t a
   unfolding answers integrated_of
-  declined-left said d h r m t a e =
+  declined_left said d h r m t a e =
       rw e (record { told = λ k _. h k; few = omega arith; rows_only = two_none _ _ _ _ r; matrices_only = two_none _ _ _ _ m; terms_only = only_none 0 terms_length t })
 
-  pub product-declined : (groups k : ℕ) (d : Decline) → product_order wish k ≡ Without d → (r m t : List Float) (a : Quadrature) → a ≡ declined_for d → ProductAt G wish groups k phi fit r r m m t t a
+  pub product_declined : (groups k : ℕ) (d : Decline) → product_order wish k ≡ Without d → (r m t : List Float) (a : Quadrature) → a ≡ declined_for d → ProductAt G wish groups k phi fit r r m m t t a
   unfolding product_step product_with
-  product-declined groups k d e r m t a ea = declined-left (λ M. product_step G wish M phi groups k) d (λ M. rw e refl) r m t a ea
+  product_declined groups k d e r m t a ea = declined_left (λ M. product_step G wish M phi groups k) d (λ M. rw e refl) r m t a ea
 
-  pub joint-declined : (d : Decline) → q ≡ effects_of shape → joint_order wish q ≡ Without d → (r m t : List Float) (a : Quadrature) → a ≡ declined_for d → JointAt G wish phi fit r r m m t t a
+  pub joint_declined : (d : Decline) → q ≡ effects_of shape → joint_order wish q ≡ Without d → (r m t : List Float) (a : Quadrature) → a ≡ declined_for d → JointAt G wish phi fit r r m m t t a
   unfolding joint_step joint_with
-  joint-declined d eq e r m t a ea =
+  joint_declined d eq e r m t a ea =
       let e' : joint_order wish (effects_of shape) ≡ Without d = rw eq at e in
-      declined-left (λ M. joint_step G wish M phi) d (λ M. rw e' refl) r m t a ea
+      declined_left (λ M. joint_step G wish M phi) d (λ M. rw e' refl) r m t a ea
 
   -- a step, after Xβ
   module _ (eq : q ≡ effects_of shape) (o : Order) (r r1 r2 m m2 t t2 : List Float) (a : Quadrature) (l : rows_length n ≤ length r) (w : Wrote (xbeta_row n) n (build (x_beta_at x p (row (beta_place p q) p m)) n) r r1) where

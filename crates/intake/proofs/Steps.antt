@@ -17,9 +17,9 @@ module _ (room held n : ℕ) where
   unfolding after_bytes
   end_step e = rw (eq-eqb n 0 e)
 
-  pub over-step : (n ≡ 0 → ⊥) → room < held + n → Ended TooLong ≡ after_bytes room held n
+  pub over_step : (n ≡ 0 → ⊥) → room < held + n → Ended TooLong ≡ after_bytes room held n
   unfolding after_bytes
-  over-step e l = rw (ne_eqb n 0 e, lt-leb (held + n) room l)
+  over_step e l = rw (ne_eqb n 0 e, lt-leb (held + n) room l)
 
   pub more_step : (n ≡ 0 → ⊥) → held + n ≤ room → More (held + n) ≡ after_bytes room held n
   unfolding after_bytes
@@ -32,8 +32,8 @@ module _ (room held : ℕ) (got z : ℤ) (back : z ≡ got) where
   negative (negsuc k) e = refl
   negative (pos k) e = let l : k < 0 = ltb-true k 0 e in absurd (omega arith)
 
-  pub failed-step : lt_z z (pos 0) ≡ true → Ended Failed ≡ after_read room held got
-  failed-step e = negative got (rw (← back) e)
+  pub failed_step : lt_z z (pos 0) ≡ true → Ended Failed ≡ after_read room held got
+  failed_step e = negative got (rw (← back) e)
 
   pub read_step : (n : ℕ) (s : Step) → pos n ≡ z → s ≡ after_bytes room held n → s ≡ after_read room held got
   unfolding after_read
@@ -44,10 +44,10 @@ not_negative z e = lt_z_no (rw e tt)
 
 -- ---- what is told of a step
 module _ (room held n : ℕ) where
-  by-more : (k : ℕ) (e l : Bool) → eqb k 0 ≡ e → leb (held + k) room ≡ l → cond e (Ended (Held held)) (cond l (More (held + k)) (Ended TooLong)) ≡ More n → (held < n) × (n ≤ room)
-  by-more k true l p q t = let z : ◌≡◌ {A = ℕ} 0 1 = cc in absurd (omega arith)
-  by-more k false false p q t = let z : ◌≡◌ {A = ℕ} 0 1 = cc in absurd (omega arith)
-  by-more k false true p q t =
+  by_more : (k : ℕ) (e l : Bool) → eqb k 0 ≡ e → leb (held + k) room ≡ l → cond e (Ended (Held held)) (cond l (More (held + k)) (Ended TooLong)) ≡ More n → (held < n) × (n ≤ room)
+  by_more k true l p q t = let z : ◌≡◌ {A = ℕ} 0 1 = cc in absurd (omega arith)
+  by_more k false false p q t = let z : ◌≡◌ {A = ℕ} 0 1 = cc in absurd (omega arith)
+  by_more k false true p q t =
       let same : held + k ≡ n = cc in
       let within : held + k ≤ room = leb-true (held + k) room q in
       (above k (eqb-false k 0 p) same, omega arith)
@@ -60,15 +60,15 @@ module _ (room held n : ℕ) where
   pub more_within : (got : ℤ) → after_read room held got ≡ More n → (held < n) × (n ≤ room)
   unfolding after_read after_bytes
   more_within (negsuc k) e = let z : ◌≡◌ {A = ℕ} 0 1 = cc in absurd (omega arith)
-  more_within (pos k) e = by-more k (eqb k 0) (leb (held + k) room) refl refl e
+  more_within (pos k) e = by_more k (eqb k 0) (leb (held + k) room) refl refl e
 
-  by-held : (k : ℕ) (e l : Bool) → cond e (Ended (Held held)) (cond l (More (held + k)) (Ended TooLong)) ≡ Ended (Held n) → n ≡ held
-  by-held k true l t = cc
-  by-held k false true t = let z : ◌≡◌ {A = ℕ} 0 1 = cc in absurd (omega arith)
-  by-held k false false t = let z : ◌≡◌ {A = ℕ} 0 1 = cc in absurd (omega arith)
+  by_held : (k : ℕ) (e l : Bool) → cond e (Ended (Held held)) (cond l (More (held + k)) (Ended TooLong)) ≡ Ended (Held n) → n ≡ held
+  by_held k true l t = cc
+  by_held k false true t = let z : ◌≡◌ {A = ℕ} 0 1 = cc in absurd (omega arith)
+  by_held k false false t = let z : ◌≡◌ {A = ℕ} 0 1 = cc in absurd (omega arith)
 
   -- an input ends behind the bytes that there were
-  pub held-is : (got : ℤ) → after_read room held got ≡ Ended (Held n) → n ≡ held
+  pub held_is : (got : ℤ) → after_read room held got ≡ Ended (Held n) → n ≡ held
   unfolding after_read after_bytes
-  held-is (negsuc k) e = let z : ◌≡◌ {A = ℕ} 0 1 = cc in absurd (omega arith)
-  held-is (pos k) e = by-held k (eqb k 0) (leb (held + k) room) e
+  held_is (negsuc k) e = let z : ◌≡◌ {A = ℕ} 0 1 = cc in absurd (omega arith)
+  held_is (pos k) e = by_held k (eqb k 0) (leb (held + k) room) e

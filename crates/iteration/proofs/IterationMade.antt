@@ -234,15 +234,15 @@ module _ (family : CarriedFamily) (link : CarriedLink) (phi : Float) (n p q' : �
   wd' : Weighed G phi (q_of G.design) (row (eta_row n second) n r) (row (mu_row n) n r) r r1 t t1
   wd' = rw e at (wd G.design refl refl)
 
-  pub iterate-unsolvable : (end : End) → a ≡ Unsolved end → IterationLeft G phi (row (eta_row n second) n r) (row (mu_row n) n r) (eta_row n (not second)) r r2 m m2 t t2 (iteration.Unsolvable end)
-  iterate-unsolvable end ea = unsolvable G phi second r r1 r2 m m2 t t1 t2 lent' wd' end (λ w z. rw ea at (f w z))
+  pub iterate_unsolvable : (end : End) → a ≡ Unsolved end → IterationLeft G phi (row (eta_row n second) n r) (row (mu_row n) n r) (eta_row n (not second)) r r2 m m2 t t2 (iteration.Unsolvable end)
+  iterate_unsolvable end ea = unsolvable G phi second r r1 r2 m m2 t t1 t2 lent' wd' end (λ w z. rw ea at (f w z))
 
-  pub iterate-stuck : (r3 : List Float) (made : Account) (b : TriesEnd) → a ≡ Found → b ≡ NoMove made
+  pub iterate_stuck : (r3 : List Float) (made : Account) (b : TriesEnd) → a ≡ Found → b ≡ NoMove made
       → TriesDone (trial_in link n q' (eta_row n second) (raw_row n) (row (u_place p q') q' m2) (row (w_place q') n t2) (row (z_place n q') n t2) r2) (eta_row n (not second)) (mu_row n) r2 r3 b
       → IterationLeft G phi (row (eta_row n second) n r) (row (mu_row n) n r) (eta_row n (not second)) r r3 m m2 t t2 (iteration.Stuck made)
-  iterate-stuck r3 made b ea eb d = stuck G phi second r r1 r2 m m2 t t1 t2 lent' wd' (λ w z. rw ea at (f w z)) r3 made (rw (e, eb) at d)
+  iterate_stuck r3 made b ea eb d = stuck G phi second r r1 r2 m m2 t t1 t2 lent' wd' (λ w z. rw ea at (f w z)) r3 made (rw (e, eb) at d)
 
-  pub iterate-moved : (r3 : List Float) (pwrss : Float) (made : Account) (b : TriesEnd) → a ≡ Found → b ≡ Moved pwrss made
+  pub iterate_moved : (r3 : List Float) (pwrss : Float) (made : Account) (b : TriesEnd) → a ≡ Found → b ≡ Moved pwrss made
       → TriesDone (trial_in link n q' (eta_row n second) (raw_row n) (row (u_place p q') q' m2) (row (w_place q') n t2) (row (z_place n q') n t2) r2) (eta_row n (not second)) (mu_row n) r2 r3 b
       → IterationLeft G phi (row (eta_row n second) n r) (row (mu_row n) n r) (eta_row n (not second)) r r3 m m2 t t2 (iteration.Moved pwrss made)
-  iterate-moved r3 pwrss made b ea eb d = moved G phi second r r1 r2 m m2 t t1 t2 lent' wd' (λ w z. rw ea at (f w z)) r3 pwrss made (rw (e, eb) at d)
+  iterate_moved r3 pwrss made b ea eb d = moved G phi second r r1 r2 m m2 t t1 t2 lent' wd' (λ w z. rw ea at (f w z)) r3 pwrss made (rw (e, eb) at d)

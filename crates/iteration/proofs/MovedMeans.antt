@@ -26,50 +26,50 @@ module _ (T : Trial) where
   OwnFound (no_move is) = Unit {0}
   OwnFound (found_move m is) = m.mu ≡ means_of T m.eta
 
-  pwrss-own : (b : Bool) (c : List Float) (r : Float) → OwnTried (after_pwrss b c (means_of T c) r)
+  pwrss_own : (b : Bool) (c : List Float) (r : Float) → OwnTried (after_pwrss b c (means_of T c) r)
   unfolding after_pwrss
-  pwrss-own false c r = tt
-  pwrss-own true c r = refl
+  pwrss_own false c r = tt
+  pwrss_own true c r = refl
 
-  means-own : (b : Bool) (c : List Float) → OwnTried (after_means b T c (means_of T c))
+  means_own : (b : Bool) (c : List Float) → OwnTried (after_means b T c (means_of T c))
   unfolding after_means try_pwrss
-  means-own false c = tt
-  means-own true c = pwrss-own (finite (pwrss_of T c)) c (pwrss_of T c)
+  means_own false c = tt
+  means_own true c = pwrss_own (finite (pwrss_of T c)) c (pwrss_of T c)
 
-  eta-own : (b : Bool) (c : List Float) → OwnTried (after_eta b T c)
+  eta_own : (b : Bool) (c : List Float) → OwnTried (after_eta b T c)
   unfolding after_eta try_means
-  eta-own false c = tt
-  eta-own true c = means-own (all_to T.n (finite_at (means_of T c))) c
+  eta_own false c = tt
+  eta_own true c = means_own (all_to T.n (finite_at (means_of T c))) c
 
-  try-own : (step : Float) → OwnTried (try_of T step)
+  try_own : (step : Float) → OwnTried (try_of T step)
   unfolding try_of try_eta
-  try-own step = eta-own (all_to T.n (fine_eta_at T.link (candidate_of T step))) (candidate_of T step)
+  try_own step = eta_own (all_to T.n (fine_eta_at T.link (candidate_of T step))) (candidate_of T step)
 
-  before-own : (i : Item) (x : Search) → OwnFound x → OwnFound (item_before i x)
+  before_own : (i : Item) (x : Search) → OwnFound x → OwnFound (item_before i x)
   unfolding item_before
-  before-own i (no_move is) h = tt
-  before-own i (found_move m is) h = h
+  before_own i (no_move is) h = tt
+  before_own i (found_move m is) h = h
 
-  after-own : (x : Tried) (rest : Float → Search) (step : Float) → OwnTried x → ((s : Float) → OwnFound (rest s)) → OwnFound (after_try x rest step)
+  after_own : (x : Tried) (rest : Float → Search) (step : Float) → OwnTried x → ((s : Float) → OwnFound (rest s)) → OwnFound (after_try x rest step)
   unfolding after_try
-  after-own (refused f) rest step h k = before-own (a_try f) (rest (step ⊗ half_f)) (k (step ⊗ half_f))
-  after-own (moves m) rest step h k = h
+  after_own (refused f) rest step h k = before_own (a_try f) (rest (step ⊗ half_f)) (k (step ⊗ half_f))
+  after_own (moves m) rest step h k = h
 
-  from-own : (f : ℕ) (step : Float) → OwnFound (tries_from T f step)
+  from_own : (f : ℕ) (step : Float) → OwnFound (tries_from T f step)
   unfolding tries_from
-  from-own zero step = tt
-  from-own (suc f) step = after-own (try_of T step) (tries_from T f) step (try-own step) (λ s. from-own f s)
+  from_own zero step = tt
+  from_own (suc f) step = after_own (try_of T step) (tries_from T f) step (try_own step) (λ s. from_own f s)
 
   -- the means of the move that the tries found
-  pub move-means : (m : Move) (is : List Item) → tries_of T ≡ found_move m is → m.mu ≡ means_of T m.eta
+  pub move_means : (m : Move) (is : List Item) → tries_of T ≡ found_move m is → m.mu ≡ means_of T m.eta
   unfolding tries_of
-  move-means m is e =
-      let h : OwnFound (tries_from T (tries_cap (link_of T.link)) one_f) = from-own (tries_cap (link_of T.link)) one_f in
+  move_means m is e =
+      let h : OwnFound (tries_from T (tries_cap (link_of T.link)) one_f) = from_own (tries_cap (link_of T.link)) one_f in
       rw e at h
 
 -- one by one, after the solve v at the predictor prev
 pub moved_met : (G : Given) (v : Solved) (prev : List Float) (m : Move) (is : List Item) → tries_of (trial_of G v prev) ≡ found_move m is → Met G.link (n_of G) m.eta m.mu
 unfolding trial_of means_of mean_at
 moved_met G v prev m is e =
-    let h = move-means (trial_of G v prev) m is e in
+    let h = move_means (trial_of G v prev) m is e in
     record { mean = λ i l. rw h (build_at (mean_at G.link m.eta) (n_of G) i l) }

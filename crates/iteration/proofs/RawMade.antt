@@ -53,11 +53,11 @@ module _ (n p q : ℕ) (shape : Shape) (theta offset x : List Float) (zt : Spars
   u = row (spare_place n p q) q t'
 
   -- what the four calls leave, put together
-  pub raw-made : Wrote (spare_place n p q) q (build (effect_at wy W q p beta) q) t t' → EffectsLeft shape theta (u_place p q) q u m m'
+  pub raw_made : Wrote (spare_place n p q) q (build (effect_at wy W q p beta) q) t t' → EffectsLeft shape theta (u_place p q) q u m m'
       → Wrote (raw_row n) n (build (z_times_at zt q (row (b_place p q) q m')) n) r r' → Wrote (raw_row n) n (build (raw_at offset x p (row (beta_place p q) p m') (row (raw_row n) n r')) n) r' r''
       → RawLeft (design_of n p shape theta offset x zt) wy W beta r r'' m m' t t'
   unfolding effects_after b_of z_times raw_of
-  raw-made a b c d =
+  raw_made a b c d =
       let ub : u ≡ build (effect_at wy W q p beta) q = a.row' in
       let bb : row (b_place p q) q m' ≡ build (lambda_times_at shape theta (build (effect_at wy W q p beta) q)) q = b.second ∙ rw ub refl in
       let kb : row (beta_place p q) p m' ≡ beta = only_row (beta_place p q) p (u_place p q) (q + q) (inr (omega (arith, (laid_out lent.sizes).matrices))) (omega (arith, (laid_out lent.sizes).matrices.beta_end_lem, (laid_out lent.sizes).matrices.beta, lent.matrices_long)) b.frame in
@@ -71,9 +71,9 @@ module _ (n p q : ℕ) (shape : Shape) (theta offset x : List Float) (zt : Spars
       }
 
   -- the same, with the places as the layout's functions gave them
-  pub raw-laid : (wyAt solvedAt betaAt spareAt u_at b_at rawAt' : ℕ) → wyAt ≡ wy_place p q → solvedAt ≡ solved_place q → betaAt ≡ beta_place p q → spareAt ≡ spare_place n p q → u_at ≡ u_place p q
+  pub raw_laid : (wyAt solvedAt betaAt spareAt u_at b_at rawAt' : ℕ) → wyAt ≡ wy_place p q → solvedAt ≡ solved_place q → betaAt ≡ beta_place p q → spareAt ≡ spare_place n p q → u_at ≡ u_place p q
       → b_at ≡ b_place p q → rawAt' ≡ raw_row n → Wrote spareAt q (build (effect_at (row wyAt q m) (row solvedAt (p * q) m) q p (row betaAt p m)) q) t t' → EffectsLeft shape theta u_at q (row spareAt q t') m m'
       → Wrote rawAt' n (build (z_times_at zt q (row b_at q m')) n) r r' → Wrote rawAt' n (build (raw_at offset x p (row betaAt p m') (row rawAt' n r')) n) r' r''
       → RawLeft (design_of n p shape theta offset x zt) wy W beta r r'' m m' t t'
-  raw-laid wyAt solvedAt betaAt spareAt u_at b_at rawAt' e1 e2 e3 e4 e5 e6 e7 a b c d =
-      raw-made (rw (e1, e2, e3, e4) at a) (rw (e5, e4) at b) (rw (e7, e6) at c) (rw (e7, e3) at d)
+  raw_laid wyAt solvedAt betaAt spareAt u_at b_at rawAt' e1 e2 e3 e4 e5 e6 e7 a b c d =
+      raw_made (rw (e1, e2, e3, e4) at a) (rw (e5, e4) at b) (rw (e7, e6) at c) (rw (e7, e3) at d)

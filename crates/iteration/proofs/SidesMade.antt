@@ -29,10 +29,10 @@ solved_side_at : (q b : ℕ) (D : Design) (v L m m' F : List Float) → q ≡ q_
 solved_side_at q b D v L m m' F e s same = rw e (s F (rw e at same))
 
 module _ (n p q weighted end wy : ℕ) (shape : Shape) (theta x : List Float) (zt : Sparse) (r m m' m'' t t' : List Float) where
-  pub sides-made : q ≡ effects_of shape → WorkRoom n p q r m t → weighted ≡ weighted_row n → end ≡ weighted + n → wy ≡ wy_place p q
+  pub sides_made : q ≡ effects_of shape → WorkRoom n p q r m t → weighted ≡ weighted_row n → end ≡ weighted + n → wy ≡ wy_place p q
       → Whatever n shape theta zt (SolvedSide (take (end - weighted) (drop weighted r)) (take (q * q - 0) (drop 0 t)) wy m m') → ColumnsOf n p q shape theta x zt r m' m'' t t'
       → SidesOf n p q shape theta x zt r m m'' t t'
-  sides-made e lent ew ee ey s c F offset same =
+  sides_made e lent ew ee ey s c F offset same =
       let same' : SameBelow q (take (q * q - 0) (drop 0 t)) F = rw (front_is (q * q) t) same in
       let w : Wrote wy q (ldl_solve q F (side_of (design_of n p shape theta offset x zt) (take (end - weighted) (drop weighted r)))) m m' =
       solved_side_at q wy (design_of n p shape theta offset x zt) (take (end - weighted) (drop weighted r)) (take (q * q - 0) (drop 0 t)) m m' F e (s p offset x) same' in

@@ -48,17 +48,17 @@ module _ (D : Design) (w z : List Float) where
   abbrev reduced : Reduced
   reduced = reduced_of D w z (targets D z) A F
 
-  rule-system : (i : ℕ) (t t' m m' : List Float) → SystemLeaves w t t' m m' (Bad i) D → solve_working D w z ≡ unsolved SystemPivot
+  rule_system : (i : ℕ) (t t' m m' : List Float) → SystemLeaves w t t' m m' (Bad i) D → solve_working D w z ≡ unsolved SystemPivot
   unfolding solve_working solve_system solve_factor after_factor
-  rule-system i t t' m m' s = rw (← s.end) refl
+  rule_system i t t' m m' s = rw (← s.end) refl
 
-  rule-reduced : (t t' m m' : List Float) → SystemLeaves w t t' m m' Done D → solve_working D w z ≡ solve_reduced D reduced
+  rule_reduced : (t t' m m' : List Float) → SystemLeaves w t t' m m' Done D → solve_working D w z ≡ solve_reduced D reduced
   unfolding solve_working solve_system solve_factor after_factor
-  rule-reduced t t' m m' s = rw (← s.end) refl
+  rule_reduced t t' m m' s = rw (← s.end) refl
 
-  rule-normal : (q i : ℕ) (m m' t t' : List Float) → RootLeft D.n D.p q N m m' t t' (Bad i) → solve_reduced D reduced ≡ unsolved NormalPivot
+  rule_normal : (q i : ℕ) (m m' t t' : List Float) → RootLeft D.n D.p q N m m' t t' (Bad i) → solve_reduced D reduced ≡ unsolved NormalPivot
   unfolding solve_reduced solve_normal solve_root after_root reduced_of
-  rule-normal q i m m' t t' l = rw (← l.end) refl
+  rule_normal q i m m' t t' l = rw (← l.end) refl
 
   rule_found : (q : ℕ) (m m' t t' : List Float) → RootLeft D.n D.p q N m m' t t' Done → solve_reduced D reduced ≡ solved (found D reduced C)
   unfolding solve_reduced solve_normal solve_root after_root reduced_of
@@ -75,21 +75,21 @@ module _ (D : Design) (w z r m t : List Float) (lent : WorkRoom D.n D.p (q_of D)
   abbrev q : ℕ
   q = q_of D
 
-  laidM : MatricesLaid p q
-  laidM = (laid_out lent.sizes).matrices
+  laid_m : MatricesLaid p q
+  laid_m = (laid_out lent.sizes).matrices
 
-  laidT : TermsLaid n p q
-  laidT = (laid_out lent.sizes).terms
+  laid_t : TermsLaid n p q
+  laid_t = (laid_out lent.sizes).terms
 
   -- end 10
-  pub system-ended : (i : ℕ) (t1 m1 : List Float) → SystemLeaves (row (w_place q) n t) t t1 m m1 (Bad i) D → SolveLeft D (solve_working D w z) r r m m1 t t1 (Unsolved SystemPivot)
-  system-ended i t1 m1 s =
+  pub system_ended : (i : ℕ) (t1 m1 : List Float) → SystemLeaves (row (w_place q) n t) t t1 m m1 (Bad i) D → SolveLeft D (solve_working D w z) r r m m1 t t1 (Unsolved SystemPivot)
+  system_ended i t1 m1 s =
       let s' : SystemLeaves w t t1 m m1 (Bad i) D = rw ready.weights at s in
       record {
-        told = rw (rule-system D w z i t t1 m m1 s') refl;
+        told = rw (rule_system D w z i t t1 m m1 s') refl;
         rows_only = only_none (raw_row n) (13 * n) r;
         matrices_only = only_wide 0 (q * q) 0 (matrices_length p q) (omega arith) (omega arith) s'.system.only;
-        terms_only = only_wide 0 (q * q) 0 terms_length (omega arith) (omega (arith, laidT)) s'.frame;
+        terms_only = only_wide 0 (q * q) 0 terms_length (omega arith) (omega (arith, laid_t)) s'.frame;
       }
 
   module _ (t1 m1 t2 m2 : List Float) (s : SystemLeaves (row (w_place q) n t) t t1 m m1 Done D)
@@ -101,10 +101,10 @@ module _ (D : Design) (w z r m t : List Float) (lent : WorkRoom D.n D.p (q_of D)
     long1 = s'.frame.len
 
     w1 : row (w_place q) n t1 ≡ w
-    w1 = only_row (w_place q) n 0 (q * q) (inr (omega arith)) (omega (arith, laidT, lent.terms_long)) s'.frame ∙ ready.weights
+    w1 = only_row (w_place q) n 0 (q * q) (inr (omega arith)) (omega (arith, laid_t, lent.terms_long)) s'.frame ∙ ready.weights
 
     z1 : row (z_place n q) n t1 ≡ z
-    z1 = only_row (z_place n q) n 0 (q * q) (inr (omega arith)) (omega (arith, laidT, lent.terms_long)) s'.frame ∙ ready.responses
+    z1 = only_row (z_place n q) n 0 (q * q) (inr (omega arith)) (omega (arith, laid_t, lent.terms_long)) s'.frame ∙ ready.responses
 
     x' : SidesLeft q D (F D w z) w (targets D z) (weighted_targets D w (targets D z)) m1 m2 t1 t2
     x' = rw (w1, ready.target, ready.weighted) at x
@@ -118,16 +118,16 @@ module _ (D : Design) (w z r m t : List Float) (lent : WorkRoom D.n D.p (q_of D)
     matrices2 = only_trans (only_wide 0 (q * q) 0 (matrices_length p q) (omega arith) (omega arith) s'.system.only) x'.matrices_only
 
     terms2 : Only 0 terms_length t t2
-    terms2 = only_trans (only_wide 0 (q * q) 0 terms_length (omega arith) (omega (arith, laidT)) s'.frame) (only_wide (unsolved_place n q) (q * p + p * p) 0 terms_length (omega arith) (omega (arith, laidT)) x'.terms_only)
+    terms2 = only_trans (only_wide 0 (q * q) 0 terms_length (omega arith) (omega (arith, laid_t)) s'.frame) (only_wide (unsolved_place n q) (q * p + p * p) 0 terms_length (omega arith) (omega (arith, laid_t)) x'.terms_only)
 
     -- end 11
     pub normal_ended : (i : ℕ) (t3 m3 : List Float) → RootLeft n p q (N D w z) m2 m3 t2 t3 (Bad i) → SolveLeft D (solve_working D w z) r r m m3 t t3 (Unsolved NormalPivot)
     normal_ended i t3 m3 l =
         record {
-          told = rw (rule-reduced D w z t t1 m m1 s' ∙ rule-normal D w z q i m2 m3 t2 t3 l) refl;
+          told = rw (rule_reduced D w z t t1 m m1 s' ∙ rule_normal D w z q i m2 m3 t2 t3 l) refl;
           rows_only = only_none (raw_row n) (13 * n) r;
-          matrices_only = only_trans matrices2 (only_wide (beta_place p q) p 0 (matrices_length p q) (omega arith) (omega (arith, laidM.beta, laidM.beta_end_lem)) l.matrices_only);
-          terms_only = only_trans terms2 (only_wide (normal_place n p q) (p * p) 0 terms_length (omega arith) (omega (arith, laidT)) l.terms_only);
+          matrices_only = only_trans matrices2 (only_wide (beta_place p q) p 0 (matrices_length p q) (omega arith) (omega (arith, laid_m.beta, laid_m.beta_end_lem)) l.matrices_only);
+          terms_only = only_trans terms2 (only_wide (normal_place n p q) (p * p) 0 terms_length (omega arith) (omega (arith, laid_t)) l.terms_only);
         }
 
     module _ (r2 t3 m3 t4 m4 : List Float) (l : RootLeft n p q (N D w z) m2 m3 t2 t3 Done)
@@ -147,25 +147,25 @@ module _ (D : Design) (w z r m t : List Float) (lent : WorkRoom D.n D.p (q_of D)
       -- a row before V is as the factor of A left it
       early : (c k : ℕ) → c + k ≤ unsolved_place n q → row c k t4 ≡ row c k t1
       early c k h =
-          let a : row c k t4 ≡ row c k t3 = only_row c k (spare_place n p q) q (inl (omega arith)) (omega (arith, laidT, lent.terms_long, long3)) v.terms_only in
-          let b : row c k t3 ≡ row c k t2 = only_row c k (normal_place n p q) (p * p) (inl (omega arith)) (omega (arith, laidT, lent.terms_long, long2)) l.terms_only in
-          let d : row c k t2 ≡ row c k t1 = only_row c k (unsolved_place n q) (q * p + p * p) (inl h) (omega (arith, laidT, lent.terms_long, long1)) x'.terms_only in
+          let a : row c k t4 ≡ row c k t3 = only_row c k (spare_place n p q) q (inl (omega arith)) (omega (arith, laid_t, lent.terms_long, long3)) v.terms_only in
+          let b : row c k t3 ≡ row c k t2 = only_row c k (normal_place n p q) (p * p) (inl (omega arith)) (omega (arith, laid_t, lent.terms_long, long2)) l.terms_only in
+          let d : row c k t2 ≡ row c k t1 = only_row c k (unsolved_place n q) (q * p + p * p) (inl h) (omega (arith, laid_t, lent.terms_long, long1)) x'.terms_only in
           a ∙ b ∙ d
 
       normal4 : row (normal_place n p q) (p * p) t4 ≡ row (normal_place n p q) (p * p) t3
-      normal4 = only_row (normal_place n p q) (p * p) (spare_place n p q) q (inl (omega arith)) (omega (arith, laidT, lent.terms_long, long3)) v.terms_only
+      normal4 = only_row (normal_place n p q) (p * p) (spare_place n p q) q (inl (omega arith)) (omega (arith, laid_t, lent.terms_long, long3)) v.terms_only
 
       -- a row before β is as the right sides left it
       sides3 : (c k : ℕ) → c + k ≤ beta_place p q → row c k m3 ≡ row c k m2
-      sides3 c k h = only_row c k (beta_place p q) p (inl h) (omega (arith, laidM.beta, laidM.beta_end_lem, lent.matrices_long, wide2)) l.matrices_only
+      sides3 c k h = only_row c k (beta_place p q) p (inl h) (omega (arith, laid_m.beta, laid_m.beta_end_lem, lent.matrices_long, wide2)) l.matrices_only
 
       system4 : row system_place (q * q) m4 ≡ A D w z
       system4 =
-          only_row system_place (q * q) (u_place p q) (q + q) (inl (omega arith)) (omega (arith, laidM.beta_end_lem, lent.matrices_long, wide3)) v.matrices_only ∙ sides3 system_place (q * q) (omega arith) ∙ x'.system_kept
+          only_row system_place (q * q) (u_place p q) (q + q) (inl (omega arith)) (omega (arith, laid_m.beta_end_lem, lent.matrices_long, wide3)) v.matrices_only ∙ sides3 system_place (q * q) (omega arith) ∙ x'.system_kept
           ∙ s'.system.row'
 
       beta4 : row (beta_place p q) p m4 ≡ row (beta_place p q) p m3
-      beta4 = only_row (beta_place p q) p (u_place p q) (q + q) (inr (omega arith)) (omega (arith, laidM.beta, laidM.beta_end_lem, lent.matrices_long, wide3)) v.matrices_only
+      beta4 = only_row (beta_place p q) p (u_place p q) (q + q) (inr (omega arith)) (omega (arith, laid_m.beta, laid_m.beta_end_lem, lent.matrices_long, wide3)) v.matrices_only
 
       wy3 : row (wy_place p q) q m3 ≡ (reduced D w z).wy
       unfolding reduced_of wy_of
@@ -184,22 +184,22 @@ module _ (D : Design) (w z r m t : List Float) (lent : WorkRoom D.n D.p (q_of D)
       unfolding found found_beta found_with reduced_of
       solve-found =
           record {
-            told = rw (rule-reduced D w z t t1 m m1 s' ∙ rule_found D w z q m2 m3 t2 t3 l)
+            told = rw (rule_reduced D w z t t1 m m1 s' ∙ rule_found D w z q m2 m3 t2 t3 l)
                 (record {
-                  w = early (w_place q) n (omega (arith, laidT)) ∙ w1;
-                  z = early (z_place n q) n (omega (arith, laidT)) ∙ z1;
+                  w = early (w_place q) n (omega (arith, laid_t)) ∙ w1;
+                  z = early (z_place n q) n (omega (arith, laid_t)) ∙ z1;
                   system = system4;
-                  factor = rw (early factor_place (q * q) (omega (arith, laidT))) (s'.lower refl);
+                  factor = rw (early factor_place (q * q) (omega (arith, laid_t))) (s'.lower refl);
                   root = rw normal4 (l.root refl);
                   beta = beta4 ∙ beta3;
                   u = v.u ∙ rw (wy3, solved3, beta3) refl;
                   raw = v.raw ∙ rw (wy3, solved3, beta3) refl;
                 });
             rows_only = only_wide (raw_row n) n (raw_row n) (13 * n) (omega arith) (omega arith) v.rows_only;
-            matrices_only = only_trans (only_trans matrices2 (only_wide (beta_place p q) p 0 (matrices_length p q) (omega arith) (omega (arith, laidM.beta, laidM.beta_end_lem)) l.matrices_only))
-                (only_wide (u_place p q) (q + q) 0 (matrices_length p q) (omega arith) (omega (arith, laidM.beta, laidM.beta_end_lem)) v.matrices_only);
-            terms_only = only_trans (only_trans terms2 (only_wide (normal_place n p q) (p * p) 0 terms_length (omega arith) (omega (arith, laidT)) l.terms_only))
-                (only_wide (spare_place n p q) q 0 terms_length (omega arith) (omega (arith, laidT)) v.terms_only);
+            matrices_only = only_trans (only_trans matrices2 (only_wide (beta_place p q) p 0 (matrices_length p q) (omega arith) (omega (arith, laid_m.beta, laid_m.beta_end_lem)) l.matrices_only))
+                (only_wide (u_place p q) (q + q) 0 (matrices_length p q) (omega arith) (omega (arith, laid_m.beta, laid_m.beta_end_lem)) v.matrices_only);
+            terms_only = only_trans (only_trans terms2 (only_wide (normal_place n p q) (p * p) 0 terms_length (omega arith) (omega (arith, laid_t)) l.terms_only))
+                (only_wide (spare_place n p q) q 0 terms_length (omega arith) (omega (arith, laid_t)) v.terms_only);
           }
 
 -- ---- the same for the arguments of the code, of which q is the number of effects
@@ -214,8 +214,8 @@ module _ (n p q at i : ℕ) (shape : Shape) (theta offset x : List Float) (zt : 
   left : SystemLeaves (row (w_place (q_of D)) n t) t t1 m m1 f D
   left = rw (ew, e) at (s p offset x)
 
-  pub system-ends : f ≡ Bad i → SolvesWorking D r r m m1 t t1 (Unsolved SystemPivot)
-  system-ends ef w z ready = system-ended D w z r m t lent' ready i t1 m1 (rw ef at left)
+  pub system_ends : f ≡ Bad i → SolvesWorking D r r m m1 t t1 (Unsolved SystemPivot)
+  system_ends ef w z ready = system_ended D w z r m t lent' ready i t1 m1 (rw ef at left)
 
   module _ (m2 m3 t2 t3 : List Float) (g : Factored) (ef : f ≡ Done) (sides : SidesOf n p q shape theta x zt r m1 m2 t1 t2) (root : RootSolved n p q m2 m3 t2 t3 g) where
     done : SystemLeaves (row (w_place (q_of D)) n t) t t1 m m1 Done D

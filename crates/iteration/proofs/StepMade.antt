@@ -14,7 +14,7 @@ use Rattle.layout.specs.Layout.{WorkRoom}
 use Rattle.layout.specs.WorkRows.{mu_row, raw_row, rows_length}
 use Rattle.layout.specs.WorkMatrices.{u_place, b_place}
 use Rattle.layout.specs.WorkTerms.{w_place, z_place, unsolved_place}
-use Rattle.layout.proofs.Inside.{u-in, w_in, z-in}
+use Rattle.layout.proofs.Inside.{u_in, w_in, z_in}
 use Rattle.stages.specs.Held.{eta_row}
 use Rattle.tries.specs.Told.{Room, trial_in, TriesDone}
 use Rattle.tries.specs.declared.search.TriesEnd.{TriesEnd}
@@ -54,23 +54,23 @@ rows_room n q true u w z r h hu hw hz =
 
 module _ (n p q : ℕ) (second : Bool) (prev next raw mu u b w z unsolved : ℕ) (r m t : List Float) (lent : WorkRoom n p q r m t) (e1 : prev ≡ eta_row n second) (e2 : next ≡ eta_row n (not second)) (e3 : raw ≡ raw_row n)
     (e4 : mu ≡ mu_row n) (e5 : u ≡ u_place p q) (e6 : b ≡ b_place p q) (e7 : w ≡ w_place q) (e8 : z ≡ z_place n q) (e9 : unsolved ≡ unsolved_place n q) where
-  u-part : take (b - u) (drop u m) ≡ row u q m
-  u-part = part_is u q b m (omega arith)
+  u_part : take (b - u) (drop u m) ≡ row u q m
+  u_part = part_is u q b m (omega arith)
 
   w_part : take (z - w) (drop w t) ≡ row w n t
   w_part = part_is w n z t (omega arith)
 
-  z-part : take (unsolved - z) (drop z t) ≡ row z n t
-  z-part = part_is z n unsolved t (omega arith)
+  z_part : take (unsolved - z) (drop z t) ≡ row z n t
+  z_part = part_is z n unsolved t (omega arith)
 
   pub step_room : Room n q prev next raw mu (take (b - u) (drop u m)) (take (z - w) (drop w t)) (take (unsolved - z) (drop z t)) r
   step_room =
-      rw (e1, e2, e3, e4, u-part, w_part, z-part)
-      (rows_room n q second (row u q m) (row w n t) (row z n t) r lent.rows_long (omega (arith, row_length u q m (u-in lent.sizes m e5 lent.matrices_long))) (omega (arith, row_length w n t (w_in lent.sizes t e7 lent.terms_long))) (omega (arith, row_length z n t (z-in lent.sizes t e8 lent.terms_long))))
+      rw (e1, e2, e3, e4, u_part, w_part, z_part)
+      (rows_room n q second (row u q m) (row w n t) (row z n t) r lent.rows_long (omega (arith, row_length u q m (u_in lent.sizes m e5 lent.matrices_long))) (omega (arith, row_length w n t (w_in lent.sizes t e7 lent.terms_long))) (omega (arith, row_length z n t (z_in lent.sizes t e8 lent.terms_long))))
 
   pub stepped : (link : CarriedLink) (r' : List Float) (a : TriesEnd)
       → TriesDone (trial_in link n q prev raw (take (b - u) (drop u m)) (take (z - w) (drop w t)) (take (unsolved - z) (drop z t)) r) next mu r r' a
       → TriesDone (trial_in link n q (eta_row n second) (raw_row n) (row (u_place p q) q m) (row (w_place q) n t) (row (z_place n q) n t) r) (eta_row n (not second)) (mu_row n) r r' a
   stepped link r' a d =
-      let d' : TriesDone (trial_in link n q prev raw (row u q m) (row w n t) (row z n t) r) next mu r r' a = rw (u-part, w_part, z-part) at d in
+      let d' : TriesDone (trial_in link n q prev raw (row u q m) (row w n t) (row z n t) r) next mu r r' a = rw (u_part, w_part, z_part) at d in
       rw (e1, e2, e3, e4, e5, e7, e8) at d'

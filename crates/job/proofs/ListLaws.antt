@@ -36,13 +36,13 @@ module _ {A : Type 0} where
   unfolding laid
   laid_none b = refl
 
-  pub laid-length : (xs b : List A) → length xs ≤ length b → length (laid xs b) ≡ length b
+  pub laid_length : (xs b : List A) → length xs ≤ length b → length (laid xs b) ≡ length b
   unfolding laid
-  laid-length xs b h = length-append xs (drop (length xs) b) ∙ rw length-drop (omega arith)
+  laid_length xs b h = length-append xs (drop (length xs) b) ∙ rw length-drop (omega arith)
 
-  pub laid-at : (xs b : List A) (i : ℕ) (d : A) → i < length xs → get_or (laid xs b) i d ≡ get_or xs i d
+  pub laid_at : (xs b : List A) (i : ℕ) (d : A) → i < length xs → get_or (laid xs b) i d ≡ get_or xs i d
   unfolding laid
-  laid-at xs b i d h = get_or-append xs (drop (length xs) b) d i h
+  laid_at xs b i d h = get_or-append xs (drop (length xs) b) d i h
 
   -- one more entry is stored behind the front
   pub laid_more : (xs b : List A) (i : ℕ) (x : A) → length xs ≡ i → i < length b → set (laid xs b) i x ≡ laid (xs ++ (x ∷ [])) b
@@ -58,12 +58,12 @@ module _ {A : Type 0} where
   unfolding laid
   laid_front e b l = rw (length-take-le e b l) (take-append-drop e b)
 
-  pub behind-none : (e : ℕ) (b : List A) → e ≤ length b → b ≡ laid (take e b ++ []) b
-  behind-none e b l = rw (append-nil (take e b)) (sym (laid_front e b l))
+  pub behind_none : (e : ℕ) (b : List A) → e ≤ length b → b ≡ laid (take e b ++ []) b
+  behind_none e b l = rw (append-nil (take e b)) (sym (laid_front e b l))
 
-  pub behind-length : (e n : ℕ) (ys b : List A) → length ys ≡ n → e + n ≤ length b → length (laid (take e b ++ ys) b) ≡ length b
-  behind-length e n ys b l h =
-      laid-length (take e b ++ ys) b (omega (arith, length-append (take e b) ys, length-take-le e b (omega arith)))
+  pub behind_length : (e n : ℕ) (ys b : List A) → length ys ≡ n → e + n ≤ length b → length (laid (take e b ++ ys) b) ≡ length b
+  behind_length e n ys b l h =
+      laid_length (take e b ++ ys) b (omega (arith, length-append (take e b) ys, length-take-le e b (omega arith)))
 
   -- a list laid behind the front of what was laid before
   pub laid_on : (xs ys b w : List A) (e : ℕ) → length xs ≡ e → w ≡ laid xs b → laid (take e w ++ ys) w ≡ laid (xs ++ ys) b
@@ -89,19 +89,19 @@ counts_none f b = laid_none b
 -- ---- lists joined
 module _ {A : Type 0} (f : ℕ → List A) where
   -- list r lies behind those before it
-  join-long : (n r : ℕ) → r < n → length (join_to r f) + length (f r) ≤ length (join_to n f)
+  join_long : (n r : ℕ) → r < n → length (join_to r f) + length (f r) ≤ length (join_to n f)
   unfolding join_to
-  join-long zero r l = absurd (not-suc-le-zero l)
-  join-long (suc n) r l =
+  join_long zero r l = absurd (not-suc-le-zero l)
+  join_long (suc n) r l =
       let e : length (join_to n f ++ f n) ≡ length (join_to n f) + length (f n) = length-append (join_to n f) (f n) in
-      ⊎_elim (λ (q : r ≡ n). rw q (omega arith)) (λ (m : r < n). let h = join-long n r m in omega arith) (last_or_before l)
+      ⊎_elim (λ (q : r ≡ n). rw q (omega arith)) (λ (m : r < n). let h = join_long n r m in omega arith) (last_or_before l)
 
   -- entry j of list r
-  pub join-at : (n r j : ℕ) (d : A) → r < n → j < length (f r) → get_or (join_to n f) (length (join_to r f) + j) d ≡ get_or (f r) j d
+  pub join_at : (n r j : ℕ) (d : A) → r < n → j < length (f r) → get_or (join_to n f) (length (join_to r f) + j) d ≡ get_or (f r) j d
   unfolding join_to
-  join-at zero r j d l h = absurd (not-suc-le-zero l)
-  join-at (suc n) r j d l h =
+  join_at zero r j d l h = absurd (not-suc-le-zero l)
+  join_at (suc n) r j d l h =
       ⊎_elim
       (λ (q : r ≡ n). rw q (get_or-append-add (join_to n f) (f n) j d))
-      (λ (m : r < n). get_or-append (join_to n f) (f n) d (length (join_to r f) + j) (omega (arith, join-long n r m)) ∙ join-at n r j d m h)
+      (λ (m : r < n). get_or-append (join_to n f) (f n) d (length (join_to r f) + j) (omega (arith, join_long n r m)) ∙ join_at n r j d m h)
       (last_or_before l)

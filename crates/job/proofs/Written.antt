@@ -23,7 +23,7 @@ use Rattle.job.specs.Format.{version, family_field, link_field, limit_field, is_
 use Rattle.job.specs.Faults.{is_sound, demand, spare, pair_fault, reaches, head_fault, blocks_fault, entry_fault, entries_fault, row_fault, rows_fault, numbers_fault, body_fault, fault_of}
 use Rattle.job.specs.Job.{family_from, link_from, limit_from, start_from, start_in, settings_of, columns_of, values_of, sparse_of, Job, job_of}
 use Rattle.job.specs.Write.{fld, packed, present, limit_code, Version, version1, version2, version_of, version_code, common_bytes, start_bytes, head_bytes, block_bytes, number_bytes, numbers_bytes, short_bytes, entry_bytes, row_count, row_bytes, job_bytes}
-use Rattle.job.proofs.ListLaws.{counts_length_lem, counts_at, laid-at, join-at}
+use Rattle.job.proofs.ListLaws.{counts_length_lem, counts_at, laid_at, join_at}
 use Rattle.job.proofs.FaultLaws.{both, demanded, reached, pair_reached, Headed, headed, version_one, second_said, at_six, at_seven}
 use Rattle.job.proofs.SizeLaws.{Small}
 use Rattle.job.proofs.RowLaws.{Fits, sound_fits, row_before, start_next, columns_before, values_before}
@@ -115,10 +115,10 @@ spared s p w h = eqb-true _ 0 (demanded _ _ _ (both _ _ h).1)
 
 -- m and k of a block, from the shape
 m_of : (s : List ℕ) (i : ℕ) → i < blocks s → (shape_of s).m !! i ≡ groups s i
-m_of s i l = laid-at _ _ i 0 (omega (arith, counts_length_lem (groups s) (blocks s))) ∙ counts_at (groups s) (blocks s) i l
+m_of s i l = laid_at _ _ i 0 (omega (arith, counts_length_lem (groups s) (blocks s))) ∙ counts_at (groups s) (blocks s) i l
 
 k_of : (s : List ℕ) (i : ℕ) → i < blocks s → (shape_of s).k !! i ≡ effects_in s i
-k_of s i l = laid-at _ _ i 0 (omega (arith, counts_length_lem (effects_in s) (blocks s))) ∙ counts_at (effects_in s) (blocks s) i l
+k_of s i l = laid_at _ _ i 0 (omega (arith, counts_length_lem (effects_in s) (blocks s))) ∙ counts_at (effects_in s) (blocks s) i l
 
 block_number : (s : List ℕ) (i : ℕ) → is_sound (pair_fault s (block_at s i) 5) ≡ true → packed 0 (fld 7 (groups s i) ∷ fld 4 (effects_in s i) ∷ fld 5 0 ∷ []) ≡ bits_of s (8 * block_at s i) 16
 unfolding packed groups effects_in
@@ -180,34 +180,34 @@ abbrev pub PlainRow : List ℕ → ℕ → Type 0
 PlainRow s p = (j : ℕ) → j < short s p → T (not (is_nan (value_read s p j)))
 
 module _ (s : List ℕ) (r : ℕ) (l : r < rows_in s) where
-  start-at : (sparse_of s).starts !! r ≡ start_of s r
+  start_at_lem : (sparse_of s).starts !! r ≡ start_of s r
   unfolding sparse_of
-  start-at = counts_at (start_of s) (rows_in s + 1) r (omega arith)
+  start_at_lem = counts_at (start_of s) (rows_in s + 1) r (omega arith)
 
-  count-is : row_count (sparse_of s) r ≡ short s (row_at s r)
+  count_is : row_count (sparse_of s) r ≡ short s (row_at s r)
   unfolding sparse_of
-  count-is = rw (counts_at (start_of s) (rows_in s + 1) (r + 1) (omega arith), counts_at (start_of s) (rows_in s + 1) r (omega arith), start_next s r) (omega arith)
+  count_is = rw (counts_at (start_of s) (rows_in s + 1) (r + 1) (omega arith), counts_at (start_of s) (rows_in s + 1) r (omega arith), start_next s r) (omega arith)
 
-  column-is : (j : ℕ) → j < short s (row_at s r) → (sparse_of s).columns !! (start_of s r + j) ≡ column_read s (row_at s r) j
+  column_is : (j : ℕ) → j < short s (row_at s r) → (sparse_of s).columns !! (start_of s r + j) ≡ column_read s (row_at s r) j
   unfolding sparse_of columns_of
-  column-is j h =
+  column_is j h =
       let n = counts_length_lem (column_read s (row_at s r)) (short s (row_at s r)) in
-      rw (← columns_before s r) (join-at (columns_of s) (rows_in s) r j 0 l (omega (arith, n)) ∙ counts_at (column_read s (row_at s r)) (short s (row_at s r)) j h)
+      rw (← columns_before s r) (join_at (columns_of s) (rows_in s) r j 0 l (omega (arith, n)) ∙ counts_at (column_read s (row_at s r)) (short s (row_at s r)) j h)
 
-  value-is : (j : ℕ) → j < short s (row_at s r) → (sparse_of s).values ! (start_of s r + j) ≡ value_read s (row_at s r) j
+  value_is : (j : ℕ) → j < short s (row_at s r) → (sparse_of s).values ! (start_of s r + j) ≡ value_read s (row_at s r) j
   unfolding sparse_of values_of
-  value-is j h =
+  value_is j h =
       let n = build_length (value_read s (row_at s r)) (short s (row_at s r)) in
-      rw (← values_before s r) (join-at (values_of s) (rows_in s) r j nan l (omega (arith, n)) ∙ build_at (value_read s (row_at s r)) (short s (row_at s r)) j h)
+      rw (← values_before s r) (join_at (values_of s) (rows_in s) r j nan l (omega (arith, n)) ∙ build_at (value_read s (row_at s r)) (short s (row_at s r)) j h)
 
-  entry-written : (j : ℕ) → Bytes s → j < short s (row_at s r) → is_sound (entry_fault s (entry_at (row_at s r) j)) ≡ true → T (not (is_nan (value_read s (row_at s r) j)))
+  entry_written : (j : ℕ) → Bytes s → j < short s (row_at s r) → is_sound (entry_fault s (entry_at (row_at s r) j)) ≡ true → T (not (is_nan (value_read s (row_at s r) j)))
       → entry_bytes (sparse_of s) (start_of s r + j) ≡ part s (entry_at (row_at s r) j) 10
   unfolding entry_bytes entry_fault
-  entry-written j h m e n =
+  entry_written j h m e n =
       let p = entry_at (row_at s r) j in
       let b = both (pair_fault s p 3) (reaches s (8 * p + 80)) e in
       let reach : 8 * p + 80 ≤ length s * 8 = reached s (8 * p + 80) b.1 in
-      rw (column-is j m, value-is j m, short_written s p h b.0, number_written s (p + 2) h (omega arith) n) (sym (part_add s p 2 8))
+      rw (column_is j m, value_is j m, short_written s p h b.0, number_written s (p + 2) h (omega arith) n) (sym (part_add s p 2 8))
 
   row_written : Bytes s → is_sound (row_fault s (row_at s r)) ≡ true → PlainRow s (row_at s r) → row_bytes (sparse_of s) r ≡ part s (row_at s r) (2 + 10 * short s (row_at s r))
   unfolding row_bytes row_fault
@@ -215,10 +215,10 @@ module _ (s : List ℕ) (r : ℕ) (l : r < rows_in s) where
       let p = row_at s r in
       let b = both (pair_fault s p 3) (entries_fault s (p + 2) (short s p)) e in
       rw (
-        count-is,
-        start-at,
+        count_is,
+        start_at_lem,
         short_written s p h b.0,
-        join_parts s (λ j. entry_bytes (sparse_of s) (start_of s r + j)) (p + 2) 10 (short s p) (λ j m. entry-written j h m (entries_each s (p + 2) (short s p) j m b.1) (n j m)),
+        join_parts s (λ j. entry_bytes (sparse_of s) (start_of s r + j)) (p + 2) 10 (short s p) (λ j m. entry_written j h m (entries_each s (p + 2) (short s p) j m b.1) (n j m)),
       )
       (sym (part_add s p 2 (10 * short s p)))
 

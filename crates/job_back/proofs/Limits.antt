@@ -12,7 +12,7 @@ use Rattle.job.specs.Job.{Job, job_of, sound, read_of}
 use Rattle.job.specs.Write.{Version, version_of, job_bytes}
 use Rattle.job_back.specs.Sayable.{Sayable}
 use Rattle.job_back.proofs.Back.{read_back}
-use Rattle.job_back.proofs.Said.{read-sayable}
+use Rattle.job_back.proofs.Said.{read_sayable}
 use Rattle.job_back.proofs.Versions.{job_length}
 
 -- the job with the limit M
@@ -59,4 +59,4 @@ limited_sayable v M j m q =
 
 pub limited_read : (s : List ℕ) (M : ℕ) → fault_of s ≡ Sound → M ≤ 1000 → read_of (limited_bytes M s) ≡ sound (limited_job M (job_of s))
 unfolding is_sound
-limited_read s M e m = read_back (version_of s) (limited_job M (job_of s)) (limited_sayable (version_of s) M (job_of s) m (read-sayable s (rw e refl)))
+limited_read s M e m = read_back (version_of s) (limited_job M (job_of s)) (limited_sayable (version_of s) M (job_of s) m (read_sayable s (rw e refl)))

@@ -17,7 +17,7 @@ use Rattle.bits.specs.Bits.{bits_of, double_of}
 use Rattle.bits.proofs.BitLaws.{bits_below}
 use Rattle.job.specs.Lists.{join_to}
 use Rattle.job.specs.Write.{bytes_of, number_bytes}
-use Rattle.job.proofs.ListLaws.{join-at}
+use Rattle.job.proofs.ListLaws.{join_at}
 use Rattle.bits.proofs.ByteLaws.{split, byte_is}
 use Rattle.job.proofs.ByteLaws.{Bytes}
 
@@ -80,7 +80,7 @@ join_longer f (suc n) r k l m =
 pub has_join : (s : List ℕ) (a n r : ℕ) (f : ℕ → List ℕ) → Has s a (join_to n f) → r < n → Has s (a + length (join_to r f)) (f r)
 has_join s a n r f h l k m =
     let e : a + length (join_to r f) + k ≡ a + (length (join_to r f) + k) = omega arith in
-    rw e (h (length (join_to r f) + k) (join_longer f n r k l m) ∙ join-at f n r k 0 l m)
+    rw e (h (length (join_to r f) + k) (join_longer f n r k l m) ∙ join_at f n r k 0 l m)
 
 -- ---- its bytes make a number
 pub has_number : (s : List ℕ) (i n v : ℕ) → Bytes s → Has s i (bytes_of n v) → v < 2 ^ (8 * n) → bits_of s (8 * i) (8 * n) ≡ v

@@ -40,12 +40,12 @@ pub record EntrySaid (z : Sparse) (s : List ℕ) (p e : ℕ) : Type 0 where
   pub value : double_of s (p + 2) ≡ z.values ! e
 
 module _ (z : Sparse) (rows entries : ℕ) (q : RowsSayable rows entries z) where
-  start-most : (d r : ℕ) → r + d ≡ rows → (z.starts !! r) ≤ entries
-  start-most zero r e = let t : r ≡ rows = omega arith in rw t (omega (arith, q.last))
-  start-most (suc d) r e = omega (arith, q.rising r (omega arith), start-most d (r + 1) (omega arith))
+  start_most : (d r : ℕ) → r + d ≡ rows → (z.starts !! r) ≤ entries
+  start_most zero r e = let t : r ≡ rows = omega arith in rw t (omega (arith, q.last))
+  start_most (suc d) r e = omega (arith, q.rising r (omega arith), start_most d (r + 1) (omega arith))
 
   pub start_few : (r : ℕ) → r ≤ rows → (z.starts !! r) ≤ entries
-  start_few r l = start-most (rows - r) r (omega arith)
+  start_few r l = start_most (rows - r) r (omega arith)
 
   -- the rows before row r
   pub rows_before : (r : ℕ) → r ≤ rows → length (join_to r (row_bytes z)) ≡ 2 * r + 10 * (z.starts !! r)

@@ -25,7 +25,7 @@ use Rattle.job.specs.Format.{limit_field, is_second, blocks, blocks_at, obs, col
 use Rattle.job.specs.Faults.{demand, is_sound, head_fault, fault_of}
 use Rattle.job.specs.Job.{limit_from, start_in, settings_of, columns_of, values_of, sparse_of, sound, job_of, read_of}
 use Rattle.job.specs.Write.{present, version1, version2, version_of, head_length, job_bytes}
-use Rattle.job.proofs.ListLaws.{counts_length_lem, counts_at, laid-at}
+use Rattle.job.proofs.ListLaws.{counts_length_lem, counts_at, laid_at}
 use Rattle.job.proofs.FaultLaws as faults
 use Rattle.job.proofs.RowLaws.{Fits, sound_fits, start_next, row_starts, columns_before, values_before}
 use Rattle.job.proofs.Written.{present_back}
@@ -79,7 +79,7 @@ numbers_fit s a n i l = built_fit (number s a) n (λ k. double_fits s (a + 8 * k
 row_zero : (f : ℕ → ℕ) (n : ℕ) → ZeroPast n (laid (counts f n) (replicate 8 0))
 row_zero f n =
     ap (λ (l : List ℕ). laid l (replicate 8 0))
-    (counts_same f (λ i. laid (counts f n) (replicate 8 0) !! i) n (λ i l. sym (laid-at (counts f n) (replicate 8 0) i 0 (omega (arith, counts_length_lem f n)) ∙ counts_at f n i l)))
+    (counts_same f (λ i. laid (counts f n) (replicate 8 0) !! i) n (λ i l. sym (laid_at (counts f n) (replicate 8 0) i 0 (omega (arith, counts_length_lem f n)) ∙ counts_at f n i l)))
 
 -- ---- the limit
 limit_good : (l : ℕ) → l < 1024 → not (ltb 1000 l && ltb l 1023) ≡ true → good_limit (limit_from l) ≡ true
@@ -121,88 +121,88 @@ module _ (s : List ℕ) (h : is_sound (fault_of s) ≡ true) where
       let c : (1 ≤ cols s) × (cols s ≤ 16) = from_within b.0 in
       c.0
 
-  settings-sayable : SettingsSayable (settings_of s)
+  settings_sayable : SettingsSayable (settings_of s)
   unfolding settings_of
-  settings-sayable =
+  settings_sayable =
       record { some = whole.small.some; few = whole.small.rows; column = columned; columns = whole.small.wide; wish = bits_below s 11 5; limit = limit_of_lem s headed }
 
-  shape-sayable : ShapeSayable (shape_of s)
-  shape-sayable = record { good = whole.small.good; m_zero = row_zero (groups s) (blocks s); k_zero = row_zero (effects_in s) (blocks s) }
+  shape_sayable : ShapeSayable (shape_of s)
+  shape_sayable = record { good = whole.small.good; m_zero = row_zero (groups s) (blocks s); k_zero = row_zero (effects_in s) (blocks s) }
 
-  start-at : (r : ℕ) → r ≤ rows_in s → (sparse_of s).starts !! r ≡ start_of s r
+  start_at_lem : (r : ℕ) → r ≤ rows_in s → (sparse_of s).starts !! r ≡ start_of s r
   unfolding sparse_of
-  start-at r l = counts_at (start_of s) (rows_in s + 1) r (omega arith)
+  start_at_lem r l = counts_at (start_of s) (rows_in s + 1) r (omega arith)
 
-  starts-long : length (sparse_of s).starts ≡ rows_in s + 1
+  starts_long : length (sparse_of s).starts ≡ rows_in s + 1
   unfolding sparse_of
-  starts-long = counts_length_lem (start_of s) (rows_in s + 1)
+  starts_long = counts_length_lem (start_of s) (rows_in s + 1)
 
-  start-zero : start_of s 0 ≡ 0
+  start_zero : start_of s 0 ≡ 0
   unfolding start_of
-  start-zero = refl
+  start_zero = refl
 
   columns_long : length (sparse_of s).columns ≡ start_of s (rows_in s)
   unfolding sparse_of
   columns_long = columns_before s (rows_in s)
 
-  values-long : length (sparse_of s).values ≡ start_of s (rows_in s)
+  values_long : length (sparse_of s).values ≡ start_of s (rows_in s)
   unfolding sparse_of
-  values-long = values_before s (rows_in s)
+  values_long = values_before s (rows_in s)
 
-  columns-low : (e : ℕ) → ((sparse_of s).columns !! e) < 8192
+  columns_low : (e : ℕ) → ((sparse_of s).columns !! e) < 8192
   unfolding sparse_of columns_of
-  columns-low e = joined_low (columns_of s) (rows_in s) (λ r i. counts_low (column_read s (row_at s r)) (short s (row_at s r)) (λ k. bits_below s (8 * entry_at (row_at s r) k) 13) i) e
+  columns_low e = joined_low (columns_of s) (rows_in s) (λ r i. counts_low (column_read s (row_at s r)) (short s (row_at s r)) (λ k. bits_below s (8 * entry_at (row_at s r) k) 13) i) e
 
-  values-fit : (i : ℕ) → T (fits binary64 ((sparse_of s).values ! i))
+  values_fit : (i : ℕ) → T (fits binary64 ((sparse_of s).values ! i))
   unfolding sparse_of values_of
-  values-fit i = joined_fit (values_of s) (rows_in s) (λ r k. built_fit (value_read s (row_at s r)) (short s (row_at s r)) (λ t. double_fits s (entry_at (row_at s r) t + 2)) k) i
+  values_fit i = joined_fit (values_of s) (rows_in s) (λ r k. built_fit (value_read s (row_at s r)) (short s (row_at s r)) (λ t. double_fits s (entry_at (row_at s r) t + 2)) k) i
 
-  rows-sayable : RowsSayable (rows_in s) (start_of s (rows_in s)) (sparse_of s)
-  rows-sayable =
+  rows_sayable : RowsSayable (rows_in s) (start_of s (rows_in s)) (sparse_of s)
+  rows_sayable =
       record {
-        starts = starts-long;
-        first = start-at 0 (omega arith) ∙ start-zero;
-        last = start-at (rows_in s) (omega arith);
-        rising = λ r l. rw (start-at r (omega arith), start-at (r + 1) (omega arith), start_next s r) (omega arith);
+        starts = starts_long;
+        first = start_at_lem 0 (omega arith) ∙ start_zero;
+        last = start_at_lem (rows_in s) (omega arith);
+        rising = λ r l. rw (start_at_lem r (omega arith), start_at_lem (r + 1) (omega arith), start_next s r) (omega arith);
         columns = columns_long;
-        values = values-long;
-        low = λ e l. columns-low e;
-        doubles = λ i l. values-fit i;
+        values = values_long;
+        low = λ e l. columns_low e;
+        doubles = λ i l. values_fit i;
       }
 
   -- as long as it was
-  short-again : length (job_bytes (version_of s) (job_of s)) ≤ 65536
+  short_again : length (job_bytes (version_of s) (job_of s)) ≤ 65536
   unfolding job_of settings_of
-  short-again =
+  short_again =
       let placed = laid_out (version_of s) (job_of s) (obs s) (obs s * cols s) (weighted s * obs s) (shifted s * obs s) (thetas s) (blocks s) refl (build_length _ _) (build_length _ _) (build_length _ _) (build_length _ _) (build_length _ _) in
-      let rows = rows_before (sparse_of s) (rows_in s) (start_of s (rows_in s)) rows-sayable (rows_in s) (omega arith) in
-      omega (arith, placed.long, rows, start-at (rows_in s) (omega arith), row_starts s (rows_in s), whole.ends, whole.fitting.0.0, version_long s (is_second s) refl)
+      let rows = rows_before (sparse_of s) (rows_in s) (start_of s (rows_in s)) rows_sayable (rows_in s) (omega arith) in
+      omega (arith, placed.long, rows, start_at_lem (rows_in s) (omega arith), row_starts s (rows_in s), whole.ends, whole.fitting.0.0, version_long s (is_second s) refl)
 
   -- what is read can be said
-  pub read-sayable : Sayable (version_of s) (job_of s)
+  pub read_sayable : Sayable (version_of s) (job_of s)
   unfolding job_of settings_of
-  read-sayable =
+  read_sayable =
       let weights : weighted s * obs s ≡ present (build (number s (weights_at s)) (weighted s * obs s)) * obs s = rw (present_back (number s (weights_at s)) (weighted s) (obs s) (bits_below s 9 1) whole.small.some) refl in
       let offset : shifted s * obs s ≡ present (build (number s (offset_at s)) (shifted s * obs s)) * obs s = rw (present_back (number s (offset_at s)) (shifted s) (obs s) (bits_below s 10 1) whole.small.some) refl in
       record {
-        settings = settings-sayable;
+        settings = settings_sayable;
         start = version_start s (is_second s) refl;
-        shape = shape-sayable;
+        shape = shape_sayable;
         effects = refl;
         theta = build_length _ _;
         y = build_length _ _;
         weights = build_length _ _ ∙ weights;
         offset = build_length _ _ ∙ offset;
         x = build_length _ _;
-        z = rows-sayable;
+        z = rows_sayable;
         theta_doubles = numbers_fit s (theta_at s) (thetas s);
         y_doubles = numbers_fit s (y_at s) (obs s);
         weights_doubles = numbers_fit s (weights_at s) (weighted s * obs s);
         offset_doubles = numbers_fit s (offset_at s) (shifted s * obs s);
         x_doubles = numbers_fit s (x_at s) (obs s * cols s);
-        short = short-again;
+        short = short_again;
       }
 
 -- so what was read, written and read again is the same, also where a NaN of another pattern stood in the bytes
 pub read_again : (s : List ℕ) → is_sound (fault_of s) ≡ true → read_of (job_bytes (version_of s) (job_of s)) ≡ sound (job_of s)
-read_again s h = read_back (version_of s) (job_of s) (read-sayable s h)
+read_again s h = read_back (version_of s) (job_of s) (read_sayable s h)

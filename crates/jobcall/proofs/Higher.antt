@@ -20,7 +20,7 @@ use Rattle.job.specs.Lists.{laid}
 use Rattle.job.specs.Job.{Job, Read, sound, job_of, read_by, read_of}
 use Rattle.job_back.proofs.Limits.{limited_job, limited_bytes, limited_read}
 use Rattle.call.specs.Call.{Left}
-use Rattle.call.proofs.Higher.{limited, call_same, call-account-grows}
+use Rattle.call.proofs.Higher.{limited, call_same, call_account_grows}
 use Rattle.jobfit.specs.Done.{inputs_of, beta_length, lent_for, Done, done_of, done_for}
 use Rattle.jobcall.specs.Told.{Buffers, Told, counts_length, counts_of, told_by, answered, counted, with_theta, fit_job_of, fit_job_theta_of}
 
@@ -45,13 +45,13 @@ as_before cs =
 
 -- ---- a call that is done
 module _ (t : Settings) (s : Shape) (I : Inputs) (rows matrices terms results : List Float) (M : ℕ) (higher : limit_of t.limit t.link ≤ M) (few : M ≤ 1000) where
-  pub done-same : ((done_for t s I rows matrices terms results).answer.number ≡ 13 → ⊥) → done_for (limited M t) s I rows matrices terms results ≡ done_for t s I rows matrices terms results
+  pub done_same : ((done_for t s I rows matrices terms results).answer.number ≡ 13 → ⊥) → done_for (limited M t) s I rows matrices terms results ≡ done_for t s I rows matrices terms results
   unfolding done_for done_of lent_for beta_length
-  done-same h = ap (λ (l : Left). done_of l results) (call_same t s I (lent_for t rows matrices terms results) M higher few h)
+  done_same h = ap (λ (l : Left). done_of l results) (call_same t s I (lent_for t rows matrices terms results) M higher few h)
 
-  pub done-grows : AtMost (done_for (limited M t) s I rows matrices terms results).answer.account (done_for t s I rows matrices terms results).answer.account
+  pub done_grows : AtMost (done_for (limited M t) s I rows matrices terms results).answer.account (done_for t s I rows matrices terms results).answer.account
   unfolding done_for done_of lent_for beta_length
-  done-grows = call-account-grows t s I (lent_for t rows matrices terms results) M higher few
+  done_grows = call_account_grows t s I (lent_for t rows matrices terms results) M higher few
 
 -- and its counts
 pub counts_grow : (a b : Answer) (cs ds : List ℕ) → AtMost b.account a.account → NoLower (laid (counts_of a 0) cs) (laid (counts_of b 0) ds)
@@ -60,14 +60,14 @@ counts_grow a b cs ds g = record { fits = g.fits; solves = g.solves; tries = g.t
 
 -- ---- a job that was read
 module _ (j : Job) (B : Buffers) (M : ℕ) (higher : limit_of j.settings.limit j.settings.link ≤ M) (few : M ≤ 1000) where
-  answered-same : (number_in (answered (sound j) B) ≡ 13 → ⊥) → answered (sound (limited_job M j)) B ≡ answered (sound j) B
+  answered_same : (number_in (answered (sound j) B) ≡ 13 → ⊥) → answered (sound (limited_job M j)) B ≡ answered (sound j) B
   unfolding answered told_by counts_of laid
-  answered-same h =
-      ap (λ (d : Done). told_by d B.counts) (done-same j.settings j.shape (inputs_of j) B.rows B.matrices B.terms B.results M higher few h)
+  answered_same h =
+      ap (λ (d : Done). told_by d B.counts) (done_same j.settings j.shape (inputs_of j) B.rows B.matrices B.terms B.results M higher few h)
 
-  answered-grows : NoLower (answered (sound j) B).after.counts (answered (sound (limited_job M j)) B).after.counts
+  answered_grows : NoLower (answered (sound j) B).after.counts (answered (sound (limited_job M j)) B).after.counts
   unfolding answered told_by
-  answered-grows = counts_grow _ _ B.counts B.counts (done-grows j.settings j.shape (inputs_of j) B.rows B.matrices B.terms B.results M higher few)
+  answered_grows = counts_grow _ _ B.counts B.counts (done_grows j.settings j.shape (inputs_of j) B.rows B.matrices B.terms B.results M higher few)
 
   -- without room for the counts nothing is looked at
   counted_same : (number_in (counted (sound j) B) ≡ 13 → ⊥) → counted (sound (limited_job M j)) B ≡ counted (sound j) B
@@ -75,31 +75,31 @@ module _ (j : Job) (B : Buffers) (M : ℕ) (higher : limit_of j.settings.limit j
   counted_same h = by (leb counts_length (length B.counts)) refl
     where
       by : (b : Bool) → leb counts_length (length B.counts) ≡ b → counted (sound (limited_job M j)) B ≡ counted (sound j) B
-      by true e = rw e (answered-same (λ (z : number_in (answered (sound j) B) ≡ 13). h (rw e z)))
+      by true e = rw e (answered_same (λ (z : number_in (answered (sound j) B) ≡ 13). h (rw e z)))
       by false e = rw e refl
 
-  counted-grows : NoLower (counted (sound j) B).after.counts (counted (sound (limited_job M j)) B).after.counts
+  counted_grows : NoLower (counted (sound j) B).after.counts (counted (sound (limited_job M j)) B).after.counts
   unfolding counted
-  counted-grows = by (leb counts_length (length B.counts)) refl
+  counted_grows = by (leb counts_length (length B.counts)) refl
     where
       by : (b : Bool) → leb counts_length (length B.counts) ≡ b → NoLower (counted (sound j) B).after.counts (counted (sound (limited_job M j)) B).after.counts
-      by true e = rw e answered-grows
+      by true e = rw e answered_grows
       by false e = rw e (as_before B.counts)
 
 -- ---- the bytes of a sound job, and a limit from its own to 1000; one that is not given counts as 100, with the inverse link as 1000
 module _ (s : List ℕ) (e : fault_of s ≡ Sound) (B : Buffers) (M : ℕ) (higher : limit_of (job_of s).settings.limit (job_of s).settings.link ≤ M) (few : M ≤ 1000) where
-  sound-read : read_of s ≡ sound (job_of s)
+  sound_read : read_of s ≡ sound (job_of s)
   unfolding read_of read_by
-  sound-read = rw e refl
+  sound_read = rw e refl
 
   -- `fit_job`
   pub told_same : (number_in (fit_job_of s B) ≡ 13 → ⊥) → fit_job_of (limited_bytes M s) B ≡ fit_job_of s B
   unfolding fit_job_of
-  told_same h = rw (limited_read s M e few, sound-read) (counted_same (job_of s) B M higher few (rw sound-read at h))
+  told_same h = rw (limited_read s M e few, sound_read) (counted_same (job_of s) B M higher few (rw sound_read at h))
 
-  pub told-grows : NoLower (fit_job_of s B).after.counts (fit_job_of (limited_bytes M s) B).after.counts
+  pub told_grows : NoLower (fit_job_of s B).after.counts (fit_job_of (limited_bytes M s) B).after.counts
   unfolding fit_job_of
-  told-grows = rw (limited_read s M e few, sound-read) (counted-grows (job_of s) B M higher few)
+  told_grows = rw (limited_read s M e few, sound_read) (counted_grows (job_of s) B M higher few)
 
   -- `fit_job_theta`
   module _ (theta : List Float) where
@@ -108,8 +108,8 @@ module _ (s : List ℕ) (e : fault_of s ≡ Sound) (B : Buffers) (M : ℕ) (high
 
     pub theta_told_same : (number_in (fit_job_theta_of s theta B) ≡ 13 → ⊥) → fit_job_theta_of (limited_bytes M s) theta B ≡ fit_job_theta_of s theta B
     unfolding fit_job_theta_of with_theta
-    theta_told_same h = rw (limited_read s M e few, sound-read) (counted_same beside B M higher few (rw sound-read at h))
+    theta_told_same h = rw (limited_read s M e few, sound_read) (counted_same beside B M higher few (rw sound_read at h))
 
     pub theta_told_grows : NoLower (fit_job_theta_of s theta B).after.counts (fit_job_theta_of (limited_bytes M s) theta B).after.counts
     unfolding fit_job_theta_of with_theta
-    theta_told_grows = rw (limited_read s M e few, sound-read) (counted-grows beside B M higher few)
+    theta_told_grows = rw (limited_read s M e few, sound_read) (counted_grows beside B M higher few)

@@ -24,7 +24,7 @@ use Rattle.family.specs.declared.carried.CarriedLink.{CarriedLink}
 use Rattle.dispersion.specs.Rounds.{Result, result, no_result, Dispersed}
 use Rattle.call.specs.Fit.{Fitted}
 use Rattle.call.specs.Call.{Lent, lengths_of, call_of}
-use Rattle.call.proofs.Leaves.{refused_left, asked_fit, unfitted-answer, fitted-number}
+use Rattle.call.proofs.Leaves.{refused_left, asked_fit, unfitted_answer_lem, fitted_number}
 use Rattle.jobfit.specs.Done.{lent_for, done, results_by, done_of, done_for}
 use Rattle.jobfit.proofs.Lent.{refusal_some}
 use Rattle.jobcall.specs.Told.{Buffers, counts_length, returned_by, told_by, answered, counted, with_theta, fit_job_of, fit_job_theta_of}
@@ -53,17 +53,17 @@ module _ (t : Settings) (s : Shape) (I : Inputs) (rows matrices terms results : 
   given = lent_for t rows matrices terms results
 
   -- an accepted call returns 0, whatever it came to
-  accepted-returned : (f : CarriedFamily) (l : CarriedLink) → table_of 1 t s I (lengths_of given) ≡ Accepted f l → returned_by (done_for t s I rows matrices terms results).answer.number ≡ 0
+  accepted_returned : (f : CarriedFamily) (l : CarriedLink) → table_of 1 t s I (lengths_of given) ≡ Accepted f l → returned_by (done_for t s I rows matrices terms results).answer.number ≡ 0
   unfolding done_for done_of
-  accepted-returned f l e = by (asked_fit f l t s I).outcome refl
+  accepted_returned f l e = by (asked_fit f l t s I).outcome refl
     where
       by : (x : Result (Dispersed Fitted)) → (asked_fit f l t s I).outcome ≡ x → returned_by (call_of t s I given).answer.number ≡ 0
-      by (no_result end) q = rw (unfitted-answer t s I given f l e end q) (end_returned end)
-      by (result d) q = rw (fitted-number t s I given f l e d q) fitted_returned
+      by (no_result end) q = rw (unfitted_answer_lem t s I given f l e end q) (end_returned end)
+      by (result d) q = rw (fitted_number t s I given f l e d q) fitted_returned
 
-  refused-done : (r : Refusal) → table_of 1 t s I (lengths_of given) ≡ Refused r → done_for t s I rows matrices terms results ≡ done (blank_answer (refusal_number r) no_counts) rows matrices terms results
+  refused_done : (r : Refusal) → table_of 1 t s I (lengths_of given) ≡ Refused r → done_for t s I rows matrices terms results ≡ done (blank_answer (refusal_number r) no_counts) rows matrices terms results
   unfolding done_for done_of results_by lent_for
-  refused-done r e = rw (refused_left t s I given r e, ne_eqb (refusal_number r) 0 (refusal_some r)) refl
+  refused_done r e = rw (refused_left t s I given r e, ne_eqb (refusal_number r) 0 (refusal_some r)) refl
 
   pub call_kept : (counts : List ℕ) → ((told_by (done_for t s I rows matrices terms results) counts).returned ≡ 0 → ⊥)
       → AsLent (record { rows = rows; matrices = matrices; terms = terms; results = results; counts = counts }) (told_by (done_for t s I rows matrices terms results) counts).after
@@ -71,8 +71,8 @@ module _ (t : Settings) (s : Shape) (I : Inputs) (rows matrices terms results : 
   call_kept counts h = by (table_of 1 t s I (lengths_of given)) refl
     where
       by : (x : Verdict) → table_of 1 t s I (lengths_of given) ≡ x → AsLent (record { rows = rows; matrices = matrices; terms = terms; results = results; counts = counts }) (told_by (done_for t s I rows matrices terms results) counts).after
-      by (Accepted f l) e = absurd (h (accepted-returned f l e))
-      by (Refused r) e = rw (refused-done r e) (record { rows = refl; matrices = refl; terms = refl; results = refl })
+      by (Accepted f l) e = absurd (h (accepted_returned f l e))
+      by (Refused r) e = rw (refused_done r e) (record { rows = refl; matrices = refl; terms = refl; results = refl })
 
 -- ---- by the reading, and by the room for the counts
 answered_kept : (r : Read) (B : Buffers) → ((answered r B).returned ≡ 0 → ⊥) → AsLent B (answered r B).after

@@ -16,7 +16,7 @@ use Rattle.job.specs.declared.faults.Fault.TheVariants.{Sound, At}
 use Rattle.job.specs.Faults.{fault_of}
 use Rattle.job.specs.Job.{Read, faulty, sound, read_by, read_of}
 use Rattle.job.proofs.FaultNumbers.{fault-numbers}
-use Rattle.call.proofs.When.{never-five}
+use Rattle.call.proofs.When.{never_five}
 use Rattle.jobfit.specs.Done.{lent_for, done_of, done_for}
 use Rattle.jobcall.specs.Told.{Buffers, counts_length, returned_by, told_by, answered, counted, with_theta, fit_job_of, fit_job_theta_of}
 
@@ -29,7 +29,7 @@ returned_is k false e h = rw e at h
 -- ---- one call
 pub call_never : (t : Settings) (s : Shape) (I : Inputs) (rows matrices terms results : List Float) (counts : List ℕ) → (told_by (done_for t s I rows matrices terms results) counts).returned ≡ 5 → ⊥
 unfolding told_by done_for done_of
-call_never t s I rows matrices terms results counts e = never-five t s I (lent_for t rows matrices terms results) (returned_is _ _ refl e)
+call_never t s I rows matrices terms results counts e = never_five t s I (lent_for t rows matrices terms results) (returned_is _ _ refl e)
 
 -- ---- by the reading, and by the room for the counts
 -- a job that cannot be read has another number

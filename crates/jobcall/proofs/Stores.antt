@@ -15,12 +15,12 @@ module _ {A : Type 0} where
   stored_at i (x ∷ xs) b = stored_at (i + 1) xs (set b i x)
 
   -- behind the entries of ps, which stand already
-  stored-behind : (xs ps b w : List A) (i : ℕ) → length ps ≡ i → i + length xs ≤ length b → w ≡ laid ps b → stored_at i xs w ≡ laid (ps ++ xs) b
+  stored_behind : (xs ps b w : List A) (i : ℕ) → length ps ≡ i → i + length xs ≤ length b → w ≡ laid ps b → stored_at i xs w ≡ laid (ps ++ xs) b
   unfolding stored_at
-  stored-behind [] ps b w i l h e = rw (append-nil ps) e
-  stored-behind (x ∷ xs) ps b w i l h e =
+  stored_behind [] ps b w i l h e = rw (append-nil ps) e
+  stored_behind (x ∷ xs) ps b w i l h e =
       let more : length (ps ++ (x ∷ [])) ≡ i + 1 = length-append ps (x ∷ []) ∙ omega (arith, l) in
-      stored-behind xs (ps ++ (x ∷ [])) b (set w i x) (i + 1) more (omega arith) (next ps b w i x l (omega arith) e) ∙ rw (append_assoc ps (x ∷ []) xs) refl
+      stored_behind xs (ps ++ (x ∷ [])) b (set w i x) (i + 1) more (omega arith) (next ps b w i x l (omega arith) e) ∙ rw (append_assoc ps (x ∷ []) xs) refl
 
-  pub stored-laid : (xs b : List A) → length xs ≤ length b → stored_at 0 xs b ≡ laid xs b
-  stored-laid xs b h = stored-behind xs [] b b 0 refl (omega arith) (laid_none b)
+  pub stored_laid : (xs b : List A) → length xs ≤ length b → stored_at 0 xs b ≡ laid xs b
+  stored_laid xs b h = stored_behind xs [] b b 0 refl (omega arith) (laid_none b)

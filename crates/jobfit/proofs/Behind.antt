@@ -20,8 +20,8 @@ module _ {A : Type 0} where
   pub next : (xs b w : List A) (i : ℕ) (x : A) → length xs ≡ i → i < length b → w ≡ laid xs b → set w i x ≡ laid (xs ++ (x ∷ [])) b
   next xs b w i x l h e = rw e (laid_more xs b i x l h)
 
-  pub two-set : (b : List A) (x y : A) → 2 ≤ length b → set (set b 0 x) 1 y ≡ laid (x ∷ y ∷ []) b
-  two-set b x y h = next (x ∷ []) b (set b 0 x) 1 y refl (omega arith) (next [] b b 0 x refl (omega arith) (laid_none b))
+  pub two_set : (b : List A) (x y : A) → 2 ≤ length b → set (set b 0 x) 1 y ≡ laid (x ∷ y ∷ []) b
+  two_set b x y h = next (x ∷ []) b (set b 0 x) 1 y refl (omega arith) (next [] b b 0 x refl (omega arith) (laid_none b))
 
 -- ---- a list behind the first `at` numbers
 -- one more number
@@ -61,8 +61,8 @@ module _ (a : Answer) (R : Results) (b : List Float) (fit : numbers_length R ≤
   abbrev begun : List Float
   begun = set (set b 0 a.deviance) 1 a.phi
 
-  pub fixed-room : 2 + (length R.beta + (length R.se + length R.z)) ≤ length begun
-  fixed-room = rw (two_length b a.deviance a.phi) (omega arith)
+  pub fixed_room : 2 + (length R.beta + (length R.se + length R.z)) ≤ length begun
+  fixed_room = rw (two_length b a.deviance a.phi) (omega arith)
 
   module _ (k : ℕ) (w : List Float) (c₁ : Copied (R.beta ++ (R.se ++ R.z)) 2 begun k w) (e₁ : length w ≡ length begun) where
     k_is : k ≡ 2 + (length R.beta + (length R.se + length R.z))
@@ -93,6 +93,6 @@ module _ (a : Answer) (R : Results) (b : List Float) (fit : numbers_length R ≤
         numbers-laid r z c₄ =
             let last = copied_both c₃ c₄ (rw (lists_three R.mu R.eta R.residual) rows_room) in
             let behind = copied_both c₂ last (rw (lists_two R.u R.b) effects_room) in
-            let all = copied_both c₁ behind (rw (lists_three R.beta R.se R.z) fixed-room) in
-            let front : Copied (a.deviance ∷ a.phi ∷ []) 0 b 2 begun = record { ends = refl; list = two-set b a.deviance a.phi (omega arith) } in
+            let all = copied_both c₁ behind (rw (lists_three R.beta R.se R.z) fixed_room) in
+            let front : Copied (a.deviance ∷ a.phi ∷ []) 0 b 2 begun = record { ends = refl; list = two_set b a.deviance a.phi (omega arith) } in
             (copied_both front all (omega arith)).list

@@ -34,13 +34,13 @@ cells_few p l = let h : p * p ≤ 16 * 16 = mul-le-mul {n₂ = 16} {m₂ = 16} l
 
 -- ---- how much of beta is lent
 module _ (t : Settings) (room asked : ℕ) (e : asked ≡ results_length t.n t.p t.rows) where
-  pub beta-lent : asked ≤ room → t.p ≡ beta_length t room
+  pub beta_lent : asked ≤ room → t.p ≡ beta_length t room
   unfolding beta_length
-  beta-lent l = let h : leb (results_length t.n t.p t.rows) room ≡ true = le-leb (results_length t.n t.p t.rows) room (rw (← e) l) in rw h refl
+  beta_lent l = let h : leb (results_length t.n t.p t.rows) room ≡ true = le-leb (results_length t.n t.p t.rows) room (rw (← e) l) in rw h refl
 
-  pub beta-none : room < asked → 0 ≡ beta_length t room
+  pub beta_none : room < asked → 0 ≡ beta_length t room
   unfolding beta_length
-  beta-none l = let h : leb (results_length t.n t.p t.rows) room ≡ false = lt-leb (results_length t.n t.p t.rows) room (rw (← e) l) in rw h refl
+  beta_none l = let h : leb (results_length t.n t.p t.rows) room ≡ false = lt-leb (results_length t.n t.p t.rows) room (rw (← e) l) in rw h refl
 
 pub beta_few : (t : Settings) (room : ℕ) → t.p ≤ 16 → beta_length t room ≤ 16
 unfolding beta_length
@@ -83,14 +83,14 @@ part n k = take (n - 0) (drop 0 (replicate k zero_f))
 
 -- nine parts of arrays and the caller's work buffers
 module _ (t : Settings) (rows matrices terms results : List Float) (w : ℕ) (few : SizesFew t) (width : w ≡ beta_length t (length results)) where
-  w-few : w ≤ 16
-  w-few = rw width (beta_few t (length results) few.p)
+  w_few : w ≤ 16
+  w_few = rw width (beta_few t (length results) few.p)
 
   pub lent_is : lent (part w 16) (part t.p 16) (part t.p 16) (part t.rows 32) (part t.rows 32) (part t.n 512) (part t.n 512) (part t.n 512) (part (t.p * t.p) 256) rows matrices terms ≡ lent_for t rows matrices terms results
   unfolding lent_for
   lent_is =
       rw (
-        zeros_front w 16 w-few,
+        zeros_front w 16 w_few,
         zeros_front t.p 16 few.p,
         zeros_front t.rows 32 few.q,
         zeros_front t.n 512 few.n,
@@ -101,7 +101,7 @@ module _ (t : Settings) (rows matrices terms results : List Float) (w : ℕ) (fe
   pub room_for : RoomFor (record { beta = part w 16; se = part t.p 16; z = part t.p 16; u = part t.rows 32; b = part t.rows 32; mu = part t.n 512; eta = part t.n 512; residual = part t.n 512; v = part (t.p * t.p) 256 }) results
   room_for =
       rw (
-        zeros_front w 16 w-few,
+        zeros_front w 16 w_few,
         zeros_front t.p 16 few.p,
         zeros_front t.rows 32 few.q,
         zeros_front t.n 512 few.n,
@@ -130,13 +130,13 @@ fitted_beta t s I L z = by (table_of 1 t s I (lengths_of L)) refl
 
 -- ---- what a call leaves, by its number
 module _ (l : Left) (a : Answer) (L : Lent) (results : List Float) (e : left a L ≡ l) where
-  pub unfitted-done : (a.number ≡ 0 → ⊥) → done a L.rows L.matrices L.terms results ≡ done_of l results
+  pub unfitted_done : (a.number ≡ 0 → ⊥) → done a L.rows L.matrices L.terms results ≡ done_of l results
   unfolding done_of results_by
-  unfitted-done h = rw (← e, ne_eqb a.number 0 h) refl
+  unfitted_done h = rw (← e, ne_eqb a.number 0 h) refl
 
-  pub fitted-done : (after : List Float) → a.number ≡ 0 → after ≡ laid (numbers_of a L.results) results → done a L.rows L.matrices L.terms after ≡ done_of l results
+  pub fitted_done : (after : List Float) → a.number ≡ 0 → after ≡ laid (numbers_of a L.results) results → done a L.rows L.matrices L.terms after ≡ done_of l results
   unfolding done_of results_by
-  fitted-done after h q = rw (← e, eq-eqb a.number 0 h, q) refl
+  fitted_done after h q = rw (← e, eq-eqb a.number 0 h, q) refl
 
 -- the fit's own results were lent with room, and it kept their lengths
 module _ (t : Settings) (s : Shape) (I : Inputs) (L M : Lent) (a : Answer) (results : List Float) (e : left a M ≡ call_of t s I L) (z : a.number ≡ 0) where

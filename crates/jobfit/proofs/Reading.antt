@@ -15,7 +15,7 @@ use Rattle.job.specs.Lists.{laid}
 use Rattle.job.specs.Format.{obs, cols, rows_in, start_of}
 use Rattle.job.specs.Faults.{fault_of}
 use Rattle.job.specs.Job.{settings_of, sparse_of, job_of, faulty, sound, read_by, read_of}
-use Rattle.job.proofs.ListLaws.{counts_length_lem, laid-length}
+use Rattle.job.proofs.ListLaws.{counts_length_lem, laid_length}
 use Rattle.job.proofs.RowLaws.{Fits, sound_fits, row_starts, columns_before, values_before}
 use Rattle.reader.specs.declared.whole.Header.{Header}
 use Rattle.reader.specs.declared.whole.Found.{Found}
@@ -66,7 +66,7 @@ entries_few s f = omega (arith, row_starts s (rows_in s), f.ends, f.fitting.0.0)
 
 -- so many entries are there in a list over the front of which another was laid
 laid_holds : {A : Type 0} (n : ℕ) (xs b : List A) → length xs ≤ length b → n ≤ length b → n ≤ length (laid xs b)
-laid_holds n xs b h l = rw (laid-length xs b h) l
+laid_holds n xs b h l = rw (laid_length xs b h) l
 
 -- another theta in lent lists
 abbrev pub beside : List Float → Inputs → Inputs
@@ -145,8 +145,8 @@ unfolding header_of
 header_settings s = refl
 
 module _ (s : List ℕ) (b a : Inputs) (g : Found) (room : roomy b ≡ true) (d : ReadDone s b g a) where
-  pub read-refused : (r c : ℕ) → g.reading ≡ Refused r c → read_of s ≡ faulty r c
-  read-refused r c t = read_faulty s r c (refused_fault s b a r c g room t d)
+  pub read_refused : (r c : ℕ) → g.reading ≡ Refused r c → read_of s ≡ faulty r c
+  read_refused r c t = read_faulty s r c (refused_fault s b a r c g room t d)
 
   module _ (h : Header) (t : g.reading ≡ Accepted h) where
     accepted : ReadSound s b h g a

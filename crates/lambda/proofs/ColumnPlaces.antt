@@ -87,8 +87,8 @@ module _ (s : Shape) (r : InRange s) (i j : ℕ) (b : InBlock s i j) where
   some = r.k_some i b.block
 
   -- an effect's number is below its group's size
-  pub effect-below : effect_in s i j < group_size s i
-  effect-below = mod-lt (j - first_effect s i) some
+  pub effect_below : effect_in s i j < group_size s i
+  effect_below = mod-lt (j - first_effect s i) some
 
   -- the column's rows end with a group of the block
   in_rows : j + (column_in s i j).count ≤ effects_of s
@@ -98,13 +98,13 @@ module _ (s : Shape) (r : InRange s) (i j : ℕ) (b : InBlock s i j) where
       let d = j - first_effect s i in
       let next : first_effect s i + (s.m !! i) * k ≡ first_effect s (i + 1) = effect_step s i (first_effect s i) refl in
       let group : d / k < s.m !! i = (div-lt_iff_lt-mul some).1 (omega (arith, next, b.begun, b.ends)) in
-      omega (arith, next, b.begun, div-add-mod' d k, row_fits (d / k) (s.m !! i) k group, effect-below, total_grows (block_effects s) (i + 1) s.count (omega (arith, b.block)))
+      omega (arith, next, b.begun, div-add-mod' d k, row_fits (d / k) (s.m !! i) k group, effect_below, total_grows (block_effects s) (i + 1) s.count (omega (arith, b.block)))
 
   -- its numbers end within the block's
-  in-theta : (column_in s i j).first + (column_in s i j).count ≤ theta_length s
+  in_theta : (column_in s i j).first + (column_in s i j).count ≤ theta_length s
   unfolding column_in
-  in-theta =
-      omega (arith, column_packed (group_size s i) (effect_in s i j) (r.k_few i b.block) effect-below, theta_step s i (first_theta s i) refl, total_grows (block_thetas s) (i + 1) s.count (omega (arith, b.block)))
+  in_theta =
+      omega (arith, column_packed (group_size s i) (effect_in s i j) (r.k_few i b.block) effect_below, theta_step s i (first_theta s i) refl, total_grows (block_thetas s) (i + 1) s.count (omega (arith, b.block)))
 
 -- ---- column j
 pub column_rows : (s : Shape) (j : ℕ) → InRange s → j < effects_of s → j + (column_of s j).count ≤ effects_of s
@@ -113,7 +113,7 @@ column_rows s j r l = in_rows s r (block_of s j) j (block_of_lem s j r l)
 
 pub column_theta : (s : Shape) (j : ℕ) → InRange s → j < effects_of s → (column_of s j).first + (column_of s j).count ≤ theta_length s
 unfolding column_of
-column_theta s j r l = in-theta s r (block_of s j) j (block_of_lem s j r l)
+column_theta s j r l = in_theta s r (block_of s j) j (block_of_lem s j r l)
 
 -- ---- the blocks passed on the way to effect j: the next is block i, of k effects a group, with `left` effects before j and its numbers of theta from `first` on
 pub record Passed (s : Shape) (j k effects left first i : ℕ) : Type 0 where

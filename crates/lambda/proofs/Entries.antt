@@ -177,8 +177,8 @@ module _ (s : Shape) (theta u : List Float) (q j : ℕ) (b X : List Float) (r : 
       (lt_or_ge i (j + count)))
       (lt_or_ge i j)
 
-  pub times-step : W ≡ fill_to q (times_to s theta u (j + 1)) b
-  times-step =
+  pub times_step : W ≡ fill_to q (times_to s theta u (j + 1)) b
+  times_step =
       fill_is q (times_to s theta u (j + 1)) b W h (length_fillat j count _ X ∙ long) inside
       (λ i m. fillat_above j count _ X i (omega (arith, within)) ∙ rw x (fill_past q (times_to s theta u j) b i m))
 
@@ -187,19 +187,19 @@ module _ (s : Shape) (theta S : List Float) (k : Column) (q c o : ℕ) (b X : Li
   pub right_end : X ≡ fill_at o q (right_by k.first k.count theta q S c) b → X ≡ fill_at (c * q) q (right_column_at s theta S c) b
   right_end x = x ∙ rw eo (fillat_cong (c * q) q _ _ b (λ i m. rw (e, eq) (right_by_lem s theta S c i r (omega (arith, eq)))))
 
-  pub right-end-one : k.count ≡ 1 → X ≡ fill_at o q (right_one (theta ! k.first) q S c) b → X ≡ fill_at (c * q) q (right_column_at s theta S c) b
-  right-end-one n x = right_end (x ∙ fillat_cong o q _ _ b (λ i m. rw n (right_one_lem k.first theta S q c i)))
+  pub right_end_one : k.count ≡ 1 → X ≡ fill_at o q (right_one (theta ! k.first) q S c) b → X ≡ fill_at (c * q) q (right_column_at s theta S c) b
+  right_end_one n x = right_end (x ∙ fillat_cong o q _ _ b (λ i m. rw n (right_one_lem k.first theta S q c i)))
 
-  pub system-end : X ≡ fill_at o q (system_by k.first k.count theta q S c) b → X ≡ fill_at (c * q) q (system_at s theta S c) b
-  system-end x = x ∙ rw eo (fillat_cong (c * q) q _ _ b (λ i m. rw (e, eq) (system_by_lem s theta S c i r (omega (arith, eq)))))
+  pub system_end : X ≡ fill_at o q (system_by k.first k.count theta q S c) b → X ≡ fill_at (c * q) q (system_at s theta S c) b
+  system_end x = x ∙ rw eo (fillat_cong (c * q) q _ _ b (λ i m. rw (e, eq) (system_by_lem s theta S c i r (omega (arith, eq)))))
 
-  pub system-end-one : k.count ≡ 1 → X ≡ fill_at o q (system_one (theta ! k.first) q S c) b → X ≡ fill_at (c * q) q (system_at s theta S c) b
-  system-end-one n x = system-end (x ∙ fillat_cong o q _ _ b (λ i m. rw n (system_one_lem k.first theta S q c i)))
+  pub system_end_one : k.count ≡ 1 → X ≡ fill_at o q (system_one (theta ! k.first) q S c) b → X ≡ fill_at (c * q) q (system_at s theta S c) b
+  system_end_one n x = system_end (x ∙ fillat_cong o q _ _ b (λ i m. rw n (system_one_lem k.first theta S q c i)))
 
 -- ---- Λ is one number times the unit matrix
 module _ (s : Shape) (theta : List Float) (r : InRange s) (n : s.count ≡ 1) (k : s.k !! 0 ≡ 1) where
-  count-one : (j : ℕ) → j < effects_of s → (column_of s j).count ≡ 1
-  count-one j l = ap (λ (c : Column). c.count) (one_column s j r n k l)
+  count_one : (j : ℕ) → j < effects_of s → (column_of s j).count ≡ 1
+  count_one j l = ap (λ (c : Column). c.count) (one_column s j r n k l)
 
   diagonal : (j : ℕ) → j < effects_of s → lambda_at s theta j j ≡ theta ! 0
   diagonal j l =
@@ -207,17 +207,17 @@ module _ (s : Shape) (theta : List Float) (r : InRange s) (n : s.count ≡ 1) (k
       let first : (column_of s j).first ≡ 0 = ap (λ (c : Column). c.first) (one_column s j r n k l) in
       here ∙ rw first refl
 
-  pub transposed-one : (v : List Float) (j : ℕ) → j < effects_of s → scaled_at (theta ! 0) v j ≡ lambda_transposed_at s theta v j
+  pub transposed_one : (v : List Float) (j : ℕ) → j < effects_of s → scaled_at (theta ! 0) v j ≡ lambda_transposed_at s theta v j
   unfolding lambda_transposed_at transposed_term scaled_at sum_to
-  transposed-one v j l =
-      sym (column_sum s j (transposed_term s theta v j) r l ∙ rw (count-one j l, add-zero j, diagonal j l) refl)
+  transposed_one v j l =
+      sym (column_sum s j (transposed_term s theta v j) r l ∙ rw (count_one j l, add-zero j, diagonal j l) refl)
 
-  pub times-one : (u : List Float) (i : ℕ) → i < effects_of s → scaled_at (theta ! 0) u i ≡ lambda_times_at s theta u i
+  pub times_one : (u : List Float) (i : ℕ) → i < effects_of s → scaled_at (theta ! 0) u i ≡ lambda_times_at s theta u i
   unfolding lambda_times_at across_row times_term scaled_at sum_to
-  times-one u i l =
+  times_one u i l =
       sym
       (where_stretch (λ j. is_entry s i j) (times_term s theta u i) (effects_of s) i 1 (omega arith)
-      (λ j m. entry_past s i j (omega (arith, count-one j (omega arith))))
+      (λ j m. entry_past s i j (omega (arith, count_one j (omega arith))))
       (λ j m. on-diagonal j m)
       (λ j m g. entry_above s i j (omega arith))
       ∙ rw (add-zero i, diagonal i l) refl)
@@ -225,7 +225,7 @@ module _ (s : Shape) (theta : List Float) (r : InRange s) (n : s.count ≡ 1) (k
       on-diagonal : (j : ℕ) → j < 1 → is_entry s i (i + j) ≡ true
       on-diagonal j m =
           let z : j ≡ 0 = omega arith in
-          rw (z, add-zero i) (rw (add-zero i) at (entry_in s i 0 (omega (arith, count-one i l))))
+          rw (z, add-zero i) (rw (add-zero i) at (entry_in s i 0 (omega (arith, count_one i l))))
 
 -- one number of v more is multiplied in place
 pub scaled_step : (x : Float) (v : List Float) (j : ℕ) (X : List Float) → X ≡ fill_to j (scaled_at x v) v → set X j (zero_f ⊕ (x ⊗ (X ! j))) ≡ fill_to (j + 1) (scaled_at x v) v
@@ -246,10 +246,10 @@ fill_same q f g b X h p e =
     (λ i l. ap (λ (y : List Float). y ! i) e ∙ fill_past q f b i l)
 
 module _ (s : Shape) (theta : List Float) (q : ℕ) (r : InRange s) (one : is_single s ≡ true) (e : q ≡ effects_of s) where
-  pub transposed-single : (v X : List Float) → q ≤ length v → X ≡ fill_to q (scaled_at (theta ! 0) v) v → X ≡ fill_to q (lambda_transposed_at s theta v) v
-  transposed-single v X h x =
-      fill_same q _ _ v X h (λ i l. transposed-one s theta r (single_is s one).0 (single_is s one).1 v i (omega (arith, e))) x
+  pub transposed_single : (v X : List Float) → q ≤ length v → X ≡ fill_to q (scaled_at (theta ! 0) v) v → X ≡ fill_to q (lambda_transposed_at s theta v) v
+  transposed_single v X h x =
+      fill_same q _ _ v X h (λ i l. transposed_one s theta r (single_is s one).0 (single_is s one).1 v i (omega (arith, e))) x
 
-  pub times-single : (u b X : List Float) → q ≤ length b → X ≡ fill_to q (scaled_at (theta ! 0) u) b → X ≡ fill_to q (lambda_times_at s theta u) b
-  times-single u b X h x =
-      fill_same q _ _ b X h (λ i l. times-one s theta r (single_is s one).0 (single_is s one).1 u i (omega (arith, e))) x
+  pub times_single : (u b X : List Float) → q ≤ length b → X ≡ fill_to q (scaled_at (theta ! 0) u) b → X ≡ fill_to q (lambda_times_at s theta u) b
+  times_single u b X h x =
+      fill_same q _ _ b X h (λ i l. times_one s theta r (single_is s one).0 (single_is s one).1 u i (omega (arith, e))) x

@@ -21,10 +21,10 @@ module _ (most k : ℕ) (b : Bool) (e : b ≡ within 1 most k) where
       let t : (leb 1 k ≡ true) × (leb k most ≡ true) = both (sym e ∙ h) in
       leb-true k most t.1
 
-  pub when-in : (x y : ℕ) → b ≡ true → y ≡ x → y ≡ when_in most k x
+  pub when_in_lem : (x y : ℕ) → b ≡ true → y ≡ x → y ≡ when_in most k x
   unfolding when_in
-  when-in x y h q = rw (sym e ∙ h) q
+  when_in_lem x y h q = rw (sym e ∙ h) q
 
-  pub when-out : (x : ℕ) → b ≡ false → 0 ≡ when_in most k x
+  pub when_out : (x : ℕ) → b ≡ false → 0 ≡ when_in most k x
   unfolding when_in
-  when-out x h = rw (sym e ∙ h) refl
+  when_out x h = rw (sym e ∙ h) refl

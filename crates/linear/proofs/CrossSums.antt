@@ -33,14 +33,14 @@ unfoldable pub cross_to : List Float → ℕ → ℕ → List Float → ℕ → 
 cross_to x p n w a b i k = sum_to i (column_term x p (build (xw_at x p w a) n) (b + k))
 
 module _ (x : List Float) (p n : ℕ) (w : List Float) (a b count : ℕ) where
-  pub cross-none : build zero_at count ≡ build (cross_to x p n w a b 0) count
+  pub cross_none : build zero_at count ≡ build (cross_to x p n w a b 0) count
   unfolding cross_to
-  cross-none = build_cong zero_at (cross_to x p n w a b 0) count (λ k l. sum_none _)
+  cross_none = build_cong zero_at (cross_to x p n w a b 0) count (λ k l. sum_none _)
 
-  pub cross-step : (i o c : ℕ) (v : Float) (s : List Float) → i < n → o ≡ i * p → c ≡ o + b → v ≡ (x ! (o + a)) ⊗ (w ! i) → s ≡ build (cross_to x p n w a b i) count
+  pub cross_step : (i o c : ℕ) (v : Float) (s : List Float) → i < n → o ≡ i * p → c ≡ o + b → v ≡ (x ! (o + a)) ⊗ (w ! i) → s ≡ build (cross_to x p n w a b i) count
       → fill_to count (added_at v x c s) s ≡ build (cross_to x p n w a b (i + 1)) count
   unfolding cross_to
-  cross-step i o c v s l eo ec ev e =
+  cross_step i o c v s l eo ec ev e =
       fill_build count (added_at v x c s) s (ap length e ∙ build_length (cross_to x p n w a b i) count)
       ∙ build_cong (added_at v x c s) (cross_to x p n w a b (i + 1)) count turn
     where
@@ -54,9 +54,9 @@ module _ (x : List Float) (p n : ℕ) (w : List Float) (a b count : ℕ) where
           let was : s ! k ≡ cross_to x p n w a b i k = ap (λ (y : List Float). y ! k) e ∙ build_at (cross_to x p n w a b i) count k m in
           ap (λ (y : Float). (s ! k) ⊕ y) term ∙ sum_step (column_term x p (build (xw_at x p w a) n) (b + k)) i (s ! k) was
 
-  pub cross-done : (i : ℕ) (s : List Float) → s ≡ build (cross_to x p n w a b i) count → i ≤ n → n ≤ i → s ≡ build (cross_from x p n w a b) count
+  pub cross_done : (i : ℕ) (s : List Float) → s ≡ build (cross_to x p n w a b i) count → i ≤ n → n ≤ i → s ≡ build (cross_from x p n w a b) count
   unfolding cross_to cross_at
-  cross-done i s e l m = e ∙ ap (λ (j : ℕ). build (cross_to x p n w a b j) count) (le_antisymm l m)
+  cross_done i s e l m = e ∙ ap (λ (j : ℕ). build (cross_to x p n w a b j) count) (le_antisymm l m)
 
 -- ---- the sums stored, and some columns more of a row
 
@@ -95,11 +95,11 @@ pub row_more : (p : ℕ) (f : ℕ → Float) (b r : ℕ) (v w : List Float) → 
 row_more p f b r v w h had k l = ⊎_elim (λ (m : k < b). h.still k m (had k m)) (λ (m : b ≤ k). h.more k m l) (lt_or_ge k b)
 
 module _ (p : ℕ) (f : ℕ → ℕ → Float) (a o e : ℕ) (v ys : List Float) (less : a < p) (start : o ≡ a * p) (end : e ≡ o + p) (fits : e ≤ length v) (made : RowLeft a (f a) (mid_of o (e - o) v) ys) where
-  ys-long : length ys ≡ p
-  ys-long = made.len ∙ mid_len o e v fits ∙ omega arith
+  ys_long : length ys ≡ p
+  ys_long = made.len ∙ mid_len o e v fits ∙ omega arith
 
   wrote : Wrote o p ys v (put_mid o (e - o) v ys)
-  wrote = part_wrote o p e v ys end fits ys-long
+  wrote = part_wrote o p e v ys end fits ys_long
 
   pub rows_long : length (put_mid o (e - o) v ys) ≡ length v
   rows_long = wrote.only.len

@@ -10,12 +10,12 @@ use Rattle.model.specs.Inputs.{Inputs}
 use Rattle.model.specs.declared.sizes.Shape.{Shape}
 use Rattle.model.specs.declared.sizes.Settings.{Settings}
 use Rattle.job.specs.Lists.{laid}
-use Rattle.job.proofs.ListLaws.{laid-length}
+use Rattle.job.proofs.ListLaws.{laid_length}
 use Rattle.jobfit.specs.Done.{Done, done_for}
 use Rattle.jobcall.specs.Told.{Buffers, buffers, counts_length, counts_of, told_by}
 use Rattle.many.specs.Many.{part_of, placed_in, response_at, with_y, block_length, lent_to, back_from, after_one, after_to}
 use Rattle.many.proofs.Parts.{part_length, placed_length, part_own, part_before, rest_kept, block_fits}
-use Rattle.many.proofs.Single.{counts_length_lem, done-length, work-lengths, done_work_free}
+use Rattle.many.proofs.Single.{counts_length_lem, done_length, work_lengths, done_work_free}
 
 -- every buffer is as long as it was
 pub record SameLengths (A B : Buffers) : Type 0 where
@@ -32,58 +32,58 @@ pub record RoomIn (r : ℕ) (t : Settings) (B : Buffers) : Type 0 where
 
 module _ (t : Settings) (s : Shape) (I : Inputs) where
   -- the lists of response i
-  abbrev pub listsAt : ℕ → Inputs
-  listsAt i = with_y (response_at t.n i I.y) I
+  abbrev pub lists_at : ℕ → Inputs
+  lists_at i = with_y (response_at t.n i I.y) I
 
   -- its single call, with its own part of the buffers B
-  abbrev pub doneAt : ℕ → Buffers → Done
-  doneAt i B = done_for t s (listsAt i) B.rows B.matrices B.terms (part_of (i * block_length t) (block_length t) B.results)
+  abbrev pub done_at : ℕ → Buffers → Done
+  done_at i B = done_for t s (lists_at i) B.rows B.matrices B.terms (part_of (i * block_length t) (block_length t) B.results)
 
   -- ---- after one response
   module _ (i : ℕ) (B : Buffers) (results : i * block_length t + block_length t ≤ length B.results) (counts : i * counts_length + counts_length ≤ length B.counts) where
     abbrev told_counts : List ℕ
-    told_counts = laid (counts_of (doneAt i B).answer 0) (part_of (i * counts_length) counts_length B.counts)
+    told_counts = laid (counts_of (done_at i B).answer 0) (part_of (i * counts_length) counts_length B.counts)
 
-    one_is : after_one t s I i B ≡ buffers (doneAt i B).rows (doneAt i B).matrices (doneAt i B).terms (placed_in (i * block_length t) (block_length t) (doneAt i B).results B.results) (placed_in (i * counts_length) counts_length told_counts B.counts)
+    one_is : after_one t s I i B ≡ buffers (done_at i B).rows (done_at i B).matrices (done_at i B).terms (placed_in (i * block_length t) (block_length t) (done_at i B).results B.results) (placed_in (i * counts_length) counts_length told_counts B.counts)
     unfolding after_one back_from told_by lent_to
     one_is = refl
 
-    block_long : length (doneAt i B).results ≡ block_length t
-    block_long = done-length t s (listsAt i) B.rows B.matrices B.terms (part_of (i * block_length t) (block_length t) B.results) ∙ part_length (i * block_length t) (block_length t) B.results results
+    block_long : length (done_at i B).results ≡ block_length t
+    block_long = done_length t s (lists_at i) B.rows B.matrices B.terms (part_of (i * block_length t) (block_length t) B.results) ∙ part_length (i * block_length t) (block_length t) B.results results
 
     told_long : length told_counts ≡ counts_length
     told_long =
         let room = part_length (i * counts_length) counts_length B.counts counts in
-        laid-length (counts_of (doneAt i B).answer 0) (part_of (i * counts_length) counts_length B.counts) (rw (counts_length_lem (doneAt i B).answer 0, room) (omega arith)) ∙ room
+        laid_length (counts_of (done_at i B).answer 0) (part_of (i * counts_length) counts_length B.counts) (rw (counts_length_lem (done_at i B).answer 0, room) (omega arith)) ∙ room
 
     one_lengths : SameLengths (after_one t s I i B) B
     one_lengths =
-        let work = work-lengths t s (listsAt i) B.rows B.matrices B.terms (part_of (i * block_length t) (block_length t) B.results) in
+        let work = work_lengths t s (lists_at i) B.rows B.matrices B.terms (part_of (i * block_length t) (block_length t) B.results) in
         rw one_is
         (record {
           rows = work.rows';
           matrices = work.matrices';
           terms = work.terms';
-          results = placed_length (i * block_length t) (block_length t) (doneAt i B).results B.results block_long results;
+          results = placed_length (i * block_length t) (block_length t) (done_at i B).results B.results block_long results;
           counts = placed_length (i * counts_length) counts_length told_counts B.counts told_long counts;
         })
 
     -- its own parts
-    own_block : part_of (i * block_length t) (block_length t) (after_one t s I i B).results ≡ (doneAt i B).results
-    own_block = rw one_is (part_own (i * block_length t) (block_length t) (doneAt i B).results B.results block_long results)
+    own_block : part_of (i * block_length t) (block_length t) (after_one t s I i B).results ≡ (done_at i B).results
+    own_block = rw one_is (part_own (i * block_length t) (block_length t) (done_at i B).results B.results block_long results)
 
     own_counts : part_of (i * counts_length) counts_length (after_one t s I i B).counts ≡ told_counts
     own_counts = rw one_is (part_own (i * counts_length) counts_length told_counts B.counts told_long counts)
 
     -- the parts before and behind
     block_before : (a m : ℕ) → a + m ≤ i * block_length t → part_of a m (after_one t s I i B).results ≡ part_of a m B.results
-    block_before a m h = rw one_is (part_before (i * block_length t) (block_length t) (doneAt i B).results B.results block_long results a m h)
+    block_before a m h = rw one_is (part_before (i * block_length t) (block_length t) (done_at i B).results B.results block_long results a m h)
 
     counts_before : (a m : ℕ) → a + m ≤ i * counts_length → part_of a m (after_one t s I i B).counts ≡ part_of a m B.counts
     counts_before a m h = rw one_is (part_before (i * counts_length) counts_length told_counts B.counts told_long counts a m h)
 
     block_behind : (a : ℕ) → i * block_length t + block_length t ≤ a → drop a (after_one t s I i B).results ≡ drop a B.results
-    block_behind a h = rw one_is (rest_kept (i * block_length t) (block_length t) (doneAt i B).results B.results block_long results a h)
+    block_behind a h = rw one_is (rest_kept (i * block_length t) (block_length t) (done_at i B).results B.results block_long results a h)
 
     counts_behind : (a : ℕ) → i * counts_length + counts_length ≤ a → drop a (after_one t s I i B).counts ≡ drop a B.counts
     counts_behind a h = rw one_is (rest_kept (i * counts_length) counts_length told_counts B.counts told_long counts a h)
@@ -170,13 +170,13 @@ module _ (t : Settings) (s : Shape) (I : Inputs) where
       unfolding part_of
       own-told = ap (take counts_length) (counts_rest i (i * counts_length) (le_of_suc-le h) (le_refl _))
 
-      pub free : ((doneAt i turn).answer ≡ (doneAt i B).answer) × ((doneAt i turn).results ≡ (doneAt i B).results)
+      pub free : ((done_at i turn).answer ≡ (done_at i B).answer) × ((done_at i turn).results ≡ (done_at i B).results)
       free =
           rw own-part
-          (done_work_free t s (listsAt i) B.rows B.matrices B.terms turn.rows turn.matrices turn.terms (part_of (i * block_length t) (block_length t) B.results) kept.rows kept.matrices kept.terms)
+          (done_work_free t s (lists_at i) B.rows B.matrices B.terms turn.rows turn.matrices turn.terms (part_of (i * block_length t) (block_length t) B.results) kept.rows kept.matrices kept.terms)
 
       -- the block of response i: the results of its single call
-      pub block-alone : part_of (i * block_length t) (block_length t) (after_to t s I r B).results ≡ (doneAt i B).results
+      pub block-alone : part_of (i * block_length t) (block_length t) (after_to t s I r B).results ≡ (done_at i B).results
       unfolding after_to
       block-alone =
           block_stays i r h (le_refl r)
@@ -184,7 +184,7 @@ module _ (t : Settings) (s : Shape) (I : Inputs) where
           ∙ free.1
 
       -- its counts: those of its single call
-      pub counts_alone : part_of (i * counts_length) counts_length (after_to t s I r B).counts ≡ laid (counts_of (doneAt i B).answer 0) (part_of (i * counts_length) counts_length B.counts)
+      pub counts_alone : part_of (i * counts_length) counts_length (after_to t s I r B).counts ≡ laid (counts_of (done_at i B).answer 0) (part_of (i * counts_length) counts_length B.counts)
       unfolding after_to
       counts_alone =
           counts_stay i r h (le_refl r)

@@ -17,7 +17,7 @@ use Rattle.table.specs.Tests.{good_count}
 use Rattle.table.specs.Table.{table_of}
 use Rattle.table.specs.declared.verdicts.LentLengths.{LentLengths}
 use Rattle.table.specs.declared.verdicts.Verdict.TheVariants.{Accepted}
-use Rattle.table.proofs.Accepting.{line-1, line_8}
+use Rattle.table.proofs.Accepting.{line_1, line_8}
 use Rattle.table.proofs.Exactly.{count_exactly}
 use Rattle.family.specs.declared.carried.CarriedFamily.{CarriedFamily}
 use Rattle.family.specs.declared.carried.CarriedLink.{CarriedLink}
@@ -31,13 +31,13 @@ use Rattle.many.proofs.Each.{all_sound, room_in}
 
 -- ---- how much of beta
 module _ (r : ℕ) (t : Settings) (results counts block : ℕ) (e : block ≡ block_length t) where
-  pub no-results : results < r * block → 0 ≡ beta_for r t results counts
+  pub no_results : results < r * block → 0 ≡ beta_for r t results counts
   unfolding beta_for
-  no-results h = let q : leb (r * block_length t) results ≡ false = lt-leb (r * block_length t) results (rw (← e) h) in rw q refl
+  no_results h = let q : leb (r * block_length t) results ≡ false = lt-leb (r * block_length t) results (rw (← e) h) in rw q refl
 
-  pub no-counts : r * block ≤ results → counts < r * 14 → 0 ≡ beta_for r t results counts
+  pub no_counts_lem : r * block ≤ results → counts < r * 14 → 0 ≡ beta_for r t results counts
   unfolding beta_for
-  no-counts h l =
+  no_counts_lem h l =
       let q : leb (r * block_length t) results ≡ true = le-leb (r * block_length t) results (rw (← e) h) in
       rw (q, lt-leb (r * counts_length) counts l) refl
 
@@ -70,7 +70,7 @@ module _ (r : ℕ) (t : Settings) (s : Shape) (I : Inputs) (L M : LentLengths) w
   too_many q = by (good_sizes t s) refl
     where
       by : (b : Bool) → good_sizes t s ≡ b → table_of r t s I L ≡ table_of r t s I M
-      by false z = line-1 r t s I L z ∙ sym (line-1 r t s I M z)
+      by false z = line_1 r t s I L z ∙ sym (line_1 r t s I M z)
       by true z = line_8 r t s I L z q ∙ sym (line_8 r t s I M z q)
 
 pub few_verdict : (r : ℕ) (t : Settings) (s : Shape) (I : Inputs) (rows matrices terms results counts : ℕ)

@@ -30,52 +30,52 @@ use Rattle.table.proofs.Accepting.{is_accepted, line-6, past-lines, accepted_sou
 use Rattle.table.proofs.Exactly.{sizes_exactly, count_exactly, inputs_exactly, results_exactly, work_exactly, numbers_exactly, range_exactly, start_exactly}
 use Rattle.call.specs.Call.{lengths_of}
 use Rattle.jobfit.specs.Done.{lent_for}
-use Rattle.jobfit.proofs.Lent.{beta-lent}
+use Rattle.jobfit.proofs.Lent.{beta_lent}
 use Rattle.jobcall.specs.Told.{Buffers, counts_length}
 use Rattle.many.specs.Many.{response_at, with_y, block_length, beta_for, lengths_for, verdict_for}
 use Rattle.many.proofs.Parts.{part_length, all_in_part, block_fits}
 use Rattle.many.proofs.Single.{zeros_length}
-use Rattle.many.proofs.Alone.{RoomIn, listsAt}
+use Rattle.many.proofs.Alone.{RoomIn, lists_at}
 
 -- ---- the same design with one other response
 module _ (r : ℕ) (t : Settings) (s : Shape) (I : Inputs) (L : LentLengths) (f : CarriedFamily) (l : CarriedLink) (e : table_of r t s I L ≡ Accepted f l) where
   abbrev found : Sound r t s I L f l
   found = accepted_sound r t s I L f l e
 
-  sizes-good : good_sizes t s ≡ true
-  sizes-good = (sizes_exactly t s).1 found.sized
+  sizes_good : good_sizes t s ≡ true
+  sizes_good = (sizes_exactly t s).1 found.sized
 
-  count-good : good_count r ≡ true
-  count-good = (count_exactly r).1 found.responses
+  count_good : good_count r ≡ true
+  count_good = (count_exactly r).1 found.responses
 
-  inputs-good : good_inputs r t s I ≡ true
-  inputs-good = (inputs_exactly r t s I).1 found.inputs_fit
+  inputs_good : good_inputs r t s I ≡ true
+  inputs_good = (inputs_exactly r t s I).1 found.inputs_fit
 
-  results-good : good_results r t L ≡ true
-  results-good = (results_exactly r t L).1 found.results_fit
+  results_good : good_results r t L ≡ true
+  results_good = (results_exactly r t L).1 found.results_fit
 
-  work-good : good_work t L ≡ true
-  work-good = (work_exactly t L).1 found.work_fits
+  work_good : good_work t L ≡ true
+  work_good = (work_exactly t L).1 found.work_fits
 
-  rows-good : good_rows I.starts I.columns t.rows t.n ≡ true
-  rows-good = by (good_rows I.starts I.columns t.rows t.n) refl
+  rows_good : good_rows I.starts I.columns t.rows t.n ≡ true
+  rows_good = by (good_rows I.starts I.columns t.rows t.n) refl
     where
       by : (b : Bool) → good_rows I.starts I.columns t.rows t.n ≡ b → good_rows I.starts I.columns t.rows t.n ≡ true
       by true q = q
-      by false q = absurd (ff (ap is_accepted (sym (line-6 r t s I L sizes-good count-good inputs-good results-good work-good q) ∙ e)))
+      by false q = absurd (ff (ap is_accepted (sym (line-6 r t s I L sizes_good count_good inputs_good results_good work_good q) ∙ e)))
 
-  numbers-good : good_numbers I ≡ true
-  numbers-good = (numbers_exactly I).1 found.numbers
+  numbers_good : good_numbers I ≡ true
+  numbers_good = (numbers_exactly I).1 found.numbers
 
-  pub one-accepted : (y : List Float) (M : LentLengths) → length y ≡ t.n → AllFinite y → AllInRange f y → ResultsFit 1 t M → WorkFits t M → table_of 1 t s (with_y y I) M ≡ Accepted f l
-  one-accepted y M long fin ranged results work =
+  pub one_accepted : (y : List Float) (M : LentLengths) → length y ≡ t.n → AllFinite y → AllInRange f y → ResultsFit 1 t M → WorkFits t M → table_of 1 t s (with_y y I) M ≡ Accepted f l
+  one_accepted y M long fin ranged results work =
       let g = found.inputs_fit in
       let n = found.numbers in
       let one : good_inputs 1 t s (with_y y I) ≡ true = (inputs_exactly 1 t s (with_y y I)).1 (record { theta = g.theta; y = long ∙ sym (one-mul t.n); weights = g.weights; offset = g.offset; x = g.x; starts = g.starts; columns = g.columns; values = g.values }) in
       let numbers : good_numbers (with_y y I) ≡ true = (numbers_exactly (with_y y I)).1 (record { theta = n.theta; y = fin; weights = n.weights; offset = n.offset; x = n.x; values = n.values }) in
       let inside : all_in_range y (carried_family t.family) ≡ true = rw found.family ((range_exactly f y).1 ranged) in
       let start : start_fits t.start I.weights (carried_family t.family) ≡ true = rw found.family ((start_exactly t.start I.weights f).1 found.started) in
-      past-lines 1 t s (with_y y I) M sizes-good ((count_exactly 1).1 (omega arith, omega arith)) one ((results_exactly 1 t M).1 results) ((work_exactly t M).1 work) rows-good numbers found.valid inside start
+      past-lines 1 t s (with_y y I) M sizes_good ((count_exactly 1).1 (omega arith, omega arith)) one ((results_exactly 1 t M).1 results) ((work_exactly t M).1 work) rows_good numbers found.valid inside start
       ∙ rw (found.family, found.link) refl
 
 -- ---- a call of r responses that is accepted
@@ -114,7 +114,7 @@ module _ (r : ℕ) (t : Settings) (s : Shape) (I : Inputs) (B : Buffers) (f : Ca
           let q : t.rows ≡ 1 * t.rows = sym (one-mul t.rows) in
           let n : t.n ≡ 1 * t.n = sym (one-mul t.n) in
           record {
-            beta = zeros_length _ ∙ (sym (beta-lent t (length block) (block_length t) refl (rw b (omega arith))) ∙ p);
+            beta = zeros_length _ ∙ (sym (beta_lent t (length block) (block_length t) refl (rw b (omega arith))) ∙ p);
             se = zeros_length _ ∙ p;
             z = zeros_length _ ∙ p;
             u = zeros_length _ ∙ q;
@@ -131,9 +131,9 @@ module _ (r : ℕ) (t : Settings) (s : Shape) (I : Inputs) (B : Buffers) (f : Ca
           let g = all_sound.work_fits in
           record { rows = rw k g.rows; matrices = rw m g.matrices; terms = rw w g.terms }
 
-      pub each-accepted : table_of 1 t s (listsAt t s I i) (lengths_of (lent_for t rows matrices terms block)) ≡ Accepted f l
+      pub each-accepted : table_of 1 t s (lists_at t s I i) (lengths_of (lent_for t rows matrices terms block)) ≡ Accepted f l
       each-accepted =
-          one-accepted r t s I asked f l at_table (response_at t.n i I.y) (lengths_of (lent_for t rows matrices terms block))
+          one_accepted r t s I asked f l at_table (response_at t.n i I.y) (lengths_of (lent_for t rows matrices terms block))
           (part_length (i * t.n) t.n I.y inside)
           (all_in_part finite (i * t.n) t.n I.y inside all_sound.numbers.y)
           (all_in_part (in_range f) (i * t.n) t.n I.y inside all_sound.ranged)

@@ -26,9 +26,9 @@ use Rattle.job_back.proofs.Limits.{limited_bytes, limited_read}
 use Rattle.call.proofs.Higher.{limited, limited_table}
 use Rattle.jobfit.specs.Done.{inputs_of, Done}
 use Rattle.jobcall.specs.Told.{Buffers, buffers, Told, told, counts_length, counts_of, told_by}
-use Rattle.jobcall.proofs.Higher.{NoLower, as_before, done-same, done-grows, counts_grow}
+use Rattle.jobcall.proofs.Higher.{NoLower, as_before, done_same, done_grows, counts_grow}
 use Rattle.many.specs.Many.{part_of, placed_in, block_length, lent_to, back_from, after_one, after_to, beta_for, lengths_for, verdict_for, many_by, many_of, job_with_y, many_answered, fit_many_of}
-use Rattle.many.proofs.Alone.{RoomIn, listsAt, doneAt, free, block-alone, counts_alone}
+use Rattle.many.proofs.Alone.{RoomIn, lists_at, done_at, free, block-alone, counts_alone}
 use Rattle.many.proofs.Each.{room_in}
 
 -- the block of response i, and its counts, after a call
@@ -57,35 +57,35 @@ module _ (t : Settings) (s : Shape) (I : Inputs) (r : ℕ) (B : Buffers) (M : �
     room_again = record { results = room.results; counts = room.counts }
 
     module _ (i : ℕ) (h : i < r) where
-      block-limited : ((doneAt t s I i B).answer.number ≡ 13 → ⊥) → part_of (i * block_length t) (block_length t) (after_to (limited M t) s I r B).results ≡ part_of (i * block_length t) (block_length t) (after_to t s I r B).results
+      block-limited : ((done_at t s I i B).answer.number ≡ 13 → ⊥) → part_of (i * block_length t) (block_length t) (after_to (limited M t) s I r B).results ≡ part_of (i * block_length t) (block_length t) (after_to t s I r B).results
       block-limited n =
           block-alone (limited M t) s I r B room_again i h
-          ∙ (ap (λ (d : Done). d.results) (done-same t s (listsAt t s I i) B.rows B.matrices B.terms (part_of (i * block_length t) (block_length t) B.results) M higher few n)
+          ∙ (ap (λ (d : Done). d.results) (done_same t s (lists_at t s I i) B.rows B.matrices B.terms (part_of (i * block_length t) (block_length t) B.results) M higher few n)
           ∙ sym (block-alone t s I r B room i h))
 
-      counts-limited : ((doneAt t s I i B).answer.number ≡ 13 → ⊥) → part_of (i * counts_length) counts_length (after_to (limited M t) s I r B).counts ≡ part_of (i * counts_length) counts_length (after_to t s I r B).counts
+      counts-limited : ((done_at t s I i B).answer.number ≡ 13 → ⊥) → part_of (i * counts_length) counts_length (after_to (limited M t) s I r B).counts ≡ part_of (i * counts_length) counts_length (after_to t s I r B).counts
       counts-limited n =
           counts_alone (limited M t) s I r B room_again i h
-          ∙ (ap (λ (d : Done). laid (counts_of d.answer 0) (part_of (i * counts_length) counts_length B.counts)) (done-same t s (listsAt t s I i) B.rows B.matrices B.terms (part_of (i * block_length t) (block_length t) B.results) M higher few n)
+          ∙ (ap (λ (d : Done). laid (counts_of d.answer 0) (part_of (i * counts_length) counts_length B.counts)) (done_same t s (lists_at t s I i) B.rows B.matrices B.terms (part_of (i * block_length t) (block_length t) B.results) M higher few n)
           ∙ sym (counts_alone t s I r B room i h))
 
       counts_more : NoLower (part_of (i * counts_length) counts_length (after_to t s I r B).counts) (part_of (i * counts_length) counts_length (after_to (limited M t) s I r B).counts)
       counts_more =
           rw (counts_alone t s I r B room i h, counts_alone (limited M t) s I r B room_again i h)
-          (counts_grow _ _ _ _ (done-grows t s (listsAt t s I i) B.rows B.matrices B.terms (part_of (i * block_length t) (block_length t) B.results) M higher few))
+          (counts_grow _ _ _ _ (done_grows t s (lists_at t s I i) B.rows B.matrices B.terms (part_of (i * block_length t) (block_length t) B.results) M higher few))
 
-      number-told : part_of (i * counts_length) counts_length (after_to t s I r B).counts !! 0 ≡ (doneAt t s I i B).answer.number
+      number-told : part_of (i * counts_length) counts_length (after_to t s I r B).counts !! 0 ≡ (done_at t s I i B).answer.number
       unfolding counts_of laid
       number-told = rw (counts_alone t s I r B room i h) refl
 
-    one_limited : (j : ℕ) (A : Buffers) → ((doneAt t s I j A).answer.number ≡ 13 → ⊥) → after_one (limited M t) s I j A ≡ after_one t s I j A
+    one_limited : (j : ℕ) (A : Buffers) → ((done_at t s I j A).answer.number ≡ 13 → ⊥) → after_one (limited M t) s I j A ≡ after_one t s I j A
     unfolding after_one back_from told_by lent_to
     one_limited j A m =
         ap (λ (d : Done). buffers d.rows d.matrices d.terms (placed_in (j * block_length t) (block_length t) d.results A.results) (placed_in (j * counts_length) counts_length (laid (counts_of d.answer 0) (part_of (j * counts_length) counts_length A.counts)) A.counts))
-        (done-same t s (listsAt t s I j) A.rows A.matrices A.terms (part_of (j * block_length t) (block_length t) A.results) M higher few m)
+        (done_same t s (lists_at t s I j) A.rows A.matrices A.terms (part_of (j * block_length t) (block_length t) A.results) M higher few m)
 
     -- where none of the first j ends with 13, the buffers after them are the same
-    to_limited : (j : ℕ) → j ≤ r → ((i : ℕ) → i < j → (doneAt t s I i B).answer.number ≡ 13 → ⊥) → after_to (limited M t) s I j B ≡ after_to t s I j B
+    to_limited : (j : ℕ) → j ≤ r → ((i : ℕ) → i < j → (done_at t s I i B).answer.number ≡ 13 → ⊥) → after_to (limited M t) s I j B ≡ after_to t s I j B
     unfolding after_to
     to_limited zero h n = refl
     to_limited (suc j) h n =
@@ -93,42 +93,42 @@ module _ (t : Settings) (s : Shape) (I : Inputs) (r : ℕ) (B : Buffers) (M : �
         ∙ one_limited j (after_to t s I j B) (rw (free t s I r B room j h).0 (n j (le_refl _)))
 
   -- ---- the call
-  pub verdict-limited : verdict_for r (limited M t) s I B ≡ verdict_for r t s I B
+  pub verdict_limited : verdict_for r (limited M t) s I B ≡ verdict_for r t s I B
   unfolding verdict_for lengths_for beta_for
-  verdict-limited = limited_table r M t s I (lengths_for r t (length B.rows) (length B.matrices) (length B.terms) (length B.results) (length B.counts)) higher few
+  verdict_limited = limited_table r M t s I (lengths_for r t (length B.rows) (length B.matrices) (length B.terms) (length B.results) (length B.counts)) higher few
 
-  refused-limited : (x : Refusal) → verdict_for r t s I B ≡ Refused x → many_of r (limited M t) s I B ≡ many_of r t s I B
+  refused_limited : (x : Refusal) → verdict_for r t s I B ≡ Refused x → many_of r (limited M t) s I B ≡ many_of r t s I B
   unfolding many_of many_by
-  refused-limited x e = rw (verdict-limited, e) refl
+  refused_limited x e = rw (verdict_limited, e) refl
 
-  many-response : (i : ℕ) → i < r → (number_at i (many_of r t s I B) ≡ 13 → ⊥) → SameFor t i (many_of r (limited M t) s I B) (many_of r t s I B)
+  many_response : (i : ℕ) → i < r → (number_at i (many_of r t s I B) ≡ 13 → ⊥) → SameFor t i (many_of r (limited M t) s I B) (many_of r t s I B)
   unfolding many_of many_by
-  many-response i h n = by (verdict_for r t s I B) refl
+  many_response i h n = by (verdict_for r t s I B) refl
     where
       by : (x : Verdict) → verdict_for r t s I B ≡ x → SameFor t i (many_of r (limited M t) s I B) (many_of r t s I B)
-      by (Refused x) e = same_for t i _ _ (refused-limited x e)
+      by (Refused x) e = same_for t i _ _ (refused_limited x e)
       by (Accepted f l) e =
           let room = room_in r t s I B f l e in
-          let m : (doneAt t s I i B).answer.number ≡ 13 → ⊥ = λ z. n (rw e (number-told room i h ∙ z)) in
-          rw (verdict-limited, e) (record { block = block-limited room i h m; counts = counts-limited room i h m })
+          let m : (done_at t s I i B).answer.number ≡ 13 → ⊥ = λ z. n (rw e (number-told room i h ∙ z)) in
+          rw (verdict_limited, e) (record { block = block-limited room i h m; counts = counts-limited room i h m })
 
   many_more : (i : ℕ) → i < r → NoLower (counts_in i (many_of r t s I B)) (counts_in i (many_of r (limited M t) s I B))
   unfolding many_of many_by
   many_more i h = by (verdict_for r t s I B) refl
     where
       by : (x : Verdict) → verdict_for r t s I B ≡ x → NoLower (counts_in i (many_of r t s I B)) (counts_in i (many_of r (limited M t) s I B))
-      by (Refused x) e = rw (refused-limited x e) (as_before _)
-      by (Accepted f l) e = rw (verdict-limited, e) (counts_more (room_in r t s I B f l e) i h)
+      by (Refused x) e = rw (refused_limited x e) (as_before _)
+      by (Accepted f l) e = rw (verdict_limited, e) (counts_more (room_in r t s I B f l e) i h)
 
-  many-whole : ((i : ℕ) → i < r → number_at i (many_of r t s I B) ≡ 13 → ⊥) → many_of r (limited M t) s I B ≡ many_of r t s I B
+  many_whole : ((i : ℕ) → i < r → number_at i (many_of r t s I B) ≡ 13 → ⊥) → many_of r (limited M t) s I B ≡ many_of r t s I B
   unfolding many_of many_by
-  many-whole n = by (verdict_for r t s I B) refl
+  many_whole n = by (verdict_for r t s I B) refl
     where
       by : (x : Verdict) → verdict_for r t s I B ≡ x → many_of r (limited M t) s I B ≡ many_of r t s I B
-      by (Refused x) e = refused-limited x e
+      by (Refused x) e = refused_limited x e
       by (Accepted f l) e =
           let room = room_in r t s I B f l e in
-          rw (verdict-limited, e) (ap (told 0) (to_limited room r (le_refl r) (λ i h z. n i h (rw e (number-told room i h ∙ z)))))
+          rw (verdict_limited, e) (ap (told 0) (to_limited room r (le_refl r) (λ i h z. n i h (rw e (number-told room i h ∙ z)))))
 
 -- ---- the bytes of a sound job with r responses beside it, and a limit from its own to 1000; one that is not given counts as 100, with the inverse link as 1000
 module _ (s : List ℕ) (e : fault_of s ≡ Sound) (ys : List Float) (r : ℕ) (B : Buffers) (M : ℕ) (higher : limit_of (job_of s).settings.limit (job_of s).settings.link ≤ M) (few : M ≤ 1000) where
@@ -138,35 +138,35 @@ module _ (s : List ℕ) (e : fault_of s ≡ Sound) (ys : List Float) (r : ℕ) (
   abbrev lists_of : Inputs
   lists_of = inputs_of (job_with_y ys (job_of s))
 
-  sound-read : read_of s ≡ sound (job_of s)
+  sound_read : read_of s ≡ sound (job_of s)
   unfolding read_of read_by
-  sound-read = rw e refl
+  sound_read = rw e refl
 
   -- response by response: nothing is asked of the others
-  pub response-same : (i : ℕ) → i < r → (number_at i (fit_many_of s ys r B) ≡ 13 → ⊥) → SameFor (job_of s).settings i (fit_many_of (limited_bytes M s) ys r B) (fit_many_of s ys r B)
+  pub response_same : (i : ℕ) → i < r → (number_at i (fit_many_of s ys r B) ≡ 13 → ⊥) → SameFor (job_of s).settings i (fit_many_of (limited_bytes M s) ys r B) (fit_many_of s ys r B)
   unfolding fit_many_of many_answered
-  response-same i h n = by (leb counts_length (length B.counts)) refl
+  response_same i h n = by (leb counts_length (length B.counts)) refl
     where
       by : (b : Bool) → leb counts_length (length B.counts) ≡ b → SameFor (job_of s).settings i (fit_many_of (limited_bytes M s) ys r B) (fit_many_of s ys r B)
-      by true q = rw (q, limited_read s M e few, sound-read) (many-response asked.settings asked.shape lists_of r B M higher few i h (rw (q, sound-read) at n))
+      by true q = rw (q, limited_read s M e few, sound_read) (many_response asked.settings asked.shape lists_of r B M higher few i h (rw (q, sound_read) at n))
       by false q = rw q (same_for (job_of s).settings i (told 2 B) (told 2 B) refl)
 
   -- no count of the work of a response shrinks, whatever it came to
-  pub response-grows : (i : ℕ) → i < r → NoLower (counts_in i (fit_many_of s ys r B)) (counts_in i (fit_many_of (limited_bytes M s) ys r B))
+  pub response_grows : (i : ℕ) → i < r → NoLower (counts_in i (fit_many_of s ys r B)) (counts_in i (fit_many_of (limited_bytes M s) ys r B))
   unfolding fit_many_of many_answered
-  response-grows i h = by (leb counts_length (length B.counts)) refl
+  response_grows i h = by (leb counts_length (length B.counts)) refl
     where
       by : (b : Bool) → leb counts_length (length B.counts) ≡ b → NoLower (counts_in i (fit_many_of s ys r B)) (counts_in i (fit_many_of (limited_bytes M s) ys r B))
-      by true q = rw (q, limited_read s M e few, sound-read) (many_more asked.settings asked.shape lists_of r B M higher few i h)
+      by true q = rw (q, limited_read s M e few, sound_read) (many_more asked.settings asked.shape lists_of r B M higher few i h)
       by false q = rw q (as_before _)
 
   -- the whole call, where no response is told 13
-  pub many-same : ((i : ℕ) → i < r → number_at i (fit_many_of s ys r B) ≡ 13 → ⊥) → fit_many_of (limited_bytes M s) ys r B ≡ fit_many_of s ys r B
+  pub many_same : ((i : ℕ) → i < r → number_at i (fit_many_of s ys r B) ≡ 13 → ⊥) → fit_many_of (limited_bytes M s) ys r B ≡ fit_many_of s ys r B
   unfolding fit_many_of many_answered
-  many-same n = by (leb counts_length (length B.counts)) refl
+  many_same n = by (leb counts_length (length B.counts)) refl
     where
       by : (b : Bool) → leb counts_length (length B.counts) ≡ b → fit_many_of (limited_bytes M s) ys r B ≡ fit_many_of s ys r B
       by true q =
-          rw (q, limited_read s M e few, sound-read)
-          (many-whole asked.settings asked.shape lists_of r B M higher few (λ i h. rw (q, sound-read) at (n i h)))
+          rw (q, limited_read s M e few, sound_read)
+          (many_whole asked.settings asked.shape lists_of r B M higher few (λ i h. rw (q, sound_read) at (n i h)))
       by false q = rw q refl

@@ -12,14 +12,14 @@ use Rattle.family.specs.Carried.{carried_family, carried_link}
 use Rattle.family.specs.declared.carried.CarriedFamily.{CarriedFamily}
 use Rattle.family.specs.declared.carried.CarriedLink.{CarriedLink}
 use Rattle.table.specs.declared.verdicts.Verdict.TheVariants.{Accepted}
-use Rattle.table.proofs.When.{accepted-when}
+use Rattle.table.proofs.When.{accepted_when}
 use Rattle.job.specs.Job.{Job, sound, read_of}
 use Rattle.jobfit.specs.Done.{inputs_of}
 use Rattle.jobcall.specs.Told.{Buffers, Told, told, counts_length, answered}
 use Rattle.many.specs.Many.{response_at, lent_to, single_of, after_to, verdict_for, many_of, job_with_y, many_answered, fit_many_of}
-use Rattle.many.proofs.Alone.{listsAt}
-use Rattle.many.proofs.Calls.{many-accepted, response_results, response_counts}
-use Rattle.many.proofs.Refusals.{accepted-exactly}
+use Rattle.many.proofs.Alone.{lists_at}
+use Rattle.many.proofs.Calls.{many_accepted, response_results, response_counts}
+use Rattle.many.proofs.Refusals.{accepted_exactly}
 
 module _ (s : List ℕ) (ys : List Float) (r : ℕ) (B : Buffers) (j : Job) (read : read_of s ≡ sound j) (zero-told : (fit_many_of s ys r B).returned ≡ 0) where
   -- the lists of the job with all responses
@@ -39,20 +39,20 @@ module _ (s : List ℕ) (ys : List Float) (r : ℕ) (B : Buffers) (j : Job) (rea
   unfolding verdict_for
   verdict =
       let z : (many_of r j.settings j.shape given B).returned ≡ 0 = rw (← many_is) zero-told in
-      let p = (accepted-exactly r j.settings j.shape given B).0 z in
+      let p = (accepted_exactly r j.settings j.shape given B).0 z in
       let f = carried_family j.settings.family in
       let l = carried_link j.settings.link in
-      (f, l, (accepted-when r j.settings j.shape given _ f l).1 (p, (refl, refl)))
+      (f, l, (accepted_when r j.settings j.shape given _ f l).1 (p, (refl, refl)))
 
   -- the buffers after the calls, one by one
   pub calls : fit_many_of s ys r B ≡ told 0 (after_to j.settings j.shape given r B)
-  calls = many_is ∙ many-accepted r j.settings j.shape given B verdict.0 verdict.1 verdict.2
+  calls = many_is ∙ many_accepted r j.settings j.shape given B verdict.0 verdict.1 verdict.2
 
   -- the single call of response i: the job with this response in place of its own, and its own parts of the buffers
   abbrev pub single : ℕ → Told
   single i = answered (sound (job_with_y (response_at j.settings.n i ys) j)) (lent_to j.settings i B)
 
-  single_is : (i : ℕ) → single i ≡ single_of j.settings j.shape (listsAt j.settings j.shape given i) (lent_to j.settings i B)
+  single_is : (i : ℕ) → single i ≡ single_of j.settings j.shape (lists_at j.settings j.shape given i) (lent_to j.settings i B)
   unfolding answered
   single_is i = refl
 

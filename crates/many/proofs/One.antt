@@ -20,7 +20,7 @@ use Rattle.model.proofs.Tests.{to_within}
 use Rattle.family.specs.declared.carried.CarriedFamily.{CarriedFamily}
 use Rattle.family.specs.declared.carried.CarriedLink.{CarriedLink}
 use Rattle.table.specs.Table.{table_of}
-use Rattle.table.proofs.When.{accepted-when}
+use Rattle.table.proofs.When.{accepted_when}
 use Rattle.table.specs.declared.verdicts.Verdict.{Verdict}
 use Rattle.table.specs.declared.verdicts.Verdict.TheVariants.{Accepted, Refused}
 use Rattle.job.specs.declared.faults.Fault.{Fault}
@@ -30,16 +30,16 @@ use Rattle.job.specs.Lists.{laid}
 use Rattle.job.specs.Job.{Job, sound, job_of, read_by, read_of}
 use Rattle.call.specs.Call.{FitNumber, lengths_of, call_of}
 use Rattle.call.proofs.Leaves.{refused_left}
-use Rattle.call.proofs.When.{accepted-exactly}
+use Rattle.call.proofs.When.{accepted_exactly}
 use Rattle.jobfit.specs.Done.{inputs_of, numbers_of, zeros, beta_length, lent_for, Done, results_by, done_of, done_for}
-use Rattle.jobfit.proofs.Lent.{refusal_some, beta-lent}
+use Rattle.jobfit.proofs.Lent.{refusal_some, beta_lent}
 use Rattle.jobfit.proofs.Lengths.{results_fit}
 use Rattle.jobcall.specs.Told.{Buffers, buffers, told, counts_length, counts_of, returned_by, told_by, answered, counted, fit_job_of}
 use Rattle.many.specs.Many.{part_of, placed_in, response_at, with_y, block_length, lent_to, back_from, single_of, after_one, after_to, beta_for, lengths_for, verdict_for, refused_with, many_by, many_of, job_with_y, many_answered, fit_many_of}
 use Rattle.many.proofs.Parts.{part_length, placed_same}
 use Rattle.many.proofs.Single.{zeros_length, counts_length_lem, numbers_length_lem}
 use Rattle.many.proofs.Each.{all_sound, room_in}
-use Rattle.many.proofs.Calls.{many-accepted}
+use Rattle.many.proofs.Calls.{many_accepted}
 
 -- a list laid over the front of a front, and that put back, is laid over the whole
 placed_laid : {A : Type 0} (k : ℕ) (xs b : List A) → length xs ≤ k → k ≤ length b → placed_in 0 k (laid xs (part_of 0 k b)) b ≡ laid xs b
@@ -55,9 +55,9 @@ end_returned k w = ⊎_elim (λ (z : k ≡ 0). rw z refl) (λ (z : (10 ≤ k) ×
 
 module _ (t : Settings) (s : Shape) (I : Inputs) (B : Buffers) (counts : counts_length ≤ length B.counts) where
   -- the table is told the same lengths
-  beta-one : beta_for 1 t (length B.results) (length B.counts) ≡ length (zeros (beta_length t (length B.results)))
+  beta_one : beta_for 1 t (length B.results) (length B.counts) ≡ length (zeros (beta_length t (length B.results)))
   unfolding beta_for beta_length
-  beta-one =
+  beta_one =
       let n : 1 * block_length t ≡ block_length t = one-mul (block_length t) in
       rw (n, one-mul t.p, le-leb counts_length (length B.counts) counts, zeros_length (beta_length t (length B.results))) (by (leb (block_length t) (length B.results)))
     where
@@ -65,11 +65,11 @@ module _ (t : Settings) (s : Shape) (I : Inputs) (B : Buffers) (counts : counts_
       by true = refl
       by false = refl
 
-  lengths-one : lengths_for 1 t (length B.rows) (length B.matrices) (length B.terms) (length B.results) (length B.counts) ≡ lengths_of (lent_for t B.rows B.matrices B.terms B.results)
+  lengths_one : lengths_for 1 t (length B.rows) (length B.matrices) (length B.terms) (length B.results) (length B.counts) ≡ lengths_of (lent_for t B.rows B.matrices B.terms B.results)
   unfolding lengths_for lengths_of lent_for
-  lengths-one =
+  lengths_one =
       rw (
-        beta-one,
+        beta_one,
         one-mul t.p,
         one-mul t.rows,
         one-mul t.n,
@@ -80,10 +80,10 @@ module _ (t : Settings) (s : Shape) (I : Inputs) (B : Buffers) (counts : counts_
       )
       refl
 
-  refused-one : (x : Refusal) → verdict_for 1 t s I B ≡ Refused x → many_of 1 t s I B ≡ single_of t s I B
+  refused_one : (x : Refusal) → verdict_for 1 t s I B ≡ Refused x → many_of 1 t s I B ≡ single_of t s I B
   unfolding many_of many_by refused_with verdict_for told_by done_for done_of results_by lent_for returned_by
-  refused-one x e =
-      let q : table_of 1 t s I (lengths_of (lent_for t B.rows B.matrices B.terms B.results)) ≡ Refused x = rw (← lengths-one) e in
+  refused_one x e =
+      let q : table_of 1 t s I (lengths_of (lent_for t B.rows B.matrices B.terms B.results)) ≡ Refused x = rw (← lengths_one) e in
       rw (e, refused_left t s I (lent_for t B.rows B.matrices B.terms B.results) x q, ne_eqb (refusal_number x) 0 (refusal_some x), refusal_no_end x) refl
 
   -- ---- accepted
@@ -108,7 +108,7 @@ module _ (t : Settings) (s : Shape) (I : Inputs) (B : Buffers) (counts : counts_
     unfolding lent_for
     same_lent =
         let part : length block ≡ block_length t = part_length 0 (block_length t) B.results (rw (zero-add (block_length t)) long) in
-        let p : beta_length t (length block) ≡ beta_length t (length B.results) = sym (beta-lent t (length block) (block_length t) refl (rw part (le_refl _))) ∙ beta-lent t (length B.results) (block_length t) refl long in
+        let p : beta_length t (length block) ≡ beta_length t (length B.results) = sym (beta_lent t (length block) (block_length t) refl (rw part (le_refl _))) ∙ beta_lent t (length B.results) (block_length t) refl long in
         rw p refl
 
     abbrev done_in : List Float → Done
@@ -149,24 +149,24 @@ module _ (t : Settings) (s : Shape) (I : Inputs) (B : Buffers) (counts : counts_
 
     at_one : table_of 1 t s I (lengths_of (lent_for t B.rows B.matrices B.terms B.results)) ≡ Accepted f l
     unfolding verdict_for
-    at_one = rw (← lengths-one) e
+    at_one = rw (← lengths_one) e
 
     single_number : FitNumber (done_in B.results).answer.number
     unfolding done_for done_of
     single_number =
         let L = lent_for t B.rows B.matrices B.terms B.results in
-        (accepted-exactly t s I L).1 ((accepted-when 1 t s I (lengths_of L) f l).0 at_one).0
+        (accepted_exactly t s I L).1 ((accepted_when 1 t s I (lengths_of L) f l).0 at_one).0
 
     accepted_one : many_of 1 t s I B ≡ single_of t s I B
     unfolding told_by
-    accepted_one = many-accepted 1 t s I B f l e ∙ rw (end_returned (done_in B.results).answer.number single_number, after_one_lem) refl
+    accepted_one = many_accepted 1 t s I B f l e ∙ rw (end_returned (done_in B.results).answer.number single_number, after_one_lem) refl
 
   -- in any case
   pub one_single : many_of 1 t s I B ≡ single_of t s I B
   one_single = by (verdict_for 1 t s I B) refl
     where
       by : (v : Verdict) → verdict_for 1 t s I B ≡ v → many_of 1 t s I B ≡ single_of t s I B
-      by (Refused x) e = refused-one x e
+      by (Refused x) e = refused_one x e
       by (Accepted f l) e = accepted_one f l e
 
 -- ---- a job
@@ -185,6 +185,6 @@ module _ (B : Buffers) where
       by false e = refl
 
   -- and with another response in place of its own
-  pub one-response : (j : Job) (y : List Float) → counts_length ≤ length B.counts → many_answered (sound j) 1 y B ≡ answered (sound (job_with_y y j)) B
+  pub one_response : (j : Job) (y : List Float) → counts_length ≤ length B.counts → many_answered (sound j) 1 y B ≡ answered (sound (job_with_y y j)) B
   unfolding many_answered answered
-  one-response j y h = one_single j.settings j.shape (inputs_of (job_with_y y j)) B h
+  one_response j y h = one_single j.settings j.shape (inputs_of (job_with_y y j)) B h

@@ -17,8 +17,8 @@ module _ {A : Type 0} where
   part_length at k v h = length-take-le k (drop at v) (omega (arith, length-drop at v))
 
   -- a part of the front of two lists is one of the first
-  front-part : (a m : ℕ) (p q : List A) → a + m ≤ length p → take m (drop a (p ++ q)) ≡ take m (drop a p)
-  front-part a m p q h =
+  front_part : (a m : ℕ) (p q : List A) → a + m ≤ length p → take m (drop a (p ++ q)) ≡ take m (drop a p)
+  front_part a m p q h =
       ap (take m) (drop-append-le a p q (omega arith)) ∙ take-append-le m (drop a p) q (omega (arith, length-drop a p))
 
   -- so many entries from at on are changed
@@ -38,8 +38,8 @@ module _ {A : Type 0} where
     pub part_before : (a m : ℕ) → a + m ≤ at → part_of a m (placed_in at k xs v) ≡ part_of a m v
     unfolding part_of placed_in
     part_before a m h =
-        front-part a m (take at v) (xs ++ drop k (drop at v)) (rw before_length h)
-        ∙ sym (front-part a m (take at v) (drop at v) (rw before_length h))
+        front_part a m (take at v) (xs ++ drop k (drop at v)) (rw before_length h)
+        ∙ sym (front_part a m (take at v) (drop at v) (rw before_length h))
         ∙ ap (λ (w : List A). take m (drop a w)) (take-append-drop at v)
 
     -- all that stands behind

@@ -47,9 +47,9 @@ module _ (h : Header) (s : Shape) (theta y weights offset x : List Float) (start
   lists = inputs theta y weights offset x starts columns values
 
   -- its lists are those of the single call
-  one-fronts : (i : ℕ) → fronts_of h (inputs theta (take h.settings.n (drop (i * h.settings.n) y)) weights offset x starts columns values) ≡ with_y (response_at h.settings.n i y) (many_fronts h lists)
+  one_fronts : (i : ℕ) → fronts_of h (inputs theta (take h.settings.n (drop (i * h.settings.n) y)) weights offset x starts columns values) ≡ with_y (response_at h.settings.n i y) (many_fronts h lists)
   unfolding fronts_of part_of
-  one-fronts i = rw (take-take h.settings.n h.settings.n (drop (i * h.settings.n) y) (le_refl _)) refl
+  one_fronts i = rw (take-take h.settings.n h.settings.n (drop (i * h.settings.n) y) (le_refl _)) refl
 
   module _ (i n from to : ℕ) (en : n ≡ h.settings.n) (ef : from ≡ i * n) (et : to ≡ from + n) where
     part_long : to ≤ length y → length (take (to - from) (drop from y)) ≡ n
@@ -80,7 +80,7 @@ module _ (h : Header) (s : Shape) (theta y weights offset x : List Float) (start
           let k3 : past - at ≡ 14 = omega arith in
           let f1 : from ≡ i * h.settings.n = rw (← en) ef in
           let f2 : first ≡ i * block_length h.settings = rw (← el) e1 in
-          let d' : done a rows' matrices' terms' block ≡ done_for h.settings s (with_y (response_at h.settings.n i y) (many_fronts h lists)) rows matrices terms (take (block_length h.settings) (drop (i * block_length h.settings) results)) = rw (k1, k2, f1, f2, one-fronts i) at d in
+          let d' : done a rows' matrices' terms' block ≡ done_for h.settings s (with_y (response_at h.settings.n i y) (many_fronts h lists)) rows matrices terms (take (block_length h.settings) (drop (i * block_length h.settings) results)) = rw (k1, k2, f1, f2, one_fronts i) at d in
           rw (k2, k3, f2, e3, q, k3, e3, ← d') refl
 
 -- ---- the loop

@@ -28,7 +28,7 @@ use Rattle.table.specs.declared.verdicts.LentLengths.{LentLengths}
 use Rattle.table.specs.declared.verdicts.Verdict.{Verdict}
 use Rattle.table.specs.declared.verdicts.Verdict.TheVariants.{Accepted, Refused}
 use Rattle.table.proofs.Exactly.{sizes_exactly, count_exactly, numbers_exactly, outside_exactly}
-use Rattle.table.proofs.When.{decided, refused-when, accepted-when}
+use Rattle.table.proofs.When.{decided, refused_when, accepted_when}
 use Rattle.call.proofs.When.{same_refusal}
 use Rattle.job.specs.Lists.{laid}
 use Rattle.job.specs.Job.{Read, faulty, sound, read_of}
@@ -44,57 +44,57 @@ module _ (r : ℕ) (t : Settings) (s : Shape) (I : Inputs) (B : Buffers) where
   abbrev pub asked : LentLengths
   asked = lengths_for r t (length B.rows) (length B.matrices) (length B.terms) (length B.results) (length B.counts)
 
-  pub refused-many : (x : Refusal) → table_of r t s I asked ≡ Refused x → many_of r t s I B ≡ refused_with (refusal_number x) 0 B
+  pub refused_many : (x : Refusal) → table_of r t s I asked ≡ Refused x → many_of r t s I B ≡ refused_with (refusal_number x) 0 B
   unfolding many_of many_by verdict_for
-  refused-many x e = rw e refl
+  refused_many x e = rw e refl
 
-  given-number : (x : Refusal) → GivenWhen r t s I asked x → (many_of r t s I B).returned ≡ refusal_number x
+  given_number : (x : Refusal) → GivenWhen r t s I asked x → (many_of r t s I B).returned ≡ refusal_number x
   unfolding refused_with
-  given-number x g = ap (λ (z : Told). z.returned) (refused-many x ((refused-when r t s I asked x).1 g))
+  given_number x g = ap (λ (z : Told). z.returned) (refused_many x ((refused_when r t s I asked x).1 g))
 
-  accepted-number : PastAll r t s I asked → (many_of r t s I B).returned ≡ 0
+  accepted_number : PastAll r t s I asked → (many_of r t s I B).returned ≡ 0
   unfolding many_of many_by verdict_for
-  accepted-number p = rw ((accepted-when r t s I asked (carried_family t.family) (carried_link t.link)).1 (p, (refl, refl))) refl
+  accepted_number p = rw ((accepted_when r t s I asked (carried_family t.family) (carried_link t.link)).1 (p, (refl, refl))) refl
 
   -- every number of the table exactly when the table says
-  pub refused-exactly : (x : Refusal) → ((many_of r t s I B).returned ≡ refusal_number x) ↔ GivenWhen r t s I asked x
-  refused-exactly x = (
+  pub refused_exactly : (x : Refusal) → ((many_of r t s I B).returned ≡ refusal_number x) ↔ GivenWhen r t s I asked x
+  refused_exactly x = (
     λ e.
         ⊎_elim
-        (λ (d : (y : Refusal) × GivenWhen r t s I asked y). let q : d.0 ≡ x = same_refusal d.0 x (sym (given-number d.0 d.1) ∙ e) in rw q at d.1)
-        (λ (d : PastAll r t s I asked). absurd (refusal_some x (sym e ∙ accepted-number d)))
+        (λ (d : (y : Refusal) × GivenWhen r t s I asked y). let q : d.0 ≡ x = same_refusal d.0 x (sym (given_number d.0 d.1) ∙ e) in rw q at d.1)
+        (λ (d : PastAll r t s I asked). absurd (refusal_some x (sym e ∙ accepted_number d)))
         (decided r t s I asked),
-    given-number x,
+    given_number x,
   )
 
   -- 0 exactly where every test is passed
-  pub accepted-exactly : ((many_of r t s I B).returned ≡ 0) ↔ PastAll r t s I asked
-  accepted-exactly = (
+  pub accepted_exactly : ((many_of r t s I B).returned ≡ 0) ↔ PastAll r t s I asked
+  accepted_exactly = (
     λ e.
-        ⊎_elim (λ (d : (y : Refusal) × GivenWhen r t s I asked y). absurd (refusal_some d.0 (sym (given-number d.0 d.1) ∙ e))) (λ (d : PastAll r t s I asked). d)
+        ⊎_elim (λ (d : (y : Refusal) × GivenWhen r t s I asked y). absurd (refusal_some d.0 (sym (given_number d.0 d.1) ∙ e))) (λ (d : PastAll r t s I asked). d)
         (decided r t s I asked),
-    accepted-number,
+    accepted_number,
   )
 
   -- 8 exactly where the sizes are in range and the count is outside 1 to 64, whatever else is given
-  pub eight-exactly : ((many_of r t s I B).returned ≡ 8) ↔ (Sized t s × ((1 ≤ r) × (r ≤ 64) → ⊥))
+  pub eight_exactly : ((many_of r t s I B).returned ≡ 8) ↔ (Sized t s × ((1 ≤ r) × (r ≤ 64) → ⊥))
   unfolding GivenWhen
-  eight-exactly = (
+  eight_exactly = (
     λ e.
-        let g = (refused-exactly Responses).0 e in
+        let g = (refused_exactly Responses).0 e in
         ((sizes_exactly t s).0 g.0, λ z. ff (sym g.1 ∙ (count_exactly r).1 z)),
-    λ z. (refused-exactly Responses).1 ((sizes_exactly t s).1 z.0, sym (false_unless (λ q. z.1 ((count_exactly r).0 q)))),
+    λ z. (refused_exactly Responses).1 ((sizes_exactly t s).1 z.0, sym (false_unless (λ q. z.1 ((count_exactly r).0 q)))),
   )
 
   -- one number that is not finite, in whichever response it stands, refuses the whole call with 3 where nothing before it does
-  pub three-anywhere : PastRows r t s I asked → (k : ℕ) → k < length I.y → finite (I.y ! k) ≡ false → many_of r t s I B ≡ refused_with 3 0 B
+  pub three_anywhere : PastRows r t s I asked → (k : ℕ) → k < length I.y → finite (I.y ! k) ≡ false → many_of r t s I B ≡ refused_with 3 0 B
   unfolding GivenWhen
-  three-anywhere p k h q = refused-many NotFinite ((refused-when r t s I asked NotFinite).1 (p, sym (false_unless (λ z. ff (sym q ∙ ((numbers_exactly I).0 z).y k h)))))
+  three_anywhere p k h q = refused_many NotFinite ((refused_when r t s I asked NotFinite).1 (p, sym (false_unless (λ z. ff (sym q ∙ ((numbers_exactly I).0 z).y k h)))))
 
   -- and one response out of its family's range with 9
-  pub nine-anywhere : PastLink r t s I asked → (k : ℕ) → k < length I.y → in_range (carried_family t.family) (I.y ! k) ≡ false → many_of r t s I B ≡ refused_with 9 0 B
+  pub nine_anywhere : PastLink r t s I asked → (k : ℕ) → k < length I.y → in_range (carried_family t.family) (I.y ! k) ≡ false → many_of r t s I B ≡ refused_with 9 0 B
   unfolding GivenWhen
-  nine-anywhere p k h q = refused-many ResponseRange ((refused-when r t s I asked ResponseRange).1 (p, (outside_exactly (carried_family t.family) I.y).1 (k, (h, q))))
+  nine_anywhere p k h q = refused_many ResponseRange ((refused_when r t s I asked ResponseRange).1 (p, (outside_exactly (carried_family t.family) I.y).1 (k, (h, q))))
 
 -- ---- what a refusal leaves
 -- all but the first counts

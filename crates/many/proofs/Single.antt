@@ -23,9 +23,9 @@ use Rattle.table.specs.Table.{table_of}
 use Rattle.table.specs.declared.verdicts.Verdict.{Verdict}
 use Rattle.table.specs.declared.verdicts.Verdict.TheVariants.{Accepted, Refused}
 use Rattle.results.specs.Nine.{Results}
-use Rattle.job.proofs.ListLaws.{laid-length}
+use Rattle.job.proofs.ListLaws.{laid_length}
 use Rattle.call.specs.Call.{Lent, Left, lengths_of, fit_left, call_by, call_of}
-use Rattle.call.proofs.Leaves.{accepted-work}
+use Rattle.call.proofs.Leaves.{accepted_work}
 use Rattle.jobfit.specs.Done.{numbers_of, results_length, zeros, beta_length, lent_for, Done, results_by, done_of, done_for}
 use Rattle.jobfit.proofs.Lent.{some_lent, fitted_beta}
 use Rattle.jobfit.proofs.Lengths.{ResultsFit, results_fit}
@@ -58,43 +58,43 @@ module _ (t : Settings) (s : Shape) (I : Inputs) (rows matrices terms results : 
   abbrev left : Left
   left = call_of t s I lent_of
 
-  abbrev doneOne : Done
-  doneOne = done_for t s I rows matrices terms results
+  abbrev done_one : Done
+  done_one = done_for t s I rows matrices terms results
 
   -- ---- the results keep their length
   -- under number 0 there is room for all that is written
-  written-few : left.answer.number ≡ 0 → length (numbers_of left.answer left.lent.results) ≤ length results
+  written_few : left.answer.number ≡ 0 → length (numbers_of left.answer left.lent.results) ≤ length results
   unfolding lent_for
-  written-few z =
+  written_few z =
       let some : 1 ≤ beta_length t (length results) = rw (zeros_length (beta_length t (length results))) at (fitted_beta t s I lent_of z) in
       omega (arith, numbers_length_lem t.n t.p t.rows left.answer left.lent.results (results_fit t s I lent_of z), (some_lent t (length results) some).1)
 
-  pub done-length : length doneOne.results ≡ length results
+  pub done_length : length done_one.results ≡ length results
   unfolding done_for done_of results_by
-  done-length = by (eqb left.answer.number 0) refl
+  done_length = by (eqb left.answer.number 0) refl
     where
-      by : (b : Bool) → eqb left.answer.number 0 ≡ b → length doneOne.results ≡ length results
-      by true e = rw e (laid-length (numbers_of left.answer left.lent.results) results (written-few (eqb-true _ _ e)))
+      by : (b : Bool) → eqb left.answer.number 0 ≡ b → length done_one.results ≡ length results
+      by true e = rw e (laid_length (numbers_of left.answer left.lent.results) results (written_few (eqb-true _ _ e)))
       by false e = rw e refl
 
   -- ---- without a fit the block is as lent
-  pub done-unfitted : (doneOne.answer.number ≡ 0 → ⊥) → doneOne.results ≡ results
+  pub done_unfitted : (done_one.answer.number ≡ 0 → ⊥) → done_one.results ≡ results
   unfolding done_for done_of results_by
-  done-unfitted h = rw (ne_eqb left.answer.number 0 h) refl
+  done_unfitted h = rw (ne_eqb left.answer.number 0 h) refl
 
   -- ---- the work buffers: wiped by an accepted call
   module _ (f : CarriedFamily) (l : CarriedLink) (e : table_of 1 t s I (lengths_of lent_of) ≡ Accepted f l) where
-    pub done_rows : doneOne.rows ≡ fill_to (rows_length t.n) zero_at rows
+    pub done_rows : done_one.rows ≡ fill_to (rows_length t.n) zero_at rows
     unfolding done_for done_of lent_for
-    done_rows = (accepted-work t s I lent_of f l e).rows
+    done_rows = (accepted_work t s I lent_of f l e).rows
 
-    pub done_matrices : doneOne.matrices ≡ fill_to (matrices_length t.p t.rows) zero_at matrices
+    pub done_matrices : done_one.matrices ≡ fill_to (matrices_length t.p t.rows) zero_at matrices
     unfolding done_for done_of lent_for
-    done_matrices = (accepted-work t s I lent_of f l e).matrices
+    done_matrices = (accepted_work t s I lent_of f l e).matrices
 
-    pub done_terms : doneOne.terms ≡ fill_to terms_length zero_at terms
+    pub done_terms : done_one.terms ≡ fill_to terms_length zero_at terms
     unfolding done_for done_of lent_for
-    done_terms = (accepted-work t s I lent_of f l e).terms
+    done_terms = (accepted_work t s I lent_of f l e).terms
 
   -- they keep their lengths in any case
   pub record WorkLengths (d : Done) : Type 0 where
@@ -107,16 +107,16 @@ module _ (t : Settings) (s : Shape) (I : Inputs) (rows matrices terms results : 
   by_lengths (Refused x) = record { rows' = refl; matrices' = refl; terms' = refl }
   by_lengths (Accepted f l) = record { rows' = length_fill _ _ rows; matrices' = length_fill _ _ matrices; terms' = length_fill _ _ terms }
 
-  pub work-lengths : WorkLengths doneOne
+  pub work_lengths : WorkLengths done_one
   unfolding done_for call_of
-  work-lengths = by_lengths (table_of 1 t s I (lengths_of lent_of))
+  work_lengths = by_lengths (table_of 1 t s I (lengths_of lent_of))
 
 -- ---- what the work buffers hold does not matter
 module _ (t : Settings) (s : Shape) (I : Inputs) (rows matrices terms rows' matrices' terms' results : List Float) where
-  by-free : (v : Verdict) → let a = done_of (call_by v t s I (lent_for t rows matrices terms results)) results in let b = done_of (call_by v t s I (lent_for t rows' matrices' terms' results)) results in (b.answer ≡ a.answer) × (b.results ≡ a.results)
+  by_free : (v : Verdict) → let a = done_of (call_by v t s I (lent_for t rows matrices terms results)) results in let b = done_of (call_by v t s I (lent_for t rows' matrices' terms' results)) results in (b.answer ≡ a.answer) × (b.results ≡ a.results)
   unfolding done_of call_by fit_left results_by lent_for
-  by-free (Refused x) = (refl, refl)
-  by-free (Accepted f l) = (refl, refl)
+  by_free (Refused x) = (refl, refl)
+  by_free (Accepted f l) = (refl, refl)
 
   module _ (e : length rows' ≡ length rows) (m : length matrices' ≡ length matrices) (k : length terms' ≡ length terms) where
     same_lengths : lengths_of (lent_for t rows' matrices' terms' results) ≡ lengths_of (lent_for t rows matrices terms results)
@@ -125,4 +125,4 @@ module _ (t : Settings) (s : Shape) (I : Inputs) (rows matrices terms rows' matr
 
     pub done_work_free : let a = done_for t s I rows matrices terms results in let b = done_for t s I rows' matrices' terms' results in (b.answer ≡ a.answer) × (b.results ≡ a.results)
     unfolding done_for call_of
-    done_work_free = rw same_lengths (by-free (table_of 1 t s I (lengths_of (lent_for t rows matrices terms results))))
+    done_work_free = rw same_lengths (by_free (table_of 1 t s I (lengths_of (lent_for t rows matrices terms results))))

@@ -19,7 +19,7 @@ use Rattle.jobcall.specs.Told.{Buffers, Told, told}
 use Rattle.manytext.specs.declared.pieces.Pieces.TheVariants.{Refusal, Responses}
 use Rattle.manytext.specs.Input.{job_size, word_at, input_room, reading_of}
 use Rattle.manytext.specs.Pieces.{Fitted, fitted, pieces_by, fitted_by, fit_all_of, fit_read, fit_parts, fit_input_of}
-use Rattle.manytext.proofs.Parts.{job-part, rest_part, numbers_part}
+use Rattle.manytext.proofs.Parts.{job_part, rest_part, numbers_part}
 
 -- ---- by the number that was returned
 module _ (x : Told) (k r : ℕ) (t : Settings) (after : Buffers) (d : told k after ≡ x) where
@@ -33,19 +33,19 @@ module _ (x : Told) (k r : ℕ) (t : Settings) (after : Buffers) (d : told k aft
 
 -- ---- by what is told of the job
 module _ (job : List ℕ) (words : ℕ) (ys results : List Float) (counts : List ℕ) (g : Reading) where
-  pub refused-read : (x : Read) (k b : ℕ) → g ≡ reading_of x → g ≡ Refused k b → fitted (Refusal k b) results counts ≡ fit_read x job words ys results counts
+  pub refused_read : (x : Read) (k b : ℕ) → g ≡ reading_of x → g ≡ Refused k b → fitted (Refusal k b) results counts ≡ fit_read x job words ys results counts
   unfolding reading_of fit_read
-  refused-read (faulty r c) k b d e =
+  refused_read (faulty r c) k b d e =
       let number : k ≡ r = cc in
       let byte : b ≡ c = cc in
       rw (number, byte) refl
-  refused-read (sound j) k b d e = let z : ◌≡◌ {A = ℕ} 0 1 = cc in absurd (omega arith)
+  refused_read (sound j) k b d e = let z : ◌≡◌ {A = ℕ} 0 1 = cc in absurd (omega arith)
 
-  pub accepted-read : (x : Read) (h : Header) (f : Fitted) (r : ℕ) → g ≡ reading_of x → g ≡ Accepted h → r ≡ words / h.settings.n → f ≡ fit_all_of job h.settings r ys results counts
+  pub accepted_read : (x : Read) (h : Header) (f : Fitted) (r : ℕ) → g ≡ reading_of x → g ≡ Accepted h → r ≡ words / h.settings.n → f ≡ fit_all_of job h.settings r ys results counts
       → f ≡ fit_read x job words ys results counts
   unfolding reading_of fit_read header_of
-  accepted-read (faulty r c) h f n d e q p = let z : ◌≡◌ {A = ℕ} 0 1 = cc in absurd (omega arith)
-  accepted-read (sound j) h f n d e q p =
+  accepted_read (faulty r c) h f n d e q p = let z : ◌≡◌ {A = ℕ} 0 1 = cc in absurd (omega arith)
+  accepted_read (sound j) h f n d e q p =
       let head : h ≡ header_of j = cc in
       p ∙ rw (q, head) refl
 
@@ -60,4 +60,4 @@ pub input_fit : (s : List ℕ) (from size left held to : ℕ) → from ≡ min 3
 unfolding fit_input_of
 input_fit s from size left held to ef es el eh et f results counts d =
     let most : held ≡ min (job_size s) left = rw es at eh in
-    d ∙ rw (job-part s from left held to ef el most et, rest_part s from left held to ef el most et) refl
+    d ∙ rw (job_part s from left held to ef el most et, rest_part s from left held to ef el most et) refl

@@ -19,7 +19,7 @@ use Rattle.call.specs.Call.{Left}
 use Rattle.call.proofs.Higher.{call_same}
 use Rattle.jobfit.specs.Done.{inputs_of}
 use Rattle.many.specs.Many.{response_at, job_with_y, verdict_for}
-use Rattle.many.proofs.Higher.{verdict-limited}
+use Rattle.many.proofs.Higher.{verdict_limited}
 use Rattle.output.specs.Output.{slices_for, call_for, left_text, output_by}
 use Rattle.manytext.specs.Input.{job_in, rest_in, numbers_in}
 use Rattle.manytext.specs.Output.{many_lent, response_printed, printed_by, printed_of, many_printed, many_output_of}
@@ -36,27 +36,27 @@ join_alike f g (suc r) h = rw (join_alike f g r (λ i l. h i (omega (arith, l)))
 
 module _ (j : Job) (ys : List Float) (M : ℕ) (higher : limit_of j.settings.limit j.settings.link ≤ M) (few : M ≤ 1000) where
   -- a response, whatever the others came to
-  pub response-printed : (i : ℕ) → (number_of j ys i ≡ 13 → ⊥) → response_printed (limited_job M j) ys i ≡ response_printed j ys i
+  pub response_printed_lem : (i : ℕ) → (number_of j ys i ≡ 13 → ⊥) → response_printed (limited_job M j) ys i ≡ response_printed j ys i
   unfolding response_printed output_by slices_for
-  response-printed i h =
+  response_printed_lem i h =
       ap (λ (l : Left). response_line i ++ left_text l) (call_same j.settings j.shape (inputs_of (job_with_y (response_at j.settings.n i ys) j)) (slices_for j.settings) M higher few h)
 
   -- all r of them
-  all-printed : (r : ℕ) → ((i : ℕ) → i < r → number_of j ys i ≡ 13 → ⊥) → printed_of r (limited_job M j) ys ≡ printed_of r j ys
+  all_printed : (r : ℕ) → ((i : ℕ) → i < r → number_of j ys i ≡ 13 → ⊥) → printed_of r (limited_job M j) ys ≡ printed_of r j ys
   unfolding printed_of printed_by
-  all-printed r h =
-      rw (verdict-limited j.settings j.shape (inputs_of (job_with_y ys j)) r many_lent M higher few)
+  all_printed r h =
+      rw (verdict_limited j.settings j.shape (inputs_of (job_with_y ys j)) r many_lent M higher few)
       (by (verdict_for r j.settings j.shape (inputs_of (job_with_y ys j)) many_lent))
     where
       by : (x : Verdict) → printed_by x r (limited_job M j) ys ≡ printed_by x r j ys
       by (Refused x) = refl
-      by (Accepted f l) = join_alike (response_printed (limited_job M j) ys) (response_printed j ys) r (λ i l'. response-printed i (h i l'))
+      by (Accepted f l) = join_alike (response_printed (limited_job M j) ys) (response_printed j ys) r (λ i l'. response_printed_lem i (h i l'))
 
 -- the program: an input with the same responses behind the job with the limit M
 module _ (s t : List ℕ) (M : ℕ) (e : fault_of (job_in s) ≡ Sound) (job : job_in t ≡ limited_bytes M (job_in s)) (rest : rest_in t ≡ rest_in s)
     (higher : limit_of (job_of (job_in s)).settings.limit (job_of (job_in s)).settings.link ≤ M) (few : M ≤ 1000) where
-  pub many-printed-same : ((i : ℕ) → i < length (rest_in s) / 8 / (job_of (job_in s)).settings.n → number_of (job_of (job_in s)) (numbers_in (rest_in s)) i ≡ 13 → ⊥) → many_output_of t ≡ many_output_of s
+  pub many_printed_same : ((i : ℕ) → i < length (rest_in s) / 8 / (job_of (job_in s)).settings.n → number_of (job_of (job_in s)) (numbers_in (rest_in s)) i ≡ 13 → ⊥) → many_output_of t ≡ many_output_of s
   unfolding many_output_of many_printed read_of read_by
-  many-printed-same h =
+  many_printed_same h =
       rw (job, rest, limited_read (job_in s) M e few, e)
-      (all-printed (job_of (job_in s)) (numbers_in (rest_in s)) M higher few (length (rest_in s) / 8 / (job_of (job_in s)).settings.n) h)
+      (all_printed (job_of (job_in s)) (numbers_in (rest_in s)) M higher few (length (rest_in s) / 8 / (job_of (job_in s)).settings.n) h)

@@ -16,7 +16,7 @@ use Rattle.bits.specs.Bits.{bits_of}
 use Rattle.model.specs.Settings.{good_sizes}
 use Rattle.model.proofs.Sized.{sized}
 use Rattle.table.specs.Tests.{good_count}
-use Rattle.table.proofs.Accepting.{line-1, line_8}
+use Rattle.table.proofs.Accepting.{line_1, line_8}
 use Rattle.job.specs.Job.{Job, Read, faulty, sound, read_of}
 use Rattle.many.specs.Many.{verdict_for}
 use Rattle.output.proofs.Long.{long_read}
@@ -40,7 +40,7 @@ unfolding printed_of verdict_for printed_by
 over_alike r k j xs ys many = by (good_sizes j.settings j.shape) refl
   where
     by : (b : Bool) → good_sizes j.settings j.shape ≡ b → printed_of r j xs ≡ printed_of k j ys
-    by false e = rw (line-1 r j.settings j.shape _ _ e, line-1 k j.settings j.shape _ _ e) refl
+    by false e = rw (line_1 r j.settings j.shape _ _ e, line_1 k j.settings j.shape _ _ e) refl
     by true e =
         let z = (sized j.settings j.shape e).sizes in
         let m = many z.n_some z.n_few in
@@ -66,8 +66,8 @@ module _ (s : List ℕ) (m : ℕ) (room : input_room ≤ m) (long : m < length s
   size_same : job_size (take m s) ≡ job_size s
   size_same = bits_front s m 24 (omega arith)
 
-  held-length : length (take m s) ≡ m
-  held-length = length-take-le m s (omega arith)
+  held_length : length (take m s) ≡ m
+  held_length = length-take-le m s (omega arith)
 
   behind : drop 3 (take m s) ≡ take (m - 3) (drop 3 s)
   behind =
@@ -89,16 +89,16 @@ module _ (s : List ℕ) (m : ℕ) (room : input_room ≤ m) (long : m < length s
     by_job (sound j) =
         over_alike _ _ j _ _
         (λ l f. (
-          many_in (length (rest_in (take m s))) j.settings.n (rest_many (take m s) (omega (arith, held-length)) size_same) l f,
+          many_in (length (rest_in (take m s))) j.settings.n (rest_many (take m s) (omega (arith, held_length)) size_same) l f,
           many_in (length (rest_in s)) j.settings.n (rest_many s (omega arith) refl) l f,
         ))
 
-  over-same : many_output_of (take m s) ≡ many_output_of s
+  over_same : many_output_of (take m s) ≡ many_output_of s
   unfolding many_output_of many_printed
-  over-same =
+  over_same =
       ⊎_elim
       (λ l.
-      over_printed (take m s) (job_over (take m s) (rw size_same l) (omega (arith, held-length)))
+      over_printed (take m s) (job_over (take m s) (rw size_same l) (omega (arith, held_length)))
       ∙ sym (over_printed s (job_over s l (omega arith))))
       (λ few. rw (job_same few) (by_job few (read_of (job_in s))))
       (lt_or_ge 65536 (job_size s))
@@ -106,4 +106,4 @@ module _ (s : List ℕ) (m : ℕ) (room : input_room ≤ m) (long : m < length s
 -- what is printed is decided by the bytes that there is room for
 pub room_enough : (s : List ℕ) (m : ℕ) → input_room ≤ m → many_output_of (take m s) ≡ many_output_of s
 room_enough s m room =
-    ⊎_elim (λ l. over-same s m room l) (λ l. ap many_output_of (take_all m s l)) (lt_or_ge m (length s))
+    ⊎_elim (λ l. over_same s m room l) (λ l. ap many_output_of (take_all m s l)) (lt_or_ge m (length s))

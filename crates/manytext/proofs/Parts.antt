@@ -18,24 +18,24 @@ use Rattle.manytext.specs.Input.{job_size, job_in, rest_in, word_at, numbers_in,
 -- ---- the job and what stands behind it
 -- no more than there is
 module _ {A : Type 0} (n k : ℕ) (l : List A) (e : k ≡ min n (length l)) where
-  least-take : take k l ≡ take n l
-  least-take = ⊎_elim (λ h. let q : k ≡ n = omega arith in rw q refl) (λ h. let q : k ≡ length l = omega arith in rw q (take-length l ∙ sym (take_all n l h))) (lt_or_ge n (length l))
+  least_take : take k l ≡ take n l
+  least_take = ⊎_elim (λ h. let q : k ≡ n = omega arith in rw q refl) (λ h. let q : k ≡ length l = omega arith in rw q (take-length l ∙ sym (take_all n l h))) (lt_or_ge n (length l))
 
-  least-drop : drop k l ≡ drop n l
-  least-drop = ⊎_elim (λ h. let q : k ≡ n = omega arith in rw q refl) (λ h. let q : k ≡ length l = omega arith in rw q (drop-length l ∙ sym (drop_of_length-le l h))) (lt_or_ge n (length l))
+  least_drop : drop k l ≡ drop n l
+  least_drop = ⊎_elim (λ h. let q : k ≡ n = omega arith in rw q refl) (λ h. let q : k ≡ length l = omega arith in rw q (drop-length l ∙ sym (drop_of_length-le l h))) (lt_or_ge n (length l))
 
 module _ (s : List ℕ) (from left held to : ℕ) (ef : from ≡ min 3 (length s)) (el : left ≡ length s - from) (eh : held ≡ min (job_size s) left) (et : to ≡ from + held) where
   begun : drop from s ≡ drop 3 s
-  begun = least-drop 3 from s ef
+  begun = least_drop 3 from s ef
 
-  held-is : held ≡ min (job_size s) (length (drop 3 s))
-  held-is = rw (← begun, length-drop from s) (rw el at eh)
+  held_is : held ≡ min (job_size s) (length (drop 3 s))
+  held_is = rw (← begun, length-drop from s) (rw el at eh)
 
-  pub job-part : take (to - from) (drop from s) ≡ job_in s
+  pub job_part : take (to - from) (drop from s) ≡ job_in s
   unfolding job_in
-  job-part =
+  job_part =
       let k : to - from ≡ held = omega arith in
-      rw (k, begun) (least-take (job_size s) held (drop 3 s) held-is)
+      rw (k, begun) (least_take (job_size s) held (drop 3 s) held_is)
 
   pub rest_part : take (length s - to) (drop to s) ≡ rest_in s
   unfolding rest_in
@@ -44,7 +44,7 @@ module _ (s : List ℕ) (from left held to : ℕ) (ef : from ≡ min 3 (length s
       ∙ ap (λ (k : ℕ). drop k s) et
       ∙ sym (drop-drop held from s)
       ∙ ap (drop held) begun
-      ∙ least-drop (job_size s) held (drop 3 s) held-is
+      ∙ least_drop (job_size s) held (drop 3 s) held_is
 
 -- what stands behind it is no longer than all
 pub part_few : (s : List ℕ) (to most : ℕ) → length s ≤ most → length (take (length s - to) (drop to s)) ≤ most

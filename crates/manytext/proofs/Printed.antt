@@ -25,7 +25,7 @@ use Rattle.job.specs.Lists.{join_to}
 use Rattle.lines.specs.Lines.{response_line}
 use Rattle.jobfit.specs.Done.{inputs_of, zeros, lent_for}
 use Rattle.jobfit.specs.Room.{SizesFew}
-use Rattle.jobfit.proofs.Lent.{beta-lent, refusal_some}
+use Rattle.jobfit.proofs.Lent.{beta_lent, refusal_some}
 use Rattle.jobcall.specs.Told.{Buffers, Told, counts_length}
 use Rattle.many.specs.Many.{part_of, response_at, job_with_y, block_length, after_to, verdict_for, refused_with, many_by, many_of, many_answered, fit_many_of}
 use Rattle.many.proofs.Parts.{part_length, block_fits}
@@ -61,7 +61,7 @@ room_for r t few f =
 lent_own : (t : Settings) (block : List Float) → length block ≡ block_length t → lent_for t (zeros 8192) (zeros 5696) (zeros 7000) block ≡ slices_for t
 unfolding lent_for slices_for
 lent_own t block e =
-    let whole = beta-lent t (length block) (block_length t) refl (rw e (le_refl _)) in
+    let whole = beta_lent t (length block) (block_length t) refl (rw e (le_refl _)) in
     rw (← whole) refl
 
 -- ---- one response
@@ -100,21 +100,21 @@ module _ (r : ℕ) (j : Job) (ys : List Float) where
   abbrev left : Verdict → Fitted
   left v = fitted_by (many_by v r j.settings j.shape (inputs_of (job_with_y ys j)) many_lent) r j.settings
 
-  refused-joined : (x : Refusal) → joined (left (Refused x)) ≡ printed_by (Refused x) r j ys
+  refused_joined : (x : Refusal) → joined (left (Refused x)) ≡ printed_by (Refused x) r j ys
   unfolding many_by refused_with fitted_by pieces_by join_to piece_text printed_by
-  refused-joined x = rw (ne_eqb (refusal_number x) 0 (refusal_some x)) refl
+  refused_joined x = rw (ne_eqb (refusal_number x) 0 (refusal_some x)) refl
 
-  accepted-joined : (f : CarriedFamily) (l : CarriedLink) → RoomIn r j.settings many_lent → joined (left (Accepted f l)) ≡ printed_by (Accepted f l) r j ys
+  accepted_joined : (f : CarriedFamily) (l : CarriedLink) → RoomIn r j.settings many_lent → joined (left (Accepted f l)) ≡ printed_by (Accepted f l) r j ys
   unfolding many_by fitted_by pieces_by piece_text printed_by
-  accepted-joined f l room = join_alike r _ (response_printed j ys) (λ i h. response_text_lem j ys r room i h)
+  accepted_joined f l room = join_alike r _ (response_printed j ys) (λ i h. response_text_lem j ys r room i h)
 
-  refused-fit : (x : Refusal) → PiecesFit (left (Refused x)).pieces (left (Refused x)).counts (left (Refused x)).results
+  refused_fit : (x : Refusal) → PiecesFit (left (Refused x)).pieces (left (Refused x)).counts (left (Refused x)).results
   unfolding many_by refused_with fitted_by pieces_by
-  refused-fit x = rw (ne_eqb (refusal_number x) 0 (refusal_some x)) tt
+  refused_fit x = rw (ne_eqb (refusal_number x) 0 (refusal_some x)) tt
 
-  accepted-fit : (f : CarriedFamily) (l : CarriedLink) → r ≤ 64 → SizesFew j.settings → PiecesFit (left (Accepted f l)).pieces (left (Accepted f l)).counts (left (Accepted f l)).results
+  accepted_fit : (f : CarriedFamily) (l : CarriedLink) → r ≤ 64 → SizesFew j.settings → PiecesFit (left (Accepted f l)).pieces (left (Accepted f l)).counts (left (Accepted f l)).results
   unfolding many_by fitted_by pieces_by
-  accepted-fit f l few sizes =
+  accepted_fit f l few sizes =
       let room = room_for r j.settings few sizes in
       let same = lengths_to j.settings j.shape (inputs_of (job_with_y ys j)) r many_lent room r (le_refl _) in
       record { few = few; sizes = sizes; counts_long = rw same.counts room.counts; results_long = rw same.results room.results }
@@ -131,11 +131,11 @@ module _ (r : ℕ) (j : Job) (ys : List Float) where
   both = by verdict refl
     where
       by : (v : Verdict) → verdict ≡ v → Both
-      by (Refused x) e = record { text = rw e (refused-joined x); fits = rw e (refused-fit x) }
+      by (Refused x) e = record { text = rw e (refused_joined x); fits = rw e (refused_fit x) }
       by (Accepted f l) e =
           let known = accepted_sound r j.settings j.shape (inputs_of (job_with_y ys j)) _ f l e in
           let sizes = few_sizes j.settings known.sized.sizes in
-          record { text = rw e (accepted-joined f l (room_for r j.settings known.responses.1 sizes)); fits = rw e (accepted-fit f l known.responses.1 sizes) }
+          record { text = rw e (accepted_joined f l (room_for r j.settings known.responses.1 sizes)); fits = rw e (accepted_fit f l known.responses.1 sizes) }
 
 -- ---- by the job
 counts_room : leb counts_length (length many_lent.counts) ≡ true
@@ -168,14 +168,14 @@ module _ (s : List ℕ) where
   abbrev pub fitted_in : Fitted
   fitted_in = fit_input_of s (zeros 121984) (replicate 896 0)
 
-  pub printed-is : joined fitted_in ≡ many_output_of s
+  pub printed_is : joined fitted_in ≡ many_output_of s
   unfolding fit_input_of fit_parts many_output_of
-  printed-is = (done (job_in s) (rest_in s) (read_of (job_in s)) refl).text
+  printed_is = (done (job_in s) (rest_in s) (read_of (job_in s)) refl).text
 
-  pub pieces-fit : PiecesFit fitted_in.pieces fitted_in.counts fitted_in.results
+  pub pieces_fit : PiecesFit fitted_in.pieces fitted_in.counts fitted_in.results
   unfolding fit_input_of fit_parts
-  pieces-fit = (done (job_in s) (rest_in s) (read_of (job_in s)) refl).fits
+  pieces_fit = (done (job_in s) (rest_in s) (read_of (job_in s)) refl).fits
 
   -- so what the call leaves can be written piece by piece
-  pub left-fit : (p : Pieces) (R : List Float) (C : List ℕ) → fitted p R C ≡ fitted_in → PiecesFit p C R
-  left-fit p R C e = rw (ap (λ (x : Fitted). x.pieces) e, ap (λ (x : Fitted). x.counts) e, ap (λ (x : Fitted). x.results) e) pieces-fit
+  pub left_fit : (p : Pieces) (R : List Float) (C : List ℕ) → fitted p R C ≡ fitted_in → PiecesFit p C R
+  left_fit p R C e = rw (ap (λ (x : Fitted). x.pieces) e, ap (λ (x : Fitted). x.counts) e, ap (λ (x : Fitted). x.results) e) pieces_fit

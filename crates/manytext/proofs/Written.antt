@@ -67,15 +67,15 @@ part_written i block first end at past t counts out w results r eb ef ee ea ep h
 
 -- ---- by the pieces
 module _ (p : Pieces) (r : ℕ) (t : Settings) (e : p ≡ Responses r t) where
-  pub responses-count : r ≡ pieces_of p
-  responses-count = rw e refl
+  pub responses_count : r ≡ pieces_of p
+  responses_count = rw e refl
 
-  pub responses-fit : (i : ℕ) (counts : List ℕ) (results : List Float) → i < pieces_of p → PiecesFit p counts results → (i < r) × PartsFit r t counts results
-  responses-fit i counts results l f = (rw e at l, rw e at f)
+  pub responses_fit : (i : ℕ) (counts : List ℕ) (results : List Float) → i < pieces_of p → PiecesFit p counts results → (i < r) × PartsFit r t counts results
+  responses_fit i counts results l f = (rw e at l, rw e at f)
 
-  pub responses-text : (i n : ℕ) (counts : List ℕ) (results : List Float) (out w : List ℕ) → Written (part_text i t counts results) out n w → Written (piece_text p counts results i) out n w
+  pub responses_text : (i n : ℕ) (counts : List ℕ) (results : List Float) (out w : List ℕ) → Written (part_text i t counts results) out n w → Written (piece_text p counts results i) out n w
   unfolding piece_text
-  responses-text i n counts results out w h = rw e h
+  responses_text i n counts results out w h = rw e h
 
 pub refusal_text : (p : Pieces) (k b : ℕ) → p ≡ Refusal k b → (i n : ℕ) (counts : List ℕ) (results : List Float) (out w : List ℕ) → Written (refused_line k b) out n w → Written (piece_text p counts results i) out n w
 unfolding piece_text

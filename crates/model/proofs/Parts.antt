@@ -4,16 +4,16 @@ use mathlib.Core.List.{List, [], ◌∷◌}
 use Prim.Native.Nat.{ℕ, ◌+◌, ◌≤◌}
 use native.Mathlib.Omega.{arith}
 use Rattle.model.specs.Account.{◌⊞◌, AtMost, AddsUp, Accepts}
-use Rattle.model.specs.Items.{Item, aFit, aSolve, a_try, a_point, etaRefused, meanRefused, pwrssRefused, accepted, is_solve, is_try, is_eta, is_mean, is_pwrss, is_ok, count_of, tally}
+use Rattle.model.specs.Items.{Item, a_fit, aSolve, a_try, a_point, eta_refused, meanRefused, pwrssRefused, accepted, is_solve, is_try, is_eta, is_mean, is_pwrss, is_ok, count_of, tally}
 use Rattle.model.specs.declared.counts.Account.{Account}
 
 -- each try is in exactly one of the four
 pub parts_add_up : (is : List Item) → count_of is_eta is + count_of is_mean is + count_of is_pwrss is + count_of is_ok is ≡ count_of is_try is
 unfolding count_of
 parts_add_up [] = refl
-parts_add_up (aFit ∷ is) = omega (arith, parts_add_up is)
+parts_add_up (a_fit ∷ is) = omega (arith, parts_add_up is)
 parts_add_up (aSolve ∷ is) = omega (arith, parts_add_up is)
-parts_add_up (a_try etaRefused ∷ is) = omega (arith, parts_add_up is)
+parts_add_up (a_try eta_refused ∷ is) = omega (arith, parts_add_up is)
 parts_add_up (a_try meanRefused ∷ is) = omega (arith, parts_add_up is)
 parts_add_up (a_try pwrssRefused ∷ is) = omega (arith, parts_add_up is)
 parts_add_up (a_try accepted ∷ is) = omega (arith, parts_add_up is)

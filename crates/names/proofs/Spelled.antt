@@ -24,15 +24,15 @@ other_lengths f (x ∷ xs) (y ∷ ys) h = rw (← other_lengths f xs ys (λ e. h
 
 -- ---- from place i on, the lists are compared as they are from the next place on, if these entries are equal
 module _ (w n : List ℕ) (i : ℕ) (lw : i < length w) (ln : i < length n) where
-  from-here : same_bytes (map lower_of (drop i w)) (drop i n) ≡ eqb (lower_of (get_or w i 0)) (get_or n i 0) && same_bytes (map lower_of (drop (suc i) w)) (drop (suc i) n)
+  from_here : same_bytes (map lower_of (drop i w)) (drop i n) ≡ eqb (lower_of (get_or w i 0)) (get_or n i 0) && same_bytes (map lower_of (drop (suc i) w)) (drop (suc i) n)
   unfolding same_bytes
-  from-here = rw (drop-cons w i 0 lw, drop-cons n i 0 ln)
+  from_here = rw (drop-cons w i 0 lw, drop-cons n i 0 ln)
 
-  pub entry-differs : (lower_of (get_or w i 0) ≡ get_or n i 0 → ⊥) → same_bytes (map lower_of (drop i w)) (drop i n) ≡ same_bytes (map lower_of w) n → false ≡ same_bytes (map lower_of w) n
-  entry-differs h e = sym (from-here ∙ rw (ne_eqb _ _ h)) ∙ e
+  pub entry_differs : (lower_of (get_or w i 0) ≡ get_or n i 0 → ⊥) → same_bytes (map lower_of (drop i w)) (drop i n) ≡ same_bytes (map lower_of w) n → false ≡ same_bytes (map lower_of w) n
+  entry_differs h e = sym (from_here ∙ rw (ne_eqb _ _ h)) ∙ e
 
-  pub entry-same : lower_of (get_or w i 0) ≡ get_or n i 0 → same_bytes (map lower_of (drop i w)) (drop i n) ≡ same_bytes (map lower_of w) n → same_bytes (map lower_of (drop (i + 1) w)) (drop (i + 1) n) ≡ same_bytes (map lower_of w) n
-  entry-same h e = rw add-one (sym (from-here ∙ rw (eq-eqb _ _ h)) ∙ e)
+  pub entry_same : lower_of (get_or w i 0) ≡ get_or n i 0 → same_bytes (map lower_of (drop i w)) (drop i n) ≡ same_bytes (map lower_of w) n → same_bytes (map lower_of (drop (i + 1) w)) (drop (i + 1) n) ≡ same_bytes (map lower_of w) n
+  entry_same h e = rw add-one (sym (from_here ∙ rw (eq-eqb _ _ h)) ∙ e)
 
 -- ---- at the end nothing is left to differ
 pub all_same : (w n : List ℕ) (i : ℕ) → length w ≤ i → length n ≤ i → same_bytes (map lower_of (drop i w)) (drop i n) ≡ same_bytes (map lower_of w) n → true ≡ same_bytes (map lower_of w) n

@@ -21,13 +21,13 @@ use Rattle.agq_rule.specs.Inner.{after_run, inner_with, inner_of}
 use Rattle.table.specs.Tests.{absent_or, good_inputs, good_results, good_work, all_finite, finite_numbers, all_in_range, start_fits}
 use Rattle.table.specs.Table.{refuse_unless, table_of}
 use Rattle.table.specs.declared.verdicts.Verdict.TheVariants.{Accepted}
-use Rattle.dispersion.specs.Rounds.{no_result, withFlag, lastFit, fixed_of}
+use Rattle.dispersion.specs.Rounds.{no_result, with_flag, last_fit, fixed_of}
 use Rattle.job.proofs.JobCases.{case_j, job_j, case_j_read}
 use Rattle.lines.specs.Lines.{end_line}
 use Rattle.lines.proofs.LineCases.{case_j_line}
 use Rattle.call.specs.Fit.{result_by, total_of, inner_at, fit_by, fit_of}
 use Rattle.call.specs.Call.{lengths_of, call_given}
-use Rattle.call.proofs.Leaves.{asked_fit, unfitted-answer}
+use Rattle.call.proofs.Leaves.{asked_fit, unfitted_answer_lem}
 use Rattle.report.specs.Report.{answer_text}
 use Rattle.jobfit.specs.Done.{inputs_of, zeros}
 use Rattle.output.specs.Output.{slices_for, call_for, left_text, output_by, output_of}
@@ -39,17 +39,17 @@ accepted_j = refl
 
 -- no iteration is left to do
 unfitted_j : (asked_fit Poisson Log job_j.settings job_j.shape (inputs_of job_j)).outcome ≡ no_result NoStop
-unfolding fit_of fit_by fixed_of lastFit withFlag inner_at total_of result_by inner_of inner_with after_run run_of items_before run_from failed_after limit_of call_given
+unfolding fit_of fit_by fixed_of last_fit with_flag inner_at total_of result_by inner_of inner_with after_run run_of items_before run_from failed_after limit_of call_given
 unfitted_j = refl
 
 counted_j : tally (asked_fit Poisson Log job_j.settings job_j.shape (inputs_of job_j)).items ≡ one_fit
-unfolding fit_of fit_by fixed_of lastFit withFlag inner_at total_of result_by inner_of inner_with after_run run_of items_before run_from failed_after limit_of call_given tally count_of
+unfolding fit_of fit_by fixed_of last_fit with_flag inner_at total_of result_by inner_of inner_with after_run run_of items_before run_from failed_after limit_of call_given tally count_of
 counted_j = refl
 
 answer_j : (call_for job_j).answer ≡ unfitted_answer NoStop one_fit
 unfolding unfitted_answer
 answer_j =
-    unfitted-answer job_j.settings job_j.shape (inputs_of job_j) (slices_for job_j.settings) Poisson Log accepted_j NoStop unfitted_j ∙ rw counted_j refl
+    unfitted_answer_lem job_j.settings job_j.shape (inputs_of job_j) (slices_for job_j.settings) Poisson Log accepted_j NoStop unfitted_j ∙ rw counted_j refl
 
 told_j : left_text (call_for job_j) ≡ end_line (unfitted_answer NoStop one_fit)
 unfolding answer_text unfitted_answer

@@ -42,22 +42,22 @@ module _ (t : Settings) (s : Shape) (I : Inputs) (L : Lent) (terms : List Float)
   unfolding good_work lengths_of
   same_work = rw (le-leb 7000 (length L.terms) before, le-leb 7000 (length terms) now) refl
 
-  same-results : good_results 1 t (lengths_of (with_terms terms L)) ≡ good_results 1 t (lengths_of L)
+  same_results : good_results 1 t (lengths_of (with_terms terms L)) ≡ good_results 1 t (lengths_of L)
   unfolding good_results lengths_of
-  same-results = refl
+  same_results = refl
 
-  same-verdict : table_of 1 t s I (lengths_of (with_terms terms L)) ≡ table_of 1 t s I (lengths_of L)
+  same_verdict : table_of 1 t s I (lengths_of (with_terms terms L)) ≡ table_of 1 t s I (lengths_of L)
   unfolding table_of
-  same-verdict = rw (same_work, same-results) refl
+  same_verdict = rw (same_work, same_results) refl
 
   -- a call with other terms of at least 7,000 numbers has the same answer and results
-  pub same-call : SameTold (call_of t s I (with_terms terms L)) (call_of t s I L)
+  pub same_call : SameTold (call_of t s I (with_terms terms L)) (call_of t s I L)
   unfolding call_of
-  same-call = rw same-verdict (by_verdict (table_of 1 t s I (lengths_of L)) t s I L terms)
+  same_call = rw same_verdict (by_verdict (table_of 1 t s I (lengths_of L)) t s I L terms)
 
   -- so the same is printed of it
   pub same_text : left_text (call_of t s I (with_terms terms L)) ≡ left_text (call_of t s I L)
-  same_text = rw (same-call.answer, same-call.results) refl
+  same_text = rw (same_call.answer, same_call.results) refl
 
 -- ---- what stands in the lent bytes is the output
 zeros_are : 7000 ≤ length (zeros 7000)
@@ -65,11 +65,11 @@ unfolding zeros
 zeros_are = rw (length-replicate 7000 zero_f) (omega arith)
 
 module _ (job : List ℕ) (terms : List Float) (out : List ℕ) (many : 7000 ≤ length terms) where
-  read-prints : (r : Read) → Written (output_by r) out (response_by r terms out).told (response_by r terms out).out
+  read_prints : (r : Read) → Written (output_by r) out (response_by r terms out).told (response_by r terms out).out
   unfolding output_by response_by slices_for
-  read-prints (faulty r b) = (refl, refl)
-  read-prints (sound j) = rw (← (same_text j.settings j.shape _ (slices_for j.settings) terms zeros_are many)) (refl, refl)
+  read_prints (faulty r b) = (refl, refl)
+  read_prints (sound j) = rw (← (same_text j.settings j.shape _ (slices_for j.settings) terms zeros_are many)) (refl, refl)
 
-  pub respond-prints : out_room ≤ length out → Written (output_of job) out (respond_of job terms out).told (respond_of job terms out).out
+  pub respond_prints : out_room ≤ length out → Written (output_of job) out (respond_of job terms out).told (respond_of job terms out).out
   unfolding output_of respond_of
-  respond-prints room = rw (le-leb out_room (length out) room) (read-prints (read_of job))
+  respond_prints room = rw (le-leb out_room (length out) room) (read_prints (read_of job))

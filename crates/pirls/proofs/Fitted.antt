@@ -34,7 +34,7 @@ use Rattle.iteration.specs.declared.iterates.Iteration.{Iteration}
 use Rattle.iteration.specs.declared.iterates.Iteration.TheVariants.{Unsolvable, Stuck, Moved}
 use Rattle.pirls.specs.Inner.{failed_fit, stopped_fit, InnerLeft}
 use Rattle.pirls.specs.declared.run.InnerFit.{InnerFit}
-use Rattle.pirls.proofs.Turns.{run_to, Going, going-starts, spent, unsolved-end, stuck-end, goes_on, fit-stopped, sum_fits}
+use Rattle.pirls.proofs.Turns.{run_to, Going, going_starts, spent, unsolved_end, stuck_end, goes_on, fit-stopped, sum_fits}
 
 -- slices of the same lengths are as good
 pub asked_kept : {n p q : ℕ} {shape : Shape} {theta : List Float} {starts columns : List ℕ} {values offset x y r m t r' m' t' : List Float} → Asked n p q shape theta starts columns values offset x y r m t
@@ -55,7 +55,7 @@ module _ (family : CarriedFamily) (link : CarriedLink) (phi : Float) (L n p q : 
     begun a ha =
         let w' : Wrote 0 n (build (start_eta_at link offset (row (mu_row n) n r₀)) n) r₀ r' = rw ea at w in
         let w'' : Wrote 0 n (start_eta G (row (mu_row n) n r')) r₀ r' = rw mu_kept w' in
-        rw ha (going-starts G phi L (row (mu_row n) n r') r₀ r' m₀ t₀ (rw e at lent) (sym mu_kept) w'')
+        rw ha (going_starts G phi L (row (mu_row n) n r') r₀ r' m₀ t₀ (rw e at lent) (sym mu_kept) w'')
 
     rows_wide : Only 0 (rows_length n) r₀ r'
     rows_wide = only_wide 0 n 0 (rows_length n) (omega arith) (omega arith) w.only
@@ -71,13 +71,13 @@ module _ (family : CarriedFamily) (link : CarriedLink) (phi : Float) (L n p q : 
             → InnerLeft G phi L (row (mu_row n) n r₀) r₀ r2 m₀ m2 t₀ t2 b
         end-unsolved end b ei hb =
             let i' : IterationLeft G phi (row (eta_row n second) n r) (row (mu_row n) n r) (eta_row n (not second)) r r2 m m2 t t2 (Unsolvable end) = rw ei at i in
-            rw (hb, ← mu_kept) (unsolved-end G phi L (row (mu_row n) n r') r₀ r r' r2 m₀ m m2 t₀ t t2 old second k account end g l i'.told rows_wide i'.rows_only i'.matrices_only i'.terms_only)
+            rw (hb, ← mu_kept) (unsolved_end G phi L (row (mu_row n) n r') r₀ r r' r2 m₀ m m2 t₀ t t2 old second k account end g l i'.told rows_wide i'.rows_only i'.matrices_only i'.terms_only)
 
         pub end-stuck : (made a : Account) (b : InnerFit) → it ≡ Stuck made → a ≡ account ⊞ (one_solve ⊞ made) → b ≡ failed_fit NoStep a
             → InnerLeft G phi L (row (mu_row n) n r₀) r₀ r2 m₀ m2 t₀ t2 b
         end-stuck made a b ei ha hb =
             let i' : IterationLeft G phi (row (eta_row n second) n r) (row (mu_row n) n r) (eta_row n (not second)) r r2 m m2 t t2 (Stuck made) = rw ei at i in
-            rw (hb, ha, ← mu_kept) (stuck-end G phi L (row (mu_row n) n r') r₀ r r' r2 m₀ m m2 t₀ t t2 old second k account made g l i'.told rows_wide i'.rows_only i'.matrices_only i'.terms_only)
+            rw (hb, ha, ← mu_kept) (stuck_end G phi L (row (mu_row n) n r') r₀ r r' r2 m₀ m m2 t₀ t t2 old second k account made g l i'.told rows_wide i'.rows_only i'.matrices_only i'.terms_only)
 
         module _ (pwrss : Float) (made a : Account) (ei : it ≡ Moved pwrss made) (ha : a ≡ account ⊞ (one_solve ⊞ made)) where
           i' : IterationLeft G phi (row (eta_row n second) n r) (row (mu_row n) n r) (eta_row n (not second)) r r2 m m2 t t2 (Moved pwrss made)

@@ -16,7 +16,7 @@ use Rattle.layout.specs.WorkMatrices.{system_place, root_inverse_place, u_place,
 use Rattle.layout.specs.WorkTerms.{terms_length}
 use Rattle.layout.proofs.LaidOut.{laid_out}
 use Rattle.model.specs.Account.{◌⊞◌, one_fit, one_solve, AtMost, SumFits}
-use Rattle.model.specs.Items.{Item, aFit, aSolve, tally}
+use Rattle.model.specs.Items.{Item, a_fit, aSolve, tally}
 use Rattle.model.specs.declared.counts.Account.{Account}
 use Rattle.model.specs.declared.ends.End.{End}
 use Rattle.model.specs.declared.ends.End.TheVariants.{NoStep, NoStop}
@@ -87,12 +87,12 @@ module _ (G : Given) (phi : Float) (L : ℕ) (mu₀ : List Float) where
   whole = run_from G phi L (start_at G mu₀)
 
   -- the state after k iterations, as the rows hold it
-  abbrev pub stateIn : ℕ → Bool → List Float → Float → State
-  stateIn k second rows old = record { done = k; eta = row (eta_row n second) n rows; mu = row (mu_row n) n rows; old = old }
+  abbrev pub state_in : ℕ → Bool → List Float → Float → State
+  state_in k second rows old = record { done = k; eta = row (eta_row n second) n rows; mu = row (mu_row n) n rows; old = old }
 
   -- what is left of the run
   abbrev pub rest_at : ℕ → Bool → List Float → Float → Outcome
-  rest_at k second rows old = run_from G phi (L - k) (stateIn k second rows old)
+  rest_at k second rows old = run_from G phi (L - k) (state_in k second rows old)
 
   -- after k iterations: the rest of the run ends as the whole does, the whole's items are those counted and the rest's, and after a move the means are the predictor's
   pub record Going (r₀ r m₀ m t₀ t : List Float) (old : Float) (second : Bool) (k : ℕ) (account : Account) : Type 0 where
@@ -101,18 +101,18 @@ module _ (G : Given) (phi : Float) (L : ℕ) (mu₀ : List Float) where
     pub met : 0 < k → Met G.link n (row (eta_row n second) n r) (row (mu_row n) n r)
     pub few : AtMost (run_to k) account
     pub ending : whole.ending ≡ (rest_at k second r old).ending
-    pub items : tally (aFit ∷ whole.items) ≡ account ⊞ tally (rest_at k second r old).items
+    pub items : tally (a_fit ∷ whole.items) ≡ account ⊞ tally (rest_at k second r old).items
     pub rows_only : Only 0 (rows_length n) r₀ r
     pub matrices_only : Only 0 (matrices_length p q) m₀ m
     pub terms_only : Only 0 terms_length t₀ t
 
   -- before the first
-  pub going-starts : (r₀ r m t : List Float) → WorkRoom n p q r₀ m t → row (mu_row n) n r₀ ≡ mu₀ → Wrote 0 n (start_eta G mu₀) r₀ r → Going r r m m t t huge_f false 0 one_fit
+  pub going_starts : (r₀ r m t : List Float) → WorkRoom n p q r₀ m t → row (mu_row n) n r₀ ≡ mu₀ → Wrote 0 n (start_eta G mu₀) r₀ r → Going r r m m t t huge_f false 0 one_fit
   unfolding eta_row start_at turned
-  going-starts r₀ r m t lent e w =
+  going_starts r₀ r m t lent e w =
       let l : rows_length n ≤ length r₀ = lent.rows_long in
       let mu : row (mu_row n) n r ≡ mu₀ = only_row (mu_row n) n 0 n (inr (omega arith)) (omega arith) w.only ∙ e in
-      let same : stateIn 0 false r huge_f ≡ start_at G mu₀ = rw (w.row', mu) refl in
+      let same : state_in 0 false r huge_f ≡ start_at G mu₀ = rw (w.row', mu) refl in
       let z : L - 0 ≡ L = omega arith in
       let rest : rest_at 0 false r huge_f ≡ whole = rw z (ap (run_from G phi L) same) in
       record {
@@ -121,26 +121,26 @@ module _ (G : Given) (phi : Float) (L : ℕ) (mu₀ : List Float) where
         met = λ l'. absurd (omega arith);
         few = one_few;
         ending = ap (λ (o : Outcome). o.ending) (sym rest);
-        items = rw rest (tally_append (aFit ∷ []) whole.items ∙ rw tally_fit refl);
+        items = rw rest (tally_append (a_fit ∷ []) whole.items ∙ rw tally_fit refl);
         rows_only = only_none 0 (rows_length n) r;
         matrices_only = only_none 0 (matrices_length p q) m;
         terms_only = only_none 0 terms_length t;
       }
 
   -- ---- one turn
-  fuel-turn : (k : ℕ) → k < L → L - k ≡ suc (L - (k + 1))
-  fuel-turn k h = omega arith
+  fuel_turn : (k : ℕ) → k < L → L - k ≡ suc (L - (k + 1))
+  fuel_turn k h = omega arith
 
   module _ (k : ℕ) (second : Bool) (rows : List Float) (old : Float) (lt : k < L) where
     abbrev s : State
-    s = stateIn k second rows old
+    s = state_in k second rows old
 
     abbrev rest : State → Outcome
     rest = run_from G phi (L - (k + 1))
 
     turn : rest_at k second rows old ≡ after_solve (solve_of G phi s.eta s.mu) G s rest
     unfolding run_from
-    turn = rw (fuel-turn k lt) refl
+    turn = rw (fuel_turn k lt) refl
 
     turn_unsolved : (e : End) → solve_of G phi s.eta s.mu ≡ unsolved e → rest_at k second rows old ≡ failed_after [] e
     unfolding after_solve
@@ -158,15 +158,15 @@ module _ (G : Given) (phi : Float) (L : ℕ) (mu₀ : List Float) where
   -- ---- the whole, when the rest is known
 
   -- nothing more is done
-  done-items : (account : Account) (e : End) (o : Outcome) → o ≡ failed_after [] e → account ⊞ tally o.items ≡ account
+  done_items : (account : Account) (e : End) (o : Outcome) → o ≡ failed_after [] e → account ⊞ tally o.items ≡ account
   unfolding failed_after
-  done-items account e o h = rw (h, tally_none) (plus_none account)
+  done_items account e o h = rw (h, tally_none) (plus_none account)
 
   -- an end without a result
-  fit-failed : (account : Account) (e : End) (r r' m m' t t' : List Float) → whole.ending ≡ failed e → tally (aFit ∷ whole.items) ≡ account
+  fit_failed : (account : Account) (e : End) (r r' m m' t t' : List Float) → whole.ending ≡ failed e → tally (a_fit ∷ whole.items) ≡ account
       → Only 0 (rows_length n) r r' → Only 0 (matrices_length p q) m m' → Only 0 terms_length t t' → InnerLeft G phi L mu₀ r r' m m' t t' (failed_fit e account)
   unfolding run_of items_before
-  fit-failed account e r r' m m' t t' he hi or om ot =
+  fit_failed account e r r' m m' t t' he hi or om ot =
       record { told = rw he refl; counted = sym hi; rows_only = or; matrices_only = om; terms_only = ot }
 
   -- after the last iteration: end 13
@@ -176,26 +176,26 @@ module _ (G : Given) (phi : Float) (L : ℕ) (mu₀ : List Float) where
   spent r₀ r r' m₀ m t₀ t old second k account g l or =
       let f : L - k ≡ 0 = omega arith in
       let d : rest_at k second r old ≡ failed_after [] NoStop = rw f refl in
-      fit-failed account NoStop r₀ r m₀ m t₀ t (g.ending ∙ rw d refl) (g.items ∙ done-items account NoStop (rest_at k second r old) d) (only_trans or g.rows_only) g.matrices_only g.terms_only
+      fit_failed account NoStop r₀ r m₀ m t₀ t (g.ending ∙ rw d refl) (g.items ∙ done_items account NoStop (rest_at k second r old) d) (only_trans or g.rows_only) g.matrices_only g.terms_only
 
   -- ends 10 and 11
-  pub unsolved-end : (r₀ r r' r'' m₀ m m' t₀ t t' : List Float) (old : Float) (second : Bool) (k : ℕ) (account : Account) (e : End) → Going r' r m₀ m t₀ t old second k account → k < L
+  pub unsolved_end : (r₀ r r' r'' m₀ m m' t₀ t t' : List Float) (old : Float) (second : Bool) (k : ℕ) (account : Account) (e : End) → Going r' r m₀ m t₀ t old second k account → k < L
       → solve_of G phi (row (eta_row n second) n r) (row (mu_row n) n r) ≡ unsolved e
       → Only 0 (rows_length n) r₀ r' → Only 0 (rows_length n) r r'' → Only 0 (matrices_length p q) m m' → Only 0 terms_length t t' → InnerLeft G phi L mu₀ r₀ r'' m₀ m' t₀ t' (failed_fit e account)
   unfolding failed_after
-  unsolved-end r₀ r r' r'' m₀ m m' t₀ t t' old second k account e g l h or or' om ot =
+  unsolved_end r₀ r r' r'' m₀ m m' t₀ t t' old second k account e g l h or or' om ot =
       let d : rest_at k second r old ≡ failed_after [] e = turn_unsolved k second r old l e h in
-      fit-failed account e r₀ r'' m₀ m' t₀ t' (g.ending ∙ rw d refl) (g.items ∙ done-items account e (rest_at k second r old) d) (only_trans (only_trans or g.rows_only) or') (only_trans g.matrices_only om) (only_trans g.terms_only ot)
+      fit_failed account e r₀ r'' m₀ m' t₀ t' (g.ending ∙ rw d refl) (g.items ∙ done_items account e (rest_at k second r old) d) (only_trans (only_trans or g.rows_only) or') (only_trans g.matrices_only om) (only_trans g.terms_only ot)
 
   -- end 12
-  pub stuck-end : (r₀ r r' r'' m₀ m m' t₀ t t' : List Float) (old : Float) (second : Bool) (k : ℕ) (account made : Account) → Going r' r m₀ m t₀ t old second k account → k < L
+  pub stuck_end : (r₀ r r' r'' m₀ m m' t₀ t t' : List Float) (old : Float) (second : Bool) (k : ℕ) (account made : Account) → Going r' r m₀ m t₀ t old second k account → k < L
       → StuckAfter G phi (row (eta_row n second) n r) (row (mu_row n) n r) made
       → Only 0 (rows_length n) r₀ r' → Only 0 (rows_length n) r r'' → Only 0 (matrices_length p q) m m' → Only 0 terms_length t t' → InnerLeft G phi L mu₀ r₀ r'' m₀ m' t₀ t' (failed_fit NoStep (account ⊞ (one_solve ⊞ made)))
   unfolding failed_after
-  stuck-end r₀ r r' r'' m₀ m m' t₀ t t' old second k account made g l x or or' om ot =
+  stuck_end r₀ r r' r'' m₀ m m' t₀ t t' old second k account made g l x or or' om ot =
       let d : rest_at k second r old ≡ failed_after (aSolve ∷ x.items) NoStep = turn_stuck k second r old l x.v x.items x.solve x.tries in
       let c : tally (rest_at k second r old).items ≡ one_solve ⊞ made = rw d (solve_counts x.items made x.count) in
-      fit-failed (account ⊞ (one_solve ⊞ made)) NoStep r₀ r'' m₀ m' t₀ t' (g.ending ∙ rw d refl) (g.items ∙ rw c refl) (only_trans (only_trans or g.rows_only) or') (only_trans g.matrices_only om) (only_trans g.terms_only ot)
+      fit_failed (account ⊞ (one_solve ⊞ made)) NoStep r₀ r'' m₀ m' t₀ t' (g.ending ∙ rw d refl) (g.items ∙ rw c refl) (only_trans (only_trans or g.rows_only) or') (only_trans g.matrices_only om) (only_trans g.terms_only ot)
 
   -- ---- a move
   module _ (r₀ r r' r'' m₀ m m' t₀ t t' : List Float) (old : Float) (second : Bool) (k : ℕ) (account made : Account) (pwrss : Float) (g : Going r' r m₀ m t₀ t old second k account) (l : k < L)
@@ -208,7 +208,7 @@ module _ (G : Given) (phi : Float) (L : ℕ) (mu₀ : List Float) where
     mode = mode_of G (k + 1) x.v mv
 
     abbrev after : Bool → Outcome
-    after b = after_stop b mode (run_from G phi (L - (k + 1))) (moved (stateIn k second r old) mv)
+    after b = after_stop b mode (run_from G phi (L - (k + 1))) (moved (state_in k second r old) mv)
 
     went : rest_at k second r old ≡ items_before (aSolve ∷ x.items) (after (stops old pwrss))
     went = turn_moved k second r old l x.v mv x.items x.solve x.tries
@@ -256,7 +256,7 @@ module _ (G : Given) (phi : Float) (L : ℕ) (mu₀ : List Float) where
       fit-stopped or =
           let lr : rows_length n ≤ length r'' = lent.rows_long in
           let ml : MatricesLaid p q = (laid_out lent.sizes).matrices in
-          let i : tally (aFit ∷ whole.items) ≡ more = g.items ∙ rw ended (went_items (record { ending = stopped mode; items = [] }) ∙ rw (tally_none) (plus_none more)) in
+          let i : tally (a_fit ∷ whole.items) ≡ more = g.items ∙ rw ended (went_items (record { ending = stopped mode; items = [] }) ∙ rw (tally_none) (plus_none more)) in
           record {
             told = rw (g.ending ∙ ap (λ (o : Outcome). o.ending) ended)
                 (record {

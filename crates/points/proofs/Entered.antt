@@ -23,14 +23,14 @@ use Rattle.points.proofs.Kept.{kept_entry}
 
 -- ---- a mean
 module _ (link : CarriedLink) (offset : List Float) (n xb zb mk : ℕ) (r : List Float) (i : ℕ) (l : i < n) (hz : zb + n ≤ length r) (hm : mk + n ≤ length r) where
-  pub mean-skipped : lt zero_f (r ! (mk + i)) ≡ false → r ! (zb + i) ≡ mean_over link offset (row xb n r) (row zb n r) (row mk n r) i
+  pub mean_skipped : lt zero_f (r ! (mk + i)) ≡ false → r ! (zb + i) ≡ mean_over link offset (row xb n r) (row zb n r) (row mk n r) i
   unfolding mean_over marked
-  mean-skipped t = rw (row_at mk n r hm i l, t, row_at zb n r hz i l) refl
+  mean_skipped t = rw (row_at mk n r hm i l, t, row_at zb n r hz i l) refl
 
-  pub mean-taken : (eta mu : Float) → xb + n ≤ length r → lt zero_f (r ! (mk + i)) ≡ true → eta ≡ plus_offset offset i ((r ! (xb + i)) ⊕ (r ! (zb + i))) → mu ≡ link_inv link eta
+  pub mean_taken : (eta mu : Float) → xb + n ≤ length r → lt zero_f (r ! (mk + i)) ≡ true → eta ≡ plus_offset offset i ((r ! (xb + i)) ⊕ (r ! (zb + i))) → mu ≡ link_inv link eta
       → mu ≡ mean_over link offset (row xb n r) (row zb n r) (row mk n r) i
   unfolding mean_over marked
-  mean-taken eta mu hx t e m = m ∙ rw (row_at mk n r hm i l, t, row_at zb n r hz i l, row_at xb n r hx i l, e) refl
+  mean_taken eta mu hx t e m = m ∙ rw (row_at mk n r hm i l, t, row_at zb n r hz i l, row_at xb n r hx i l, e) refl
 
 -- an entry of the row of means looks at its own entries alone
 mean_same : (link : CarriedLink) (offset xb xb' zb zb' mk mk' : List Float) (i : ℕ) → xb ! i ≡ xb' ! i → zb ! i ≡ zb' ! i → mk ! i ≡ mk' ! i → mean_over link offset xb zb mk i ≡ mean_over link offset xb' zb' mk' i
@@ -58,11 +58,11 @@ means_step link offset n xb zb mk i v w x hx hz hm ax am l e d =
 
 -- ---- a deviance
 module _ (family : CarriedFamily) (y weights : List Float) (n dv mu mk : ℕ) (r : List Float) (i : ℕ) (sum : Float) (l : i < n) (hm : mk + n ≤ length r) where
-  pub gain-skipped : lt zero_f (r ! (mk + i)) ≡ false → sum ≡ add_where (marked (row mk n r) i) sum (entered family y weights (row mu n r) (row dv n r) i)
+  pub gain_skipped : lt zero_f (r ! (mk + i)) ≡ false → sum ≡ add_where (marked (row mk n r) i) sum (entered family y weights (row mu n r) (row dv n r) i)
   unfolding add_where marked
-  gain-skipped t = rw (row_at mk n r hm i l, t) refl
+  gain_skipped t = rw (row_at mk n r hm i l, t) refl
 
-  pub gain-taken : (wt dev : Float) → dv + n ≤ length r → mu + n ≤ length r → lt zero_f (r ! (mk + i)) ≡ true → wt ≡ weight_at weights i → dev ≡ dev_resid family (y ! i) (r ! (mu + i)) wt
+  pub gain_taken : (wt dev : Float) → dv + n ≤ length r → mu + n ≤ length r → lt zero_f (r ! (mk + i)) ≡ true → wt ≡ weight_at weights i → dev ≡ dev_resid family (y ! i) (r ! (mu + i)) wt
       → sum ⊕ (dev ⊖ (r ! (dv + i))) ≡ add_where (marked (row mk n r) i) sum (entered family y weights (row mu n r) (row dv n r) i)
   unfolding add_where marked entered
-  gain-taken wt dev hd hu t w d = rw (row_at mk n r hm i l, t, row_at mu n r hu i l, row_at dv n r hd i l, d, w) refl
+  gain_taken wt dev hd hu t w d = rw (row_at mk n r hm i l, t, row_at mu n r hu i l, row_at dv n r hd i l, d, w) refl

@@ -18,7 +18,7 @@ use Rattle.base.specs.List.{build, zero_at}
 use Rattle.base.specs.Rows.{row, Only, Wrote}
 use Rattle.base.specs.Sparse.{Sparse, stored_in, stored}
 use Rattle.base.proofs.Fills.{build_at}
-use Rattle.base.proofs.Rows.{row_at, row-build, only_trans}
+use Rattle.base.proofs.Rows.{row_at, row_build, only_trans}
 use Rattle.agq_rule.specs.Term.{belongs}
 use Rattle.points.specs.Gain.{mark_at, MarkedIn}
 
@@ -86,4 +86,4 @@ group_step Z s j b n w x g m i l = m.here i l ∙ rw (g i l, add-one j) (both (a
 pub group_end : (Z : Sparse) (s k j b n : ℕ) (v w x : List Float) → j ≤ k → k ≤ j → b + n ≤ length v → Only b n v w → Only b n w x → ((i : ℕ) → i < n → x ! (b + i) ≡ mark_at Z s j i) → Wrote b n (build (mark_at Z s k) n) v x
 group_end Z s k j b n v w x m g h o p f =
     let q : j ≡ k = omega arith in
-    rw (← q) (record { row' = row-build b n x (omega (arith, o.len, p.len)) (mark_at Z s j) f; only = only_trans o p })
+    rw (← q) (record { row' = row_build b n x (omega (arith, o.len, p.len)) (mark_at Z s j) f; only = only_trans o p })

@@ -11,13 +11,13 @@ use Rattle.base.specs.List.{build, zero_at, fill_to, fill_at}
 use Rattle.base.specs.Rows.{row, Apart, Only}
 use Rattle.base.proofs.Sums.{lt_or_ge}
 use Rattle.base.proofs.Fills.{build_is, fill_build, fillat_cong, fillat_below, fillat_above, fillat_in, length_fillat}
-use Rattle.base.proofs.Rows.{row_length, row_at, row-build, only_row, only_trans, only_wide, fillat_only}
+use Rattle.base.proofs.Rows.{row_length, row_at, row_build, only_row, only_trans, only_wide, fillat_only}
 use Rattle.model.specs.Shape.{effects_of, InRange}
 use Rattle.model.specs.declared.sizes.Shape.{Shape}
 use Rattle.lambda.specs.Column.{column_of}
 use Rattle.lambda.specs.Product.{across_row, lambda_times_at, column_added_at}
 use Rattle.lambda.proofs.ColumnPlaces.{column_rows}
-use Rattle.lambda.proofs.Entries.{times_to, times_none, times-step}
+use Rattle.lambda.proofs.Entries.{times_to, times_none, times_step}
 
 -- ---- a stretch of a row that is filled
 module _ (b n j c : ℕ) (f : ℕ → Float) (w : List Float) (h : b + n ≤ length w) (l : j + c ≤ n) where
@@ -42,9 +42,9 @@ module _ (b n j c : ℕ) (f : ℕ → Float) (w : List Float) (h : b + n ≤ len
       (lt_or_ge i (j + c)))
       (lt_or_ge i j)
 
-  pub row-filled : row b n whole ≡ part
-  row-filled =
-      row-build b n whole (omega (arith, length_fillat (b + j) c f w)) (λ i. part ! i) at_place
+  pub row_filled : row b n whole ≡ part
+  row_filled =
+      row_build b n whole (omega (arith, length_fillat (b + j) c f w)) (λ i. part ! i) at_place
       ∙ sym (build_is (λ i. part ! i) n part (length_fillat j c f (row b n w) ∙ row_length b n w h) (λ i g. refl))
 
 -- ---- the columns, u and the wiped row at b standing in v
@@ -85,9 +85,9 @@ module _ (s : Shape) (theta : List Float) (q u b : ℕ) (v : List Float) (e : q 
 
     pub within_step : row b q next ≡ fill_to q (times_to s theta U (j + 1)) (row b q v)
     within_step =
-        row-filled b q j count (column_added_at theta first (w ! (u + j)) w (b + j)) w long fits
+        row_filled b q j count (column_added_at theta first (w ! (u + j)) w (b + j)) w long fits
         ∙ fillat_cong j count (column_added_at theta first (w ! (u + j)) w (b + j)) (column_added_at theta first (U ! j) (row b q w) j) (row b q w) added
-        ∙ times-step s theta U q j (row b q v) (row b q w) r (omega (arith, e)) e (omega (arith, row_length b q v hb)) x
+        ∙ times_step s theta U q j (row b q v) (row b q w) r (omega (arith, e)) e (omega (arith, row_length b q v hb)) x
 
     pub within_only : Only b q v next
     within_only =

@@ -24,7 +24,7 @@ use Rattle.call.specs.Fit.{Fitted}
 use Rattle.report.specs.Report.{fitted_text}
 use Rattle.output.specs.Output.{output_of}
 use Rattle.printed.specs.Asked.{verdict_on, fit_for}
-use Rattle.printed.proofs.Printed.{job_refused, table_refused, unfitted-printed, fitted-printed}
+use Rattle.printed.proofs.Printed.{job_refused, table_refused, unfitted_printed, fitted_printed}
 
 -- ---- a line is told by its first byte, and a refusal's by the first digit of its number
 -- no line of refusal 5 is one of refusal r
@@ -75,13 +75,13 @@ no_end text b first e = let same = sym first ∙ ap (λ l. l !! 0) e ∙ five_fi
 
 -- ---- every job, by the reader, the table and the fit
 module _ (s : List ℕ) (b : ℕ) (printed : output_of s ≡ refused_line 5 b) where
-  by-fit : (f : CarriedFamily) (l : CarriedLink) → fault_of s ≡ Sound → verdict_on s ≡ Accepted f l → (x : Result (Dispersed Fitted)) → (fit_for f l s).outcome ≡ x → ⊥
-  by-fit f l e v (no_result end) h = let told = unfitted-printed s f l e v end h in no_end _ b (end_first _) (sym told ∙ printed)
-  by-fit f l e v (result d) h = let told = fitted-printed s f l e v d h in no_end _ b (fitted_first _ _) (sym told ∙ printed)
+  by_fit : (f : CarriedFamily) (l : CarriedLink) → fault_of s ≡ Sound → verdict_on s ≡ Accepted f l → (x : Result (Dispersed Fitted)) → (fit_for f l s).outcome ≡ x → ⊥
+  by_fit f l e v (no_result end) h = let told = unfitted_printed s f l e v end h in no_end _ b (end_first _) (sym told ∙ printed)
+  by_fit f l e v (result d) h = let told = fitted_printed s f l e v d h in no_end _ b (fitted_first _ _) (sym told ∙ printed)
 
   by_verdict : fault_of s ≡ Sound → (v : Verdict) → verdict_on s ≡ v → ⊥
   by_verdict e (Refused r) v = refusal_other r 0 b (sym (table_refused s r e v) ∙ printed)
-  by_verdict e (Accepted f l) v = by-fit f l e v (fit_for f l s).outcome refl
+  by_verdict e (Accepted f l) v = by_fit f l e v (fit_for f l s).outcome refl
 
   by_fault : (x : Fault) → fault_of s ≡ x → ⊥
   by_fault Sound e = by_verdict e (verdict_on s) refl

@@ -21,7 +21,7 @@ use Rattle.job.specs.Job.{job_of, read_by, read_of}
 use Rattle.lines.specs.Lines.{end_line, refused_line}
 use Rattle.call.specs.Fit.{Fitted, answer_of}
 use Rattle.call.specs.Call.{fit_left}
-use Rattle.call.proofs.Leaves.{refused_left, accepted_left, unfitted-answer, fitted-results, fitted-number}
+use Rattle.call.proofs.Leaves.{refused_left, accepted_left, unfitted_answer_lem, fitted_results, fitted_number}
 use Rattle.report.specs.Report.{fitted_text, answer_text}
 use Rattle.jobfit.specs.Done.{inputs_of}
 use Rattle.output.specs.Output.{slices_for, call_for, left_text, output_by, output_of}
@@ -65,24 +65,24 @@ unfitted_text NoStop a R h = rw h
 
 module _ (s : List ℕ) (f : CarriedFamily) (l : CarriedLink) (e : fault_of s ≡ Sound) (v : verdict_on s ≡ Accepted f l) where
   -- ends 10 to 13 have their line alone, with the tally of what was done
-  pub unfitted-printed : (end : End) → (fit_for f l s).outcome ≡ no_result end → output_of s ≡ end_line (unfitted_answer end (tally (fit_for f l s).items))
+  pub unfitted_printed : (end : End) → (fit_for f l s).outcome ≡ no_result end → output_of s ≡ end_line (unfitted_answer end (tally (fit_for f l s).items))
   unfolding unfitted_answer
-  unfitted-printed end h =
-      let a = unfitted-answer (job_of s).settings (job_of s).shape (inputs_of (job_of s)) (slices_for (job_of s).settings) f l v end h in
+  unfitted_printed end h =
+      let a = unfitted_answer_lem (job_of s).settings (job_of s).shape (inputs_of (job_of s)) (slices_for (job_of s).settings) f l v end h in
       sound_called s e ∙ unfitted_text end (call_for (job_of s)).answer (call_for (job_of s)).lent.results (ap (λ (t : Answer). t.number) a) ∙ ap end_line a
 
-  fitted-answer : (call_for (job_of s)).answer ≡ answer_of (fit_for f l s)
+  fitted_answer_lem : (call_for (job_of s)).answer ≡ answer_of (fit_for f l s)
   unfolding fit_left
-  fitted-answer = rw (accepted_left (job_of s).settings (job_of s).shape (inputs_of (job_of s)) (slices_for (job_of s).settings) f l v) refl
+  fitted_answer_lem = rw (accepted_left (job_of s).settings (job_of s).shape (inputs_of (job_of s)) (slices_for (job_of s).settings) f l v) refl
 
-  fitted-told : (a : Answer) (R : Results) → a.number ≡ 0 → answer_text a R ≡ fitted_text a R
+  fitted_told : (a : Answer) (R : Results) → a.number ≡ 0 → answer_text a R ≡ fitted_text a R
   unfolding answer_text
-  fitted-told a R h = rw h
+  fitted_told a R h = rw h
 
   -- a fit has its end line, its deviance, phi and the results of its last mode
-  pub fitted-printed : (d : Dispersed Fitted) → (fit_for f l s).outcome ≡ result d → output_of s ≡ fitted_text (answer_of (fit_for f l s)) (results_of (given_by f l s) d.last.mode)
-  fitted-printed d h =
+  pub fitted_printed : (d : Dispersed Fitted) → (fit_for f l s).outcome ≡ result d → output_of s ≡ fitted_text (answer_of (fit_for f l s)) (results_of (given_by f l s) d.last.mode)
+  fitted_printed d h =
       let L = slices_for (job_of s).settings in
-      let number = fitted-number (job_of s).settings (job_of s).shape (inputs_of (job_of s)) L f l v d h in
-      let results = fitted-results (job_of s).settings (job_of s).shape (inputs_of (job_of s)) L f l v d h in
-      sound_called s e ∙ fitted-told (call_for (job_of s)).answer (call_for (job_of s)).lent.results number ∙ rw (fitted-answer, results) refl
+      let number = fitted_number (job_of s).settings (job_of s).shape (inputs_of (job_of s)) L f l v d h in
+      let results = fitted_results (job_of s).settings (job_of s).shape (inputs_of (job_of s)) L f l v d h in
+      sound_called s e ∙ fitted_told (call_for (job_of s)).answer (call_for (job_of s)).lent.results number ∙ rw (fitted_answer_lem, results) refl

@@ -17,7 +17,7 @@ use Rattle.job.specs.Job.{Job, job_of, read_by, read_of}
 use Rattle.job.specs.Write.{Version, version1, version2, version_of, head_length, body_bytes, job_bytes}
 use Rattle.job_back.specs.Sayable.{Sayable}
 use Rattle.job_back.proofs.Back.{read_back}
-use Rattle.job_back.proofs.Said.{read-sayable}
+use Rattle.job_back.proofs.Said.{read_sayable}
 use Rattle.job_back.proofs.Versions.{job_length}
 use Rattle.call.proofs.Starts.{started, call_start}
 use Rattle.jobfit.specs.Done.{inputs_of}
@@ -61,17 +61,17 @@ module _ (s : List ℕ) (l : CarriedLink) (e : fault_of s ≡ Sound) (trials : (
     (ones : (i : ℕ) → i < (job_of s).settings.n → weight_at (job_of s).weights i ≡ one_f) where
   sayable : Sayable (version_of s) (job_of s)
   unfolding is_sound
-  sayable = read-sayable s (rw e refl)
+  sayable = read_sayable s (rw e refl)
 
   -- the call as it was asked, and with the usual start
-  call-alike : call_for (job_of s) ≡ call_for (started_job Usual (job_of s))
+  call_alike : call_for (job_of s) ≡ call_for (started_job Usual (job_of s))
   unfolding slices_for
-  call-alike =
+  call_alike =
       let j = job_of s in
       let asked : started_job Trials j ≡ j = ap (λ (x : Start). started_job x j) (sym trials) in
       ap call_for (sym asked)
       ∙ call_start j.settings j.shape (inputs_of j) (slices_for j.settings) l (rw (← trials) v) (λ i b. sayable.y_doubles i (omega (arith, sayable.y, b))) ones
 
-  pub start-printed : output_of s ≡ output_of (job_bytes version1 (started_job Usual (job_of s)))
+  pub start_printed : output_of s ≡ output_of (job_bytes version1 (started_job Usual (job_of s)))
   unfolding output_of output_by read_of read_by
-  start-printed = rw e (ap left_text call-alike ∙ sym (ap output_by (read_back version1 (started_job Usual (job_of s)) (usual_sayable (version_of s) (job_of s) sayable))))
+  start_printed = rw e (ap left_text call_alike ∙ sym (ap output_by (read_back version1 (started_job Usual (job_of s)) (usual_sayable (version_of s) (job_of s) sayable))))

@@ -32,17 +32,17 @@ fit_blocks κs (coded, (blocks, (theta, (y, (weights, (offset, (x, (starts, (col
     (lent beta.now se.now z.now u.now b.now mu.now eta.now residual.now v.now rows.now matrices.now terms.now)
 
 module _ {M : Type 1} {𝓤 : Ura M} (𝓛 : Logic 𝓤) (mem : Memory → SProp 𝓤) (run : Routine → Fun 𝓤) where
-  pub fit-blocks-promised : fit-blocks.clauses 𝓛 mem run ≡ promise 𝓤 fit-blocks.ended fit_blocks
-  fit-blocks-promised = refl
+  pub fit_blocks_promised : fit-blocks.clauses 𝓛 mem run ≡ promise 𝓤 fit-blocks.ended fit_blocks
+  fit_blocks_promised = refl
 
-  pub rows-length-promised : rows-length.clauses 𝓛 mem run ≡ promise 𝓤 rows-length.ended (λ κs a r e. r ≡ rows_asked a.0)
-  rows-length-promised = refl
+  pub rows_length_promised : rows-length.clauses 𝓛 mem run ≡ promise 𝓤 rows-length.ended (λ κs a r e. r ≡ rows_asked a.0)
+  rows_length_promised = refl
 
-  pub matrices-length-promised : matrices-length.clauses 𝓛 mem run ≡ promise 𝓤 matrices-length.ended (λ κs a r e. r ≡ matrices_asked a.0 a.1.0)
-  matrices-length-promised = refl
+  pub matrices_length_promised : matrices-length.clauses 𝓛 mem run ≡ promise 𝓤 matrices-length.ended (λ κs a r e. r ≡ matrices_asked a.0 a.1.0)
+  matrices_length_promised = refl
 
-  pub terms-length-promised : terms_length_lem.clauses 𝓛 mem run ≡ promise 𝓤 terms_length_lem.ended (λ κs a r e. r ≡ terms_length)
-  terms-length-promised = refl
+  pub terms_length_promised : terms_length_lem.clauses 𝓛 mem run ≡ promise 𝓤 terms_length_lem.ended (λ κs a r e. r ≡ terms_length)
+  terms_length_promised = refl
 
 -- ---- the fields of the structs, in their order
 pub block_fields : (x : Block) → (block.the_type).to x ≡ (x.m, (x.k, tt))

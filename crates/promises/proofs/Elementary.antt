@@ -26,29 +26,29 @@ use Rattle.elementary_c.specs.contracts.glmm_sqrt as sqrt
 use Rattle.promises.specs.Promise.{promise}
 
 module _ {M : Type 1} {𝓤 : Ura M} (𝓛 : Logic 𝓤) (mem : Memory → SProp 𝓤) (run : Routine → Fun 𝓤) where
-  pub exp-promised : exp.clauses 𝓛 mem run ≡ promise 𝓤 exp.ended (λ κs a r e. r ≡ exp_of a.0)
-  exp-promised = refl
+  pub exp_promised : exp.clauses 𝓛 mem run ≡ promise 𝓤 exp.ended (λ κs a r e. r ≡ exp_of a.0)
+  exp_promised = refl
 
-  pub exp-m1-promised : exp-m1.clauses 𝓛 mem run ≡ promise 𝓤 exp-m1.ended (λ κs a r e. r ≡ expm1_of a.0)
-  exp-m1-promised = refl
+  pub exp_m1_promised : exp-m1.clauses 𝓛 mem run ≡ promise 𝓤 exp-m1.ended (λ κs a r e. r ≡ expm1_of a.0)
+  exp_m1_promised = refl
 
-  pub ln-promised : ln.clauses 𝓛 mem run ≡ promise 𝓤 ln.ended (λ κs a r e. r ≡ ln_of a.0)
-  ln-promised = refl
+  pub ln_promised : ln.clauses 𝓛 mem run ≡ promise 𝓤 ln.ended (λ κs a r e. r ≡ ln_of a.0)
+  ln_promised = refl
 
-  pub ln-1p-promised : ln-1p.clauses 𝓛 mem run ≡ promise 𝓤 ln-1p.ended (λ κs a r e. r ≡ ln1p_of a.0)
-  ln-1p-promised = refl
+  pub ln_1p_promised : ln-1p.clauses 𝓛 mem run ≡ promise 𝓤 ln-1p.ended (λ κs a r e. r ≡ ln1p_of a.0)
+  ln_1p_promised = refl
 
-  pub ln-gamma-promised : ln-gamma.clauses 𝓛 mem run ≡ promise 𝓤 ln-gamma.ended (λ κs a r e. r ≡ ln_gamma_of a.0)
-  ln-gamma-promised = refl
+  pub ln_gamma_promised : ln-gamma.clauses 𝓛 mem run ≡ promise 𝓤 ln-gamma.ended (λ κs a r e. r ≡ ln_gamma_of a.0)
+  ln_gamma_promised = refl
 
-  pub norm-cdf-promised : norm-cdf.clauses 𝓛 mem run ≡ promise 𝓤 norm-cdf.ended (λ κs a r e. r ≡ norm_cdf a.0)
-  norm-cdf-promised = refl
+  pub norm_cdf_promised : norm-cdf.clauses 𝓛 mem run ≡ promise 𝓤 norm-cdf.ended (λ κs a r e. r ≡ norm_cdf a.0)
+  norm_cdf_promised = refl
 
-  pub norm-pdf-promised : norm-pdf.clauses 𝓛 mem run ≡ promise 𝓤 norm-pdf.ended (λ κs a r e. r ≡ norm_pdf a.0)
-  norm-pdf-promised = refl
+  pub norm_pdf_promised : norm-pdf.clauses 𝓛 mem run ≡ promise 𝓤 norm-pdf.ended (λ κs a r e. r ≡ norm_pdf a.0)
+  norm_pdf_promised = refl
 
-  pub norm-quantile-promised : norm-quantile.clauses 𝓛 mem run ≡ promise 𝓤 norm-quantile.ended (λ κs a r e. r ≡ norm_quantile a.0)
-  norm-quantile-promised = refl
+  pub norm_quantile_promised : norm-quantile.clauses 𝓛 mem run ≡ promise 𝓤 norm-quantile.ended (λ κs a r e. r ≡ norm_quantile a.0)
+  norm_quantile_promised = refl
 
-  pub sqrt-promised : sqrt.clauses 𝓛 mem run ≡ promise 𝓤 sqrt.ended (λ κs a r e. r ≡ sqrt_of a.0)
-  sqrt-promised = refl
+  pub sqrt_promised : sqrt.clauses 𝓛 mem run ≡ promise 𝓤 sqrt.ended (λ κs a r e. r ≡ sqrt_of a.0)
+  sqrt_promised = refl

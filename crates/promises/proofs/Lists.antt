@@ -21,33 +21,33 @@ use Rattle.family_lists.specs.contracts.list_number as list-number
 use Rattle.promises.specs.Promise.{promise}
 
 module _ {M : Type 1} {𝓤 : Ura M} (𝓛 : Logic 𝓤) (mem : Memory → SProp 𝓤) (run : Routine → Fun 𝓤) where
-  pub link-fun-list-promised : link-fun-list.clauses 𝓛 mem run
+  pub link_fun_list_promised : link-fun-list.clauses 𝓛 mem run
       ≡ promise 𝓤 link-fun-list.ended (λ κs a r e. ListedEach (link_fun a.0) a.1.0.now a.1.1.0.now e.1.1.0.now r)
-  link-fun-list-promised = refl
+  link_fun_list_promised = refl
 
-  pub link-inv-list-promised : link-inv-list.clauses 𝓛 mem run
+  pub link_inv_list_promised : link-inv-list.clauses 𝓛 mem run
       ≡ promise 𝓤 link-inv-list.ended (λ κs a r e. ListedEach (link_inv a.0) a.1.0.now a.1.1.0.now e.1.1.0.now r)
-  link-inv-list-promised = refl
+  link_inv_list_promised = refl
 
-  pub mu-eta-list-promised : mu-eta-list.clauses 𝓛 mem run
+  pub mu_eta_list_promised : mu-eta-list.clauses 𝓛 mem run
       ≡ promise 𝓤 mu-eta-list.ended (λ κs a r e. ListedEach (mu_eta a.0) a.1.0.now a.1.1.0.now e.1.1.0.now r)
-  mu-eta-list-promised = refl
+  mu_eta_list_promised = refl
 
-  pub variance-list-promised : variance-list.clauses 𝓛 mem run
+  pub variance_list_promised : variance-list.clauses 𝓛 mem run
       ≡ promise 𝓤 variance-list.ended (λ κs a r e. ListedEach (variance_of a.0) a.1.0.now a.1.1.0.now e.1.1.0.now r)
-  variance-list-promised = refl
+  variance_list_promised = refl
 
-  pub initialize-mu-list-promised : initialize-mu-list.clauses 𝓛 mem run
+  pub initialize_mu_list_promised : initialize-mu-list.clauses 𝓛 mem run
       ≡ promise 𝓤 initialize-mu-list.ended (λ κs a r e. ListedEach (initialize_mu a.0) a.1.0.now a.1.1.0.now e.1.1.0.now r)
-  initialize-mu-list-promised = refl
+  initialize_mu_list_promised = refl
 
-  pub dev-resid-list-promised : dev-resid-list.clauses 𝓛 mem run
+  pub dev_resid_list_promised : dev-resid-list.clauses 𝓛 mem run
       ≡ promise 𝓤 dev-resid-list.ended (λ κs a r e. ListedDeviances a.0 a.1.0.now a.1.1.0.now a.1.1.1.0.now a.1.1.1.1.0.now e.1.1.1.1.0.now r)
-  dev-resid-list-promised = refl
+  dev_resid_list_promised = refl
 
-  pub aic-promised : aic.clauses 𝓛 mem run
+  pub aic_promised : aic.clauses 𝓛 mem run
       ≡ promise 𝓤 aic.ended (λ κs a r e. r ≡ aic_answer a.0 a.1.0.now a.1.1.0.now a.1.1.1.0.now a.1.1.1.1.0)
-  aic-promised = refl
+  aic_promised = refl
 
-  pub list-number-promised : list-number.clauses 𝓛 mem run ≡ promise 𝓤 list-number.ended (λ κs a r e. r ≡ list_number a.0)
-  list-number-promised = refl
+  pub list_number_promised : list-number.clauses 𝓛 mem run ≡ promise 𝓤 list-number.ended (λ κs a r e. r ≡ list_number a.0)
+  list_number_promised = refl

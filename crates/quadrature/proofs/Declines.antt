@@ -57,33 +57,33 @@ found_before cap dims l os f = found_by_lem cap dims l os f (within_cap (size_of
 
 -- where order 3 is within the cap, stepping down comes to an order
 module _ (cap dims : ℕ) (l : 3 ^ dims ≤ cap) where
-  from-three : Found cap dims (Three ∷ [])
+  from_three : Found cap dims (Three ∷ [])
   unfolding first_within within_cap size_of
-  from-three = (Three, rw (le-leb (3 ^ dims) cap l) refl)
+  from_three = (Three, rw (le-leb (3 ^ dims) cap l) refl)
 
-  from-five : Found cap dims (Five ∷ Three ∷ [])
-  from-five = found_before cap dims Five (Three ∷ []) from-three
+  from_five : Found cap dims (Five ∷ Three ∷ [])
+  from_five = found_before cap dims Five (Three ∷ []) from_three
 
-  from-seven : Found cap dims (Seven ∷ Five ∷ Three ∷ [])
-  from-seven = found_before cap dims Seven (Five ∷ Three ∷ []) from-five
+  from_seven : Found cap dims (Seven ∷ Five ∷ Three ∷ [])
+  from_seven = found_before cap dims Seven (Five ∷ Three ∷ []) from_five
 
-  from-nine : Found cap dims (Nine ∷ Seven ∷ Five ∷ Three ∷ [])
-  from-nine = found_before cap dims Nine (Seven ∷ Five ∷ Three ∷ []) from-seven
+  from_nine : Found cap dims (Nine ∷ Seven ∷ Five ∷ Three ∷ [])
+  from_nine = found_before cap dims Nine (Seven ∷ Five ∷ Three ∷ []) from_seven
 
-  capped-found : (o : Order) → Found cap dims (down_from o)
+  capped_found : (o : Order) → Found cap dims (down_from o)
   unfolding down_from
-  capped-found Three = from-three
-  capped-found Five = from-five
-  capped-found Seven = from-seven
-  capped-found Nine = from-nine
-  capped-found Eleven = found_before cap dims Eleven (Nine ∷ Seven ∷ Five ∷ Three ∷ []) from-nine
+  capped_found Three = from_three
+  capped_found Five = from_five
+  capped_found Seven = from_seven
+  capped_found Nine = from_nine
+  capped_found Eleven = found_before cap dims Eleven (Nine ∷ Seven ∷ Five ∷ Three ∷ []) from_nine
 
 -- 3^8 is 6,561, so the joint rule never declines for the cap
 pub joint_always : (w q : ℕ) → 2 ≤ w → 1 ≤ q → q ≤ 8 → (o : Order) × (joint_order w q ≡ Use o)
 unfolding joint_order joint_capped wished capped_from
 joint_always w q l some few =
     let up : 3 ^ q ≤ 3 ^ 8 = pow-le-pow_right {n = 3} (omega arith) few in
-    let f : Found 7000 q (down_from (first_order w)) = capped-found 7000 q (omega (arith, up)) (first_order w) in
+    let f : Found 7000 q (down_from (first_order w)) = capped_found 7000 q (omega (arith, up)) (first_order w) in
     let n : q ≡ 0 → ⊥ = λ e. omega arith in
     (f.0, rw (le-ltb w 2 l, ne_eqb q 0 n, le-ltb 8 q few) f.1)
 
@@ -93,7 +93,7 @@ unfolding product_order product_capped wished capped_from
 product_found w k l few true t = (first_order w, rw (le-ltb w 2 l, t) refl)
 product_found w k l few false t =
     let up : 3 ^ k ≤ 3 ^ 5 = pow-le-pow_right {n = 3} (omega arith) few in
-    let f : Found 400 k (down_from (first_order w)) = capped-found 400 k (omega (arith, up)) (first_order w) in
+    let f : Found 400 k (down_from (first_order w)) = capped_found 400 k (omega (arith, up)) (first_order w) in
     (f.0, rw (le-ltb w 2 l, t) f.1)
 
 pub product_always : (w k : ℕ) → 2 ≤ w → k ≤ 5 → (o : Order) × (product_order w k ≡ Use o)

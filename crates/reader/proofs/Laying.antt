@@ -37,8 +37,8 @@ module _ (e : ℕ) where
       let more : (take e b ++ counts f j) ++ (f j ∷ []) ≡ take e b ++ counts f (j + 1) = append_assoc (take e b) (counts f j) (f j ∷ []) ∙ rw (add-one, counts_more f j) refl in
       rw (q, h, laid_more (take e b ++ counts f j) b (e + j) (f j) long l, more)
 
-  pub build-behind : (f : ℕ → Float) (b w : List Float) (j : ℕ) (x : Float) → x ≡ f j → e + j < length b → w ≡ laid (take e b ++ build f j) b → set w (e + j) x ≡ laid (take e b ++ build f (j + 1)) b
-  build-behind f b w j x h l q =
+  pub build_behind : (f : ℕ → Float) (b w : List Float) (j : ℕ) (x : Float) → x ≡ f j → e + j < length b → w ≡ laid (take e b ++ build f j) b → set w (e + j) x ≡ laid (take e b ++ build f (j + 1)) b
+  build_behind f b w j x h l q =
       let long : length (take e b ++ build f j) ≡ e + j = length-append (take e b) (build f j) ∙ rw (length-take-le e b (omega arith), build_length f j) refl in
       let more : (take e b ++ build f j) ++ (f j ∷ []) ≡ take e b ++ build f (j + 1) = append_assoc (take e b) (build f j) (f j ∷ []) ∙ rw (add-one, build_more f j) refl in
       rw (q, h, laid_more (take e b ++ build f j) b (e + j) (f j) long l, more)

@@ -9,7 +9,7 @@ use lib.Ieee.{Float}
 use lib.ListN.{length, take, drop, length-append, length-drop}
 use lib.Seq.{length-take-le, take_all, drop-drop, drop-length}
 use Rattle.job.specs.Lists.{join_to, laid}
-use Rattle.job.proofs.ListLaws.{behind-none, behind-length}
+use Rattle.job.proofs.ListLaws.{behind_none, behind_length}
 use Rattle.lines.specs.Lines.{Written}
 use Rattle.lines.proofs.Pieces.{appended_both, from_front}
 use Rattle.report.specs.Report.{line_at, value_lines, Grown}
@@ -37,7 +37,7 @@ grown_both {p} x y l = record { put = appended_both x.put y.put (omega (arith, x
 
 -- the buffer is as long as before
 pub grown_length : {p : List ℕ} {c at r : ℕ} {b w : List ℕ} → Grown p c at b r w → at + c ≤ length b → length w ≡ length b
-grown_length {p} {c} {at} {r} {b} x l = ap length x.put.text ∙ behind-length at (length p) p b refl (omega (arith, x.put.ends, x.few))
+grown_length {p} {c} {at} {r} {b} x l = ap length x.put.text ∙ behind_length at (length p) p b refl (omega (arith, x.put.ends, x.few))
 
 -- three pieces
 pub grown_three : {p q s : List ℕ} {c d e at m n r : ℕ} {b w v t : List ℕ} → Grown p c at b m w → Grown q d m w n v → Grown s e n v r t → at + (c + d) ≤ length b → Grown (p ++ (q ++ s)) (c + (d + e)) at b r t
@@ -50,7 +50,7 @@ grown_within x l = record { put = x.put; few = omega (arith, x.few) }
 -- ---- the lines of a list
 pub lines_none : (name : List ℕ) (xs : List Float) (at : ℕ) (b : List ℕ) → at ≤ length b → Grown (join_to 0 (line_at name xs)) (64 * 0) at b at b
 unfolding join_to
-lines_none name xs at b l = record { put = record { ends = omega arith; text = behind-none at b l }; few = omega arith }
+lines_none name xs at b l = record { put = record { ends = omega arith; text = behind_none at b l }; few = omega arith }
 
 pub lines_more : (name : List ℕ) (xs : List Float) (i at m r : ℕ) (b w v : List ℕ) → Grown (join_to i (line_at name xs)) (64 * i) at b m w → Grown (line_at name xs i) 64 m w r v
     → at + 64 * i ≤ length b → Grown (join_to (i + 1) (line_at name xs)) (64 * (i + 1)) at b r v

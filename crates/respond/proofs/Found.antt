@@ -23,15 +23,15 @@ use Rattle.call.specs.Call.{Left, call_of}
 use Rattle.report.specs.Report.{answer_text, Few}
 use Rattle.jobfit.specs.Done.{numbers_of, results_length, zeros, lent_for, Done, done, results_by, done_of, done_for}
 use Rattle.jobfit.specs.Room.{SizesFew}
-use Rattle.jobfit.proofs.Lent.{cells_few, beta-lent}
+use Rattle.jobfit.proofs.Lent.{cells_few, beta_lent}
 use Rattle.jobfit.proofs.Lengths.{ResultsFit, results_fit}
 use Rattle.output.specs.Output.{slices_with, left_text, response, left_response}
 use Rattle.respond.specs.Flat.{lists_of}
 
 -- ---- the parts that are lent are these lists, and they are few
 module _ (n p q : ℕ) (xs : List Float) where
-  abbrev lentLists : Results
-  lentLists =
+  abbrev lent_lists : Results
+  lent_lists =
       let se = 2 + p in
       let z = se + p in
       let u = z + p in
@@ -45,9 +45,9 @@ module _ (n p q : ℕ) (xs : List Float) where
       (take (v - residual) (drop residual xs))
       (take (v + p * p - v) (drop v xs))
 
-  lists-are : lentLists ≡ lists_of n p q xs
+  lists_are : lent_lists ≡ lists_of n p q xs
   unfolding lists_of
-  lists-are =
+  lists_are =
       rw (
         part_row 2 p xs,
         part_row (2 + p) p xs,
@@ -61,27 +61,27 @@ module _ (n p q : ℕ) (xs : List Float) where
       )
       refl
 
-  row-few : (at k most : ℕ) → at + k ≤ length xs → k ≤ most → length (row at k xs) ≤ most
-  row-few at k most h l = rw (row_length at k xs h) l
+  row_few : (at k most : ℕ) → at + k ≤ length xs → k ≤ most → length (row at k xs) ≤ most
+  row_few at k most h l = rw (row_length at k xs h) l
 
-  pub lists-few : n ≤ 512 → p ≤ 16 → q ≤ 32 → results_length n p q ≤ length xs → Few lentLists
+  pub lists_few : n ≤ 512 → p ≤ 16 → q ≤ 32 → results_length n p q ≤ length xs → Few lent_lists
   unfolding lists_of
-  lists-few ln lp lq h =
-      rw lists-are
+  lists_few ln lp lq h =
+      rw lists_are
       (record {
-        beta = row-few 2 p 16 (omega arith) lp;
-        se = row-few (2 + p) p 16 (omega arith) lp;
-        z = row-few (2 + p + p) p 16 (omega arith) lp;
-        u = row-few (2 + p + p + p) q 32 (omega arith) lq;
-        b = row-few (2 + p + p + p + q) q 32 (omega arith) lq;
-        mu = row-few (2 + p + p + p + q + q) n 512 (omega arith) ln;
-        eta = row-few (2 + p + p + p + q + q + n) n 512 (omega arith) ln;
-        residual = row-few (2 + p + p + p + q + q + n + n) n 512 (omega arith) ln;
-        v = row-few (2 + p + p + p + q + q + n + n + n) (p * p) 256 (omega arith) (cells_few p lp);
+        beta = row_few 2 p 16 (omega arith) lp;
+        se = row_few (2 + p) p 16 (omega arith) lp;
+        z = row_few (2 + p + p) p 16 (omega arith) lp;
+        u = row_few (2 + p + p + p) q 32 (omega arith) lq;
+        b = row_few (2 + p + p + p + q) q 32 (omega arith) lq;
+        mu = row_few (2 + p + p + p + q + q) n 512 (omega arith) ln;
+        eta = row_few (2 + p + p + p + q + q + n) n 512 (omega arith) ln;
+        residual = row_few (2 + p + p + p + q + q + n + n) n 512 (omega arith) ln;
+        v = row_few (2 + p + p + p + q + q + n + n + n) (p * p) 256 (omega arith) (cells_few p lp);
       })
 
-pub flat_written : (n p q : ℕ) (xs : List Float) (a : Answer) (b w : List ℕ) (r : ℕ) → Written (answer_text a (lentLists n p q xs)) b r w → Written (answer_text a (lists_of n p q xs)) b r w
-flat_written n p q xs a b w r h = rw (← (lists-are n p q xs)) h
+pub flat_written : (n p q : ℕ) (xs : List Float) (a : Answer) (b w : List ℕ) (r : ℕ) → Written (answer_text a (lent_lists n p q xs)) b r w → Written (answer_text a (lists_of n p q xs)) b r w
+flat_written n p q xs a b w r h = rw (← (lists_are n p q xs)) h
 
 -- ---- one list is cut off, and the next begins
 cut : (k n : ℕ) (xs l r : List Float) → drop k xs ≡ l ++ r → length l ≡ n → (row k n xs ≡ l) × (drop (k + n) xs ≡ r)
@@ -100,9 +100,9 @@ module _ (n p q : ℕ) (a : Answer) (R : Results) (b : List Float) (fits : Resul
   unfolding laid numbers_of
   begun = flat R.beta R.se R.z R.u R.b R.mu R.eta R.residual R.v (drop (length (numbers_of a R)) b)
 
-  pub lists-found : lists_of n p q written ≡ R
+  pub lists_found : lists_of n p q written ≡ R
   unfolding lists_of
-  lists-found =
+  lists_found =
       let r₉ : List Float = drop (length (numbers_of a R)) b in
       let r₈ : List Float = R.v ++ r₉ in
       let r₇ : List Float = R.residual ++ r₈ in
@@ -132,7 +132,7 @@ results_room t room f e = rw (e, length-replicate 1906 zero_f) (most_results t f
 
 lent_whole : (t : Settings) (terms : List Float) → SizesFew t → lent_for t (replicate 8192 zero_f) (replicate 5696 zero_f) terms (replicate 1906 zero_f) ≡ slices_with terms t
 unfolding lent_for zeros
-lent_whole t terms f = let e = beta-lent t (length (replicate 1906 zero_f)) (results_length t.n t.p t.rows) refl (results_room t (length (replicate 1906 zero_f)) f refl) in rw (← e) refl
+lent_whole t terms f = let e = beta_lent t (length (replicate 1906 zero_f)) (results_length t.n t.p t.rows) refl (results_room t (length (replicate 1906 zero_f)) f refl) in rw (← e) refl
 
 -- ---- what is printed of a call whose results stand in one buffer
 unfitted_text : (a : Answer) (R S : Results) → eqb a.number 0 ≡ false → answer_text a R ≡ answer_text a S
@@ -140,12 +140,12 @@ unfolding answer_text
 unfitted_text a R S e = rw e refl
 
 module _ (t : Settings) (l : Left) (before after : List Float) (fits : l.answer.number ≡ 0 → ResultsFit t.n t.p t.rows l.lent.results) where
-  pub left-text : after ≡ results_by l before → answer_text l.answer (lists_of t.n t.p t.rows after) ≡ left_text l
+  pub left_text_lem : after ≡ results_by l before → answer_text l.answer (lists_of t.n t.p t.rows after) ≡ left_text l
   unfolding results_by
-  left-text e = by (eqb l.answer.number 0) refl
+  left_text_lem e = by (eqb l.answer.number 0) refl
     where
       by : (x : Bool) → eqb l.answer.number 0 ≡ x → answer_text l.answer (lists_of t.n t.p t.rows after) ≡ left_text l
-      by true q = rw (e, q, lists-found t.n t.p t.rows l.answer l.lent.results before (fits (eqb-true _ _ q))) refl
+      by true q = rw (e, q, lists_found t.n t.p t.rows l.answer l.lent.results before (fits (eqb-true _ _ q))) refl
       by false q = unfitted_text l.answer _ _ q
 
 -- what is told of a call that was done over arrays of zeros and lent terms
@@ -158,6 +158,6 @@ read_response t s I lent rows matrices terms results a out w r few d h =
     let l = call_of t s I (lent_for t (replicate 8192 zero_f) (replicate 5696 zero_f) lent (replicate 1906 zero_f)) in
     let answer : a ≡ l.answer = ap (λ (x : Done). x.answer) d in
     let left : terms ≡ l.lent.terms = ap (λ (x : Done). x.terms) d in
-    let text : answer_text l.answer (lists_of t.n t.p t.rows results) ≡ left_text l = left-text t l (replicate 1906 zero_f) results (λ z. results_fit t s I _ z) (ap (λ (x : Done). x.results) d) in
+    let text : answer_text l.answer (lists_of t.n t.p t.rows results) ≡ left_text l = left_text_lem t l (replicate 1906 zero_f) results (λ z. results_fit t s I _ z) (ap (λ (x : Done). x.results) d) in
     let line : answer_text a (lists_of t.n t.p t.rows results) ≡ left_text l = rw answer text in
     rw (← (lent_whole t lent few), h.0, h.1, line, left) refl

@@ -38,20 +38,20 @@ called_response s h g a j terms out x d =
 
 -- ---- by the room
 module _ (job : List ℕ) (terms : List Float) (out : List ℕ) where
-  pub short-response : length out < out_room → response 0 terms out ≡ respond_of job terms out
+  pub short_response : length out < out_room → response 0 terms out ≡ respond_of job terms out
   unfolding respond_of
-  short-response l = rw (lt-leb out_room (length out) l) refl
+  short_response l = rw (lt-leb out_room (length out) l) refl
 
-  pub room-response : (x : Response) → out_room ≤ length out → x ≡ response_by (read_of job) terms out → x ≡ respond_of job terms out
+  pub room_response : (x : Response) → out_room ≤ length out → x ≡ response_by (read_of job) terms out → x ≡ respond_of job terms out
   unfolding respond_of
-  room-response x l e = rw (le-leb out_room (length out) l) e
+  room_response x l e = rw (le-leb out_room (length out) l) e
 
 -- the refusal of a long job answers all of them
 pub short_long : (out : List ℕ) → length out < out_room → RespondLong out 0 out
-short_long out l job terms long = short-response job terms out l
+short_long out l job terms long = short_response job terms out l
 
 pub long_response : (out w : List ℕ) (k : ℕ) → out_room ≤ length out → Written (refused_line 25 65536) out k w → RespondLong out k w
-long_response out w k l h job terms long = room-response job terms out (response k terms w) l (refused_response job 25 65536 terms out w k (long_read job long) h)
+long_response out w k l h job terms long = room_response job terms out (response k terms w) l (refused_response job 25 65536 terms out w k (long_read job long) h)
 
 -- ---- what is told is within the bytes
 text_within : (text : List ℕ) (terms : List Float) (out : List ℕ) → (response_of text terms out).told ≤ length (response_of text terms out).out

@@ -17,13 +17,13 @@ use Rattle.results.specs.Room.{Readable, Writable}
 
 -- ---- the nine, each from its call
 module _ (shape : Shape) (n p q : ℕ) (theta y columns modeBeta modeU modeMu modeEta beta se z u b mu eta residual v : List Float) (beta' se' z' u' b' mu' eta' residual' v' : List Float) where
-  pub results-made : Readable shape n p q theta y columns modeBeta modeU modeMu modeEta → Writable n p q beta se z u b mu eta residual v
+  pub results_made : Readable shape n p q theta y columns modeBeta modeU modeMu modeEta → Writable n p q beta se z u b mu eta residual v
       → v' ≡ grid_to p p (v_at p columns) v → se' ≡ fill_to p (se_at p v') se → z' ≡ fill_to p (z_value_at modeBeta se') z → beta' ≡ fill_to p (entry_of modeBeta) beta
       → u' ≡ fill_to q (entry_of modeU) u → b' ≡ fill_to q (lambda_times_at shape theta modeU) b → mu' ≡ fill_to n (entry_of modeMu) mu → eta' ≡ fill_to n (entry_of modeEta) eta
       → residual' ≡ fill_to n (residual_at y modeMu) residual
       → nine beta' se' z' u' b' mu' eta' residual' v' ≡ results_from n p shape theta y columns modeBeta modeU modeMu modeEta
   unfolding results_from v_from se_of z_values residuals_of
-  results-made r w ev es ez ebeta eu eb emu eeta eres =
+  results_made r w ev es ez ebeta eu eb emu eeta eres =
       let v-is : v' ≡ v_from p columns = ev ∙ grid_matrix p p (v_at p columns) v w.v_long in
       let se-is : se' ≡ se_of p (v_from p columns) = es ∙ fill_build p (se_at p v') se w.se_long ∙ ap (se_of p) v-is in
       let z-is : z' ≡ z_values p modeBeta (se_of p (v_from p columns)) = ez ∙ fill_build p (z_value_at modeBeta se') z w.z_long ∙ ap (z_values p modeBeta) se-is in

@@ -50,8 +50,8 @@ apart : (a q k : ℕ) → a * 2 ^ k + q * 2 ^ k ≡ (a + q) * 2 ^ k
 apart a q k = sym (add-mul a q (2 ^ k))
 
 module _ (Y q k p : ℕ) (full : 2 ^ 52 ≤ q) (s : 2 ^ 52 * 2 ^ k ≤ p → Multiple p k) where
-  above-side : 4 * Y < (2 * q + 1) * (2 * q + 1) * 4 ^ k → q * 2 ^ k < p → 4 * Y < (p + q * 2 ^ k) * (p + q * 2 ^ k)
-  above-side w h =
+  above_side : 4 * Y < (2 * q + 1) * (2 * q + 1) * 4 ^ k → q * 2 ^ k < p → 4 * Y < (p + q * 2 ^ k) * (p + q * 2 ^ k)
+  above_side w h =
       let g : 2 ^ 52 * 2 ^ k ≤ q * 2 ^ k = mul-le-mul_right (2 ^ k) full in
       let c = s (omega arith) in
       let l : q < c.c = lt_of_mul-lt-mul_right (2 ^ k) (subst (λ (y : ℕ). q * 2 ^ k < y) c.is h) in
@@ -72,8 +72,8 @@ module _ (Y q k p : ℕ) (full : 2 ^ 52 ≤ q) (s : 2 ^ 52 * 2 ^ k ≤ p → Mul
       le_trans (le_of_eq c.is) (mul-le-mul_right (2 ^ k) (omega arith)))
       (lt_or_le p (2 ^ 52 * 2 ^ k))
 
-  below-side : 4 ^ 52 * 4 ^ k ≤ Y → (2 * q - 1) * (2 * q - 1) * 4 ^ k < 4 * Y → p < q * 2 ^ k → (p + q * 2 ^ k) * (p + q * 2 ^ k) < 4 * Y
-  below-side least w h =
+  below_side : 4 ^ 52 * 4 ^ k ≤ Y → (2 * q - 1) * (2 * q - 1) * 4 ^ k < 4 * Y → p < q * 2 ^ k → (p + q * 2 ^ k) * (p + q * 2 ^ k) < 4 * Y
+  below_side least w h =
       ⊎_elim
       (λ (g : 2 ^ 52 ≡ q).
       let b : p + q * 2 ^ k + 1 ≤ 2 ^ 53 * 2 ^ k = omega (arith, ap (λ (n : ℕ). n * 2 ^ k) g) in
@@ -136,7 +136,7 @@ nearest_at x w =
           let c = counted z f a b in
           let s : 2 ^ 52 * 2 ^ k ≤ units_of z → Multiple (units_of z) k = rw (units_of_value z false _ c.value) (spaced c.g c.j k c.most) in
           let u : units_of (root_of (units_of x * 2 ^ 1074)) ≡ q * 2 ^ k = ap units_of is ∙ units_placed q k d w.place in
-          rw u (record { from_below = below-side _ q k _ d.least s least up; from_above = above-side _ q k _ d.least s down });
+          rw u (record { from_below = below_side _ q k _ d.least s least up; from_above = above_side _ q k _ d.least s down });
     }
 
 -- for every number above zero: no other double is as near to its root

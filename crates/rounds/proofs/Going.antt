@@ -21,12 +21,12 @@ use Rattle.model.proofs.Tallies.{tally_append}
 use Rattle.rule.specs.Given.{Given, n_of, q_of}
 use Rattle.agq_rule.specs.Inner.{InnerEnd, with_mode, without_mode, inner_of}
 use Rattle.dispersion.specs.Phi.{round_of}
-use Rattle.dispersion.specs.Rounds.{result, no_result, Total, Dispersed, totalBefore, withFlag, lastFit, dispersionFrom, dispersionOf}
+use Rattle.dispersion.specs.Rounds.{result, no_result, Total, Dispersed, total_before, with_flag, last_fit, dispersion_from, dispersion_of}
 use Rattle.dispersion.specs.declared.round.Round.{Round}
 use Rattle.dispersion.specs.declared.round.Round.TheVariants.{Settled, Next}
-use Rattle.dispersion.proofs.Turns.{round-unfitted, round-settled, round-next}
+use Rattle.dispersion.proofs.Turns.{round_unfitted, round_settled, round_next}
 use Rattle.call.specs.Fit.{Fitted, sum_of, result_by, total_of, inner_at}
-use Rattle.call.proofs.Capped.{one_fit_lem, inner-at-capped}
+use Rattle.call.proofs.Capped.{one_fit_lem, inner_at_capped}
 use Rattle.inner.specs.Answered.{AnswerTold, AnswerLeft}
 use Rattle.rounds.specs.Totals.{round_after, fit_from}
 use Rattle.rounds.specs.Fitted.{FitLeft}
@@ -44,11 +44,11 @@ module _ (G : Given) (mu : List Float) (wish L : ℕ) (effective : Float) where
   inner = inner_at G mu wish L
 
   abbrev whole : Total (Dispersed Fitted)
-  whole = dispersionOf effective sum_of inner
+  whole = dispersion_of effective sum_of inner
 
   -- what is left after k rounds
   abbrev rest_at : ℕ → Float → Total (Dispersed Fitted)
-  rest_at k phi = dispersionFrom effective sum_of inner (240 - k) phi
+  rest_at k phi = dispersion_from effective sum_of inner (240 - k) phi
 
   -- after k rounds
   pub record Going (r₀ r m₀ m t₀ t : List Float) (phi : Float) (account : Account) (k : ℕ) : Type 0 where
@@ -61,7 +61,7 @@ module _ (G : Given) (mu : List Float) (wish L : ℕ) (effective : Float) where
     pub terms_only : Only 0 terms_length t₀ t
 
   pub begun : (r m t : List Float) (b : Account) → b ≡ no_counts → Going r r m m t t one_f b 0
-  unfolding dispersionOf
+  unfolding dispersion_of
   begun r m t b e =
       rw e
       (record {
@@ -80,15 +80,15 @@ module _ (G : Given) (mu : List Float) (wish L : ℕ) (effective : Float) where
     pub sums_fit : good_shape G.design.shape ≡ true → L ≤ 1000 → SumFits account a.account
     unfolding inner_at total_of
     sums_fit good few =
-        let one : AtMost inner_cap a.account = rw i.counted (inner-at-capped G mu wish L good few phi) in
+        let one : AtMost inner_cap a.account = rw i.counted (inner_at_capped G mu wish L good few phi) in
         capped_fit (inner_capped k (omega (arith, g.within)) g.few) (caps_trans one_fit_lem one)
 
     -- the last round of all
     pub end_spent : (b : Account) (f : Fit) → 240 ≤ k → b ≡ account ⊞ a.account → f ≡ fit_from a.end a phi false b → FitLeft G whole r₀ r' m₀ m' t₀ t' f
-    unfolding dispersionFrom lastFit inner_at total_of
+    unfolding dispersion_from last_fit inner_at total_of
     end_spent b f h eb ef =
         let z : 240 - k ≡ 0 = omega arith in
-        let o : whole.outcome ≡ withFlag false phi (inner phi).outcome = g.outcome ∙ rw z refl in
+        let o : whole.outcome ≡ with_flag false phi (inner phi).outcome = g.outcome ∙ rw z refl in
         let s : tally whole.items ≡ b = g.items ∙ (rw (z, eb, i.counted) refl) in
         ended G mu wish L phi false whole o r₀ r r' m₀ m m' t₀ t t' g.rows_only g.matrices_only g.terms_only a i b f s ef
 
@@ -98,28 +98,28 @@ module _ (G : Given) (mu : List Float) (wish L : ℕ) (effective : Float) where
 
       -- the loop settles where nothing is to follow
       settled-rest : (x : InnerEnd) → (inner_of G wish phi L mu).ending ≡ x → AnswerTold x G r' m' a → round_after a.end effective phi a.deviance_sum ≡ Settled
-          → rest_at k phi ≡ lastFit true phi (inner phi)
-      unfolding inner_at total_of result_by round_after lastFit withFlag
+          → rest_at k phi ≡ last_fit true phi (inner phi)
+      unfolding inner_at total_of result_by round_after last_fit with_flag
       settled-rest (without_mode e) q h s =
           let o : (inner phi).outcome ≡ no_result e = ap result_by q in
-          rw left-turn (round-unfitted effective sum_of inner (240 - (k + 1)) phi e o ∙ rw q refl)
+          rw left-turn (round_unfitted effective sum_of inner (240 - (k + 1)) phi e o ∙ rw q refl)
       settled-rest (with_mode M n) q h s =
           let o : (inner phi).outcome ≡ result (record { mode = M; integral = n }) = ap result_by q in
           let s' : round_of effective phi M.dev_sum ≡ Settled = rw (h.end, h.sum) at s in
-          rw left-turn (round-settled effective sum_of inner (240 - (k + 1)) phi (record { mode = M; integral = n }) o s' ∙ rw q refl)
+          rw left-turn (round_settled effective sum_of inner (240 - (k + 1)) phi (record { mode = M; integral = n }) o s' ∙ rw q refl)
 
       pub end-settled : (b : Account) (f : Fit) → round_after a.end effective phi a.deviance_sum ≡ Settled → b ≡ account ⊞ a.account → f ≡ fit_from a.end a phi true b
           → FitLeft G whole r₀ r' m₀ m' t₀ t' f
-      unfolding lastFit inner_at total_of
+      unfolding last_fit inner_at total_of
       end-settled b f s eb ef =
-          let rest : rest_at k phi ≡ lastFit true phi (inner phi) = settled-rest (inner_of G wish phi L mu).ending refl i.told s in
-          let o : whole.outcome ≡ withFlag true phi (inner phi).outcome = g.outcome ∙ rw rest refl in
+          let rest : rest_at k phi ≡ last_fit true phi (inner phi) = settled-rest (inner_of G wish phi L mu).ending refl i.told s in
+          let o : whole.outcome ≡ with_flag true phi (inner phi).outcome = g.outcome ∙ rw rest refl in
           let c : tally whole.items ≡ b = g.items ∙ (rw (rest, eb, i.counted) refl) in
           ended G mu wish L phi true whole o r₀ r r' m₀ m m' t₀ t t' g.rows_only g.matrices_only g.terms_only a i b f c ef
 
       -- it goes on at the next phi
       next-rest : (next : Float) (x : InnerEnd) → (inner_of G wish phi L mu).ending ≡ x → AnswerTold x G r' m' a → round_after a.end effective phi a.deviance_sum ≡ Next next
-          → rest_at k phi ≡ totalBefore (inner phi).items (rest_at (k + 1) next)
+          → rest_at k phi ≡ total_before (inner phi).items (rest_at (k + 1) next)
       unfolding inner_at total_of result_by round_after
       next-rest next (without_mode e) q h s =
           let s' : Settled ≡ Next next = rw h at s in
@@ -127,14 +127,14 @@ module _ (G : Given) (mu : List Float) (wish L : ℕ) (effective : Float) where
       next-rest next (with_mode M n) q h s =
           let o : (inner phi).outcome ≡ result (record { mode = M; integral = n }) = ap result_by q in
           let s' : round_of effective phi M.dev_sum ≡ Next next = rw (h.end, h.sum) at s in
-          rw left-turn (round-next effective sum_of inner (240 - (k + 1)) phi (record { mode = M; integral = n }) next o s')
+          rw left-turn (round_next effective sum_of inner (240 - (k + 1)) phi (record { mode = M; integral = n }) next o s')
 
       pub turn_on : (b : Account) (next : Float) → good_shape G.design.shape ≡ true → L ≤ 1000 → round_after a.end effective phi a.deviance_sum ≡ Next next → b ≡ account ⊞ a.account
           → Going r₀ r' m₀ m' t₀ t' next b (k + 1)
-      unfolding totalBefore inner_at total_of
+      unfolding total_before inner_at total_of
       turn_on b next good few s eb =
-          let rest : rest_at k phi ≡ totalBefore (inner phi).items (rest_at (k + 1) next) = next-rest next (inner_of G wish phi L mu).ending refl i.told s in
-          let one : AtMost inner_cap a.account = rw i.counted (inner-at-capped G mu wish L good few phi) in
+          let rest : rest_at k phi ≡ total_before (inner phi).items (rest_at (k + 1) next) = next-rest next (inner_of G wish phi L mu).ending refl i.told s in
+          let one : AtMost inner_cap a.account = rw i.counted (inner_at_capped G mu wish L good few phi) in
           let c : tally whole.items ≡ account ⊞ (tally (inner phi).items ⊞ tally (rest_at (k + 1) next).items) =
           g.items ∙ (rw rest (ap (λ (x : Account). account ⊞ x) (tally_append (inner phi).items (rest_at (k + 1) next).items))) in
           rw eb

@@ -5,7 +5,7 @@ ghost use Rattle.rule.specs.Given.{design_of, given_of};
 ghost use Rattle.rule.specs.Run.{start_means};
 ghost use Rattle.iteration.specs.Iterated.{Asked};
 ghost use Rattle.dispersion.specs.Phi.{effective_n};
-ghost use Rattle.dispersion.specs.Rounds.{dispersionOf, fixed_of};
+ghost use Rattle.dispersion.specs.Rounds.{dispersion_of, fixed_of};
 ghost use Rattle.call.specs.Fit.{sum_of, inner_at, fit_of};
 ghost use Rattle.rounds.specs.Fitted.{FitLeft};
 
@@ -44,7 +44,7 @@ fn dispersed_fit(
         (given_of family link y.now weights.now
         (design_of n p shape theta.now offset.now x.now
         (sparse starts.now columns.now values.now)))
-        (dispersionOf (effective_n n weights.now) sum_of
+        (dispersion_of (effective_n n weights.now) sum_of
         (inner_at
         (given_of family link y.now weights.now
         (design_of n p shape theta.now offset.now x.now

@@ -9,7 +9,7 @@ use Rattle.base.specs.Number.{◌⊗◌, one_f, half_f, finite}
 use Rattle.base.specs.Sum.{all_to, finite_at}
 use Rattle.model.specs.Account.{Accepts}
 use Rattle.model.specs.Caps.{tries_cap}
-use Rattle.model.specs.Items.{Item, aFit, aSolve, a_try, Fate, etaRefused, meanRefused, pwrssRefused, is_solve, is_ok, count_of, tally}
+use Rattle.model.specs.Items.{Item, a_fit, aSolve, a_try, Fate, eta_refused, meanRefused, pwrssRefused, is_solve, is_ok, count_of, tally}
 use Rattle.model.specs.declared.ends.End.{End}
 use Rattle.model.specs.declared.ends.End.TheVariants.{SystemPivot, NormalPivot, NoStep, NoStop}
 use Rattle.model.proofs.Tallies.{count_append}
@@ -36,7 +36,7 @@ moves_in (no_move is) = 0
 
 -- ---- a try is refused by one of its three tests, or it moves
 data Tested : Tried → Type 0 where
-  eta_failed : Tested (refused etaRefused)
+  eta_failed : Tested (refused eta_refused)
   mean_failed : Tested (refused meanRefused)
   pwrss_failed : Tested (refused pwrssRefused)
   passed : (m : Move) → Tested (moves m)
@@ -74,7 +74,7 @@ one_before f (no_move is) e p = record { ok = rw e (omega (arith, p.ok)); solves
 try_found : (x : Tried) → Tested x → (rest : Float → Search) (step : Float) → ((st : Float) → Found (rest st)) → Found (after_try x rest step)
 unfolding after_try count_of
 try_found (moves m) (passed _) rest step h = record { ok = refl; solves = refl }
-try_found (refused etaRefused) eta_failed rest step h = one_before etaRefused (rest (step ⊗ half_f)) refl (h (step ⊗ half_f))
+try_found (refused eta_refused) eta_failed rest step h = one_before eta_refused (rest (step ⊗ half_f)) refl (h (step ⊗ half_f))
 try_found (refused meanRefused) mean_failed rest step h = one_before meanRefused (rest (step ⊗ half_f)) refl (h (step ⊗ half_f))
 try_found (refused pwrssRefused) pwrss_failed rest step h = one_before pwrssRefused (rest (step ⊗ half_f)) refl (h (step ⊗ half_f))
 
@@ -150,53 +150,53 @@ abbrev pub Paid : Outcome → Type 0
 Paid o = count_of is_solve o.items ≡ count_of is_ok o.items + stuck_in o.ending
 
 module _ (G : Given) (s : State) (rest : State → Outcome) (h : (t : State) → Paid (rest t)) where
-  stop-paid : (b : Bool) (m : Mode) (t : State) → Paid (after_stop b m rest t)
+  stop_paid : (b : Bool) (m : Mode) (t : State) → Paid (after_stop b m rest t)
   unfolding after_stop count_of
-  stop-paid true m t = refl
-  stop-paid false m t = h t
+  stop_paid true m t = refl
+  stop_paid false m t = h t
 
-  search-paid : (x : Search) (v : Solved) → Found x → Paid (after_search x G v s rest)
+  search_paid : (x : Search) (v : Solved) → Found x → Paid (after_search x G v s rest)
   unfolding after_search items_before failed_after count_of
-  search-paid (no_move is) v p = omega (arith, p.ok, p.solves)
-  search-paid (found_move m is) v p =
+  search_paid (no_move is) v p = omega (arith, p.ok, p.solves)
+  search_paid (found_move m is) v p =
       let b = stops s.old m.pwrss in
       let k = mode_of G (s.done + 1) v m in
       let js = (after_stop b k rest (moved s m)).items in
-      omega (arith, p.ok, p.solves, stop-paid b k (moved s m), count_append is_solve is js, count_append is_ok is js)
+      omega (arith, p.ok, p.solves, stop_paid b k (moved s m), count_append is_solve is js, count_append is_ok is js)
 
-  solve-paid : (x : Solve) → Pivots x → Paid (after_solve x G s rest)
+  solve_paid : (x : Solve) → Pivots x → Paid (after_solve x G s rest)
   unfolding after_solve failed_after count_of
-  solve-paid (solved v) (both_done _) = search-paid (tries_of (trial_of G v s.eta)) v (of_found (trial_of G v s.eta))
-  solve-paid (unsolved SystemPivot) system_failed = refl
-  solve-paid (unsolved NormalPivot) normal_failed = refl
+  solve_paid (solved v) (both_done _) = search_paid (tries_of (trial_of G v s.eta)) v (of_found (trial_of G v s.eta))
+  solve_paid (unsolved SystemPivot) system_failed = refl
+  solve_paid (unsolved NormalPivot) normal_failed = refl
 
 from_paid : (G : Given) (phi : Float) (f : ℕ) (s : State) → Paid (run_from G phi f s)
 unfolding run_from failed_after count_of
 from_paid G phi zero s = refl
 from_paid G phi (suc f) s =
-    solve-paid G s (run_from G phi f) (λ t. from_paid G phi f t) (solve_of G phi s.eta s.mu) (pivots G phi s.eta s.mu)
+    solve_paid G s (run_from G phi f) (λ t. from_paid G phi f t) (solve_of G phi s.eta s.mu) (pivots G phi s.eta s.mu)
 
 -- ---- the inner fit
 module _ (G : Given) (phi : Float) (L : ℕ) (mu : List Float) where
-  pub run-paid : Paid (run_of G phi L mu)
+  pub run_paid : Paid (run_of G phi L mu)
   unfolding run_of items_before count_of
-  run-paid = omega (arith, from_paid G phi L (start_at G mu))
+  run_paid = omega (arith, from_paid G phi L (start_at G mu))
 
   -- accepted never exceed the solves
-  pub run-accepted : count_of is_ok (run_of G phi L mu).items ≤ count_of is_solve (run_of G phi L mu).items
-  run-accepted = omega (arith, run-paid)
+  pub run_accepted : count_of is_ok (run_of G phi L mu).items ≤ count_of is_solve (run_of G phi L mu).items
+  run_accepted = omega (arith, run_paid)
 
-  pub run-accepts : Accepts (tally (run_of G phi L mu).items)
+  pub run_accepts : Accepts (tally (run_of G phi L mu).items)
   unfolding tally
-  run-accepts = run-accepted
+  run_accepts = run_accepted
 
   -- each solve has its accepted try, unless the run ended with 12; then the last has none
-  pub run-all : ((run_of G phi L mu).ending ≡ failed NoStep → ⊥) → count_of is_ok (run_of G phi L mu).items ≡ count_of is_solve (run_of G phi L mu).items
-  run-all h = omega (arith, run-paid, by-ending (run_of G phi L mu).ending h)
+  pub run_all : ((run_of G phi L mu).ending ≡ failed NoStep → ⊥) → count_of is_ok (run_of G phi L mu).items ≡ count_of is_solve (run_of G phi L mu).items
+  run_all h = omega (arith, run_paid, by_ending (run_of G phi L mu).ending h)
     where
-      by-ending : (x : Ending) → (x ≡ failed NoStep → ⊥) → stuck_in x ≡ 0
-      by-ending (stopped m) n = refl
-      by-ending (failed e) n = not_stuck e (λ q. n (ap failed q))
+      by_ending : (x : Ending) → (x ≡ failed NoStep → ⊥) → stuck_in x ≡ 0
+      by_ending (stopped m) n = refl
+      by_ending (failed e) n = not_stuck e (λ q. n (ap failed q))
 
-  pub run-stuck : (run_of G phi L mu).ending ≡ failed NoStep → count_of is_ok (run_of G phi L mu).items + 1 ≡ count_of is_solve (run_of G phi L mu).items
-  run-stuck e = omega (arith, run-paid, ap stuck_in e)
+  pub run_stuck : (run_of G phi L mu).ending ≡ failed NoStep → count_of is_ok (run_of G phi L mu).items + 1 ≡ count_of is_solve (run_of G phi L mu).items
+  run_stuck e = omega (arith, run_paid, ap stuck_in e)

@@ -18,7 +18,7 @@ use Rattle.rule.specs.Solve.{Solved, Solve, solved, unsolved, solve_of}
 use Rattle.rule.specs.Try.{Trial, Tried, refused, moves, Search, found_move, no_move, item_before, try_of, after_try, tries_from, tries_of, trial_of}
 use Rattle.rule.specs.Stop.{Mode, mode_of, stops}
 use Rattle.rule.specs.Run.{Outcome, State, items_before, failed_after, after_stop, moved, after_search, after_solve, run_from, start_at, run_of}
-use Rattle.rule.proofs.Accepted.{items_in, run-accepts}
+use Rattle.rule.proofs.Accepted.{items_in, run_accepts}
 
 -- ---- the tries of one solve
 -- f items at most, and every one a try
@@ -82,16 +82,16 @@ then_runs c f is js t r =
     }
 
 module _ (G : Given) (c f : ℕ) (s : State) (rest : State → Outcome) (h : (t : State) → Runs c f (rest t).items) where
-  stop-runs : (b : Bool) (m : Mode) (t : State) → Runs c f (after_stop b m rest t).items
+  stop_runs : (b : Bool) (m : Mode) (t : State) → Runs c f (after_stop b m rest t).items
   unfolding after_stop
-  stop-runs true m t = nothing c f
-  stop-runs false m t = h t
+  stop_runs true m t = nothing c f
+  stop_runs false m t = h t
 
-  search-runs : (x : Search) (v : Solved) → Tries c (items_in x) → Runs c (suc f) (after_search x G v s rest).items
+  search_runs : (x : Search) (v : Solved) → Tries c (items_in x) → Runs c (suc f) (after_search x G v s rest).items
   unfolding after_search items_before failed_after
-  search-runs (no_move is) v t = solve_tries c f is t
-  search-runs (found_move m is) v t =
-      then_runs c f is (after_stop (stops s.old m.pwrss) (mode_of G (s.done + 1) v m) rest (moved s m)).items t (stop-runs (stops s.old m.pwrss) (mode_of G (s.done + 1) v m) (moved s m))
+  search_runs (no_move is) v t = solve_tries c f is t
+  search_runs (found_move m is) v t =
+      then_runs c f is (after_stop (stops s.old m.pwrss) (mode_of G (s.done + 1) v m) rest (moved s m)).items t (stop_runs (stops s.old m.pwrss) (mode_of G (s.done + 1) v m) (moved s m))
 
 run_from_lem : (G : Given) (phi : Float) (f : ℕ) (s : State) → Runs (tries_cap (link_of G.link)) f (run_from G phi f s).items
 unfolding run_from failed_after after_solve trial_of
@@ -100,14 +100,14 @@ run_from_lem G phi (suc f) s = by_solve (solve_of G phi s.eta s.mu) (λ t. run_f
   where
     by_solve : (x : Solve) → ((t : State) → Runs (tries_cap (link_of G.link)) f (run_from G phi f t).items) → Runs (tries_cap (link_of G.link)) (suc f) (after_solve x G s (run_from G phi f)).items
     by_solve (unsolved e) h = nothing (tries_cap (link_of G.link)) (suc f)
-    by_solve (solved v) h = search-runs G (tries_cap (link_of G.link)) f s (run_from G phi f) h (tries_of (trial_of G v s.eta)) v (tries_of_lem (trial_of G v s.eta))
+    by_solve (solved v) h = search_runs G (tries_cap (link_of G.link)) f s (run_from G phi f) h (tries_of (trial_of G v s.eta)) v (tries_of_lem (trial_of G v s.eta))
 
 -- ---- the inner fit: one fit, at most L solves and 25·L tries, with the inverse link 100·L; no part of the tries is above them, and no more are accepted than there are solves
 pub run_capped : (G : Given) (phi : Float) (L : ℕ) (mu : List Float) → AtMost (inner_cap_of G.design.shape (link_of G.link) L) (tally (run_of G phi L mu).items)
 unfolding run_of items_before tally inner_cap_of count_of
 run_capped G phi L mu =
     let r = run_from_lem G phi L (start_at G mu) in
-    parts_capped _ _ (tally_parts (run_of G phi L mu).items) (run-accepts G phi L mu) (omega (arith, r.fits)) (omega (arith, r.solves)) (omega (arith, r.tries)) (omega (arith, r.points))
+    parts_capped _ _ (tally_parts (run_of G phi L mu).items) (run_accepts G phi L mu) (omega (arith, r.fits)) (omega (arith, r.solves)) (omega (arith, r.tries)) (omega (arith, r.points))
     (omega arith) (omega arith) (omega arith) (omega arith)
 
 -- ---- no point is among its items

@@ -6,7 +6,7 @@ use mathlib.Core.Logic.{◌↔◌}
 use lib.Ieee.{Float}
 use Rattle.base.specs.Number.{finite}
 use Rattle.base.specs.Sum.{all_to, finite_at}
-use Rattle.model.specs.Items.{etaRefused, meanRefused, pwrssRefused}
+use Rattle.model.specs.Items.{eta_refused, meanRefused, pwrssRefused}
 use Rattle.rule.specs.Try.{Trial, candidate_of, fine_eta_at, means_of, pwrss_of, Move, Tried, refused, moves, after_pwrss, try_pwrss, after_means, try_means, after_eta, try_eta, try_of}
 
 module _ (T : Trial) (step : Float) where
@@ -21,75 +21,75 @@ module _ (T : Trial) (step : Float) where
   r = pwrss_of T c
 
   -- the three tests
-  abbrev pub etasFine : Bool
-  etasFine = all_to T.n (fine_eta_at T.link c)
+  abbrev pub etas_fine : Bool
+  etas_fine = all_to T.n (fine_eta_at T.link c)
 
-  abbrev pub meansFine : Bool
-  meansFine = all_to T.n (finite_at mu)
+  abbrev pub means_fine : Bool
+  means_fine = all_to T.n (finite_at mu)
 
-  abbrev pub pwrssFine : Bool
-  pwrssFine = finite r
+  abbrev pub pwrss_fine : Bool
+  pwrss_fine = finite r
 
   abbrev pub candidate : Move
   candidate = record { eta = c; mu = mu; pwrss = r }
 
   -- by the tests in their order
-  eta-fails : etasFine ≡ false → try_of T step ≡ refused etaRefused
+  eta_fails : etas_fine ≡ false → try_of T step ≡ refused eta_refused
   unfolding try_of try_eta after_eta
-  eta-fails e = rw e refl
+  eta_fails e = rw e refl
 
-  mean-fails : etasFine ≡ true → meansFine ≡ false → try_of T step ≡ refused meanRefused
+  mean_fails : etas_fine ≡ true → means_fine ≡ false → try_of T step ≡ refused meanRefused
   unfolding try_of try_eta after_eta try_means after_means
-  mean-fails e m = rw (e, m) refl
+  mean_fails e m = rw (e, m) refl
 
-  pwrss-fails : etasFine ≡ true → meansFine ≡ true → pwrssFine ≡ false → try_of T step ≡ refused pwrssRefused
+  pwrss_fails : etas_fine ≡ true → means_fine ≡ true → pwrss_fine ≡ false → try_of T step ≡ refused pwrssRefused
   unfolding try_of try_eta after_eta try_means after_means try_pwrss after_pwrss
-  pwrss-fails e m p = rw (e, m, p) refl
+  pwrss_fails e m p = rw (e, m, p) refl
 
-  none-fails : etasFine ≡ true → meansFine ≡ true → pwrssFine ≡ true → try_of T step ≡ moves candidate
+  none_fails : etas_fine ≡ true → means_fine ≡ true → pwrss_fine ≡ true → try_of T step ≡ moves candidate
   unfolding try_of try_eta after_eta try_means after_means try_pwrss after_pwrss
-  none-fails e m p = rw (e, m, p) refl
+  none_fails e m p = rw (e, m, p) refl
 
   -- and back
   data Sorted : Tried → Type 0 where
-    at_eta : etasFine ≡ false → Sorted (refused etaRefused)
-    at_mean : etasFine ≡ true → meansFine ≡ false → Sorted (refused meanRefused)
-    at_pwrss : etasFine ≡ true → meansFine ≡ true → pwrssFine ≡ false → Sorted (refused pwrssRefused)
-    at_none : etasFine ≡ true → meansFine ≡ true → pwrssFine ≡ true → Sorted (moves candidate)
+    at_eta : etas_fine ≡ false → Sorted (refused eta_refused)
+    at_mean : etas_fine ≡ true → means_fine ≡ false → Sorted (refused meanRefused)
+    at_pwrss : etas_fine ≡ true → means_fine ≡ true → pwrss_fine ≡ false → Sorted (refused pwrssRefused)
+    at_none : etas_fine ≡ true → means_fine ≡ true → pwrss_fine ≡ true → Sorted (moves candidate)
 
-  sorted : (x y z : Bool) → etasFine ≡ x → meansFine ≡ y → pwrssFine ≡ z → Sorted (try_of T step)
-  sorted false y z e m p = rw (eta-fails e) (at_eta e)
-  sorted true false z e m p = rw (mean-fails e m) (at_mean e m)
-  sorted true true false e m p = rw (pwrss-fails e m p) (at_pwrss e m p)
-  sorted true true true e m p = rw (none-fails e m p) (at_none e m p)
+  sorted : (x y z : Bool) → etas_fine ≡ x → means_fine ≡ y → pwrss_fine ≡ z → Sorted (try_of T step)
+  sorted false y z e m p = rw (eta_fails e) (at_eta e)
+  sorted true false z e m p = rw (mean_fails e m) (at_mean e m)
+  sorted true true false e m p = rw (pwrss_fails e m p) (at_pwrss e m p)
+  sorted true true true e m p = rw (none_fails e m p) (at_none e m p)
 
   whole : Sorted (try_of T step)
-  whole = sorted etasFine meansFine pwrssFine refl refl refl
+  whole = sorted etas_fine means_fine pwrss_fine refl refl refl
 
   -- refused for eta exactly where an eta cannot be accepted
-  pub eta-exactly : (try_of T step ≡ refused etaRefused) ↔ (etasFine ≡ false)
-  eta-exactly = (λ h. by (rw h at whole), eta-fails)
+  pub eta_exactly : (try_of T step ≡ refused eta_refused) ↔ (etas_fine ≡ false)
+  eta_exactly = (λ h. by (rw h at whole), eta_fails)
     where
-      by : Sorted (refused etaRefused) → etasFine ≡ false
+      by : Sorted (refused eta_refused) → etas_fine ≡ false
       by (at_eta e) = e
 
   -- for a mean exactly where all etas can be accepted and a mean is not finite
-  pub mean-exactly : (try_of T step ≡ refused meanRefused) ↔ ((etasFine ≡ true) × (meansFine ≡ false))
-  mean-exactly = (λ h. by (rw h at whole), λ w. mean-fails w.0 w.1)
+  pub mean_exactly : (try_of T step ≡ refused meanRefused) ↔ ((etas_fine ≡ true) × (means_fine ≡ false))
+  mean_exactly = (λ h. by (rw h at whole), λ w. mean_fails w.0 w.1)
     where
-      by : Sorted (refused meanRefused) → (etasFine ≡ true) × (meansFine ≡ false)
+      by : Sorted (refused meanRefused) → (etas_fine ≡ true) × (means_fine ≡ false)
       by (at_mean e m) = (e, m)
 
   -- for PWRSS exactly where etas and means can be accepted and it is not finite
-  pub pwrss-exactly : (try_of T step ≡ refused pwrssRefused) ↔ ((etasFine ≡ true) × (meansFine ≡ true) × (pwrssFine ≡ false))
-  pwrss-exactly = (λ h. by (rw h at whole), λ w. pwrss-fails w.0 w.1 w.2)
+  pub pwrss_exactly : (try_of T step ≡ refused pwrssRefused) ↔ ((etas_fine ≡ true) × (means_fine ≡ true) × (pwrss_fine ≡ false))
+  pwrss_exactly = (λ h. by (rw h at whole), λ w. pwrss_fails w.0 w.1 w.2)
     where
-      by : Sorted (refused pwrssRefused) → (etasFine ≡ true) × (meansFine ≡ true) × (pwrssFine ≡ false)
+      by : Sorted (refused pwrssRefused) → (etas_fine ≡ true) × (means_fine ≡ true) × (pwrss_fine ≡ false)
       by (at_pwrss e m p) = (e, m, p)
 
   -- and accepted exactly where it passes all three
-  pub moves-exactly : (try_of T step ≡ moves candidate) ↔ ((etasFine ≡ true) × (meansFine ≡ true) × (pwrssFine ≡ true))
-  moves-exactly = (λ h. by (rw h at whole), λ w. none-fails w.0 w.1 w.2)
+  pub moves_exactly : (try_of T step ≡ moves candidate) ↔ ((etas_fine ≡ true) × (means_fine ≡ true) × (pwrss_fine ≡ true))
+  moves_exactly = (λ h. by (rw h at whole), λ w. none_fails w.0 w.1 w.2)
     where
-      by : Sorted (moves candidate) → (etasFine ≡ true) × (meansFine ≡ true) × (pwrssFine ≡ true)
+      by : Sorted (moves candidate) → (etas_fine ≡ true) × (means_fine ≡ true) × (pwrss_fine ≡ true)
       by (at_none e m p) = (e, m, p)

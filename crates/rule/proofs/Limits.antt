@@ -7,7 +7,7 @@ use native.Mathlib.Nat.{not-suc-le-zero, le_of_suc-le-suc}
 use native.Mathlib.Omega.{arith}
 use lib.Ieee.{Float}
 use Rattle.model.specs.Account.{AtMost}
-use Rattle.model.specs.Items.{Item, aFit, aSolve, is_fit, is_solve, is_try, is_point, is_eta, is_mean, is_pwrss, is_ok, count_of, tally}
+use Rattle.model.specs.Items.{Item, a_fit, aSolve, is_fit, is_solve, is_try, is_point, is_eta, is_mean, is_pwrss, is_ok, count_of, tally}
 use Rattle.model.specs.declared.ends.End.TheVariants.{NoStop}
 use Rattle.model.proofs.Tallies.{count_append}
 use Rattle.rule.specs.Given.{Given}
@@ -73,12 +73,12 @@ run_grows G phi t (suc f) (suc g) l s =
 -- ---- the inner fit
 pub limit_same : (G : Given) (phi : Float) (mu : List Float) (L M : ℕ) → L ≤ M → Ended (run_of G phi L mu) → run_of G phi M mu ≡ run_of G phi L mu
 unfolding run_of items_before
-limit_same G phi mu L M l h = ap (items_before (aFit ∷ [])) (run_same G phi L M l (start_at G mu) h)
+limit_same G phi mu L M l h = ap (items_before (a_fit ∷ [])) (run_same G phi L M l (start_at G mu) h)
 
 pub limit_grows : (G : Given) (phi : Float) (mu : List Float) (t : Item → Bool) (L M : ℕ) → L ≤ M → count_of t (run_of G phi L mu).items ≤ count_of t (run_of G phi M mu).items
 unfolding run_of items_before
 limit_grows G phi mu t L M l =
-    omega (arith, run_grows G phi t L M l (start_at G mu), count_append t (aFit ∷ []) (run_from G phi L (start_at G mu)).items, count_append t (aFit ∷ []) (run_from G phi M (start_at G mu)).items)
+    omega (arith, run_grows G phi t L M l (start_at G mu), count_append t (a_fit ∷ []) (run_from G phi L (start_at G mu)).items, count_append t (a_fit ∷ []) (run_from G phi M (start_at G mu)).items)
 
 -- every count of the account
 pub account_grows : (G : Given) (phi : Float) (mu : List Float) (L M : ℕ) → L ≤ M → AtMost (tally (run_of G phi M mu).items) (tally (run_of G phi L mu).items)

@@ -27,22 +27,22 @@ mode_in k (stopped m) = m
 mode_in k (failed e) = k
 
 module _ (G : Given) (phi : Float) (s : State) (k : Mode) (rest : State → Outcome) (after : (t : State) → (rest t).ending ≡ stopped k → FirstStop G phi t k) where
-  by-stop : (v : Solved) (m : Move) (is : List Item) → solve_of G phi s.eta s.mu ≡ solved v → tries_of (trial_of G v s.eta) ≡ found_move m is → (t : Bool) → stops s.old m.pwrss ≡ t
+  by_stop : (v : Solved) (m : Move) (is : List Item) → solve_of G phi s.eta s.mu ≡ solved v → tries_of (trial_of G v s.eta) ≡ found_move m is → (t : Bool) → stops s.old m.pwrss ≡ t
       → (after_stop t (mode_of G (s.done + 1) v m) rest (moved s m)).ending ≡ stopped k → FirstStop G phi s k
   unfolding after_stop
-  by-stop v m is e d true t h =
+  by_stop v m is e d true t h =
       let q : mode_of G (s.done + 1) v m ≡ k = ap (mode_in k) h in
       rw (← q) (here s v m is e d t)
-  by-stop v m is e d false t h = later s v m is k e d t (after (moved s m) h)
+  by_stop v m is e d false t h = later s v m is k e d t (after (moved s m) h)
 
-  by-search : (v : Solved) → solve_of G phi s.eta s.mu ≡ solved v → (x : Search) → tries_of (trial_of G v s.eta) ≡ x → (after_search x G v s rest).ending ≡ stopped k → FirstStop G phi s k
+  by_search : (v : Solved) → solve_of G phi s.eta s.mu ≡ solved v → (x : Search) → tries_of (trial_of G v s.eta) ≡ x → (after_search x G v s rest).ending ≡ stopped k → FirstStop G phi s k
   unfolding after_search items_before failed_after
-  by-search v e (found_move m is) d h = by-stop v m is e d (stops s.old m.pwrss) refl h
-  by-search v e (no_move is) d h = absurd (ff (ap is_stopped h))
+  by_search v e (found_move m is) d h = by_stop v m is e d (stops s.old m.pwrss) refl h
+  by_search v e (no_move is) d h = absurd (ff (ap is_stopped h))
 
   by_solve : (x : Solve) → solve_of G phi s.eta s.mu ≡ x → (after_solve x G s rest).ending ≡ stopped k → FirstStop G phi s k
   unfolding after_solve failed_after
-  by_solve (solved v) e h = by-search v e (tries_of (trial_of G v s.eta)) refl h
+  by_solve (solved v) e h = by_search v e (tries_of (trial_of G v s.eta)) refl h
   by_solve (unsolved e) d h = absurd (ff (ap is_stopped h))
 
 pub first_stop : (G : Given) (phi : Float) (f : ℕ) (s : State) (k : Mode) → (run_from G phi f s).ending ≡ stopped k → FirstStop G phi s k

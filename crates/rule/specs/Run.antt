@@ -3,7 +3,7 @@ use Rattle.std.specs.Prelude.{◌≡◌, List, [], ◌∷◌, ◌++◌, Bool, tr
 use Rattle.base.specs.Number.{huge_f}
 use Rattle.base.specs.Sum.{◌!◌}
 use Rattle.base.specs.List.{build}
-use Rattle.model.specs.Items.{Item, aFit, aSolve}
+use Rattle.model.specs.Items.{Item, a_fit, aSolve}
 use Rattle.model.specs.declared.ends.End.{End}
 use Rattle.model.specs.declared.ends.End.TheVariants.{NoStep, NoStop}
 use Rattle.model.specs.declared.names.Start.{Start}
@@ -95,7 +95,7 @@ start_at G mu = record { done = 0; eta = start_eta G mu; mu = mu; old = huge_f }
 
 -- the inner fit at phi from the starting means mu, with at most L iterations
 unfoldable pub run_of : Given → Float → ℕ → List Float → Outcome
-run_of G phi L mu = items_before (aFit ∷ []) (run_from G phi L (start_at G mu))
+run_of G phi L mu = items_before (a_fit ∷ []) (run_from G phi L (start_at G mu))
 
 -- ---- what a stop means
 

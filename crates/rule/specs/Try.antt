@@ -6,7 +6,7 @@ use Rattle.base.specs.Sum.{◌!◌, all_to, finite_at, dot_of}
 use Rattle.base.specs.List.{build}
 use Rattle.model.specs.Names.{is_inverse}
 use Rattle.model.specs.Caps.{tries_cap}
-use Rattle.model.specs.Items.{Item, a_try, Fate, etaRefused, meanRefused, pwrssRefused, accepted}
+use Rattle.model.specs.Items.{Item, a_try, Fate, eta_refused, meanRefused, pwrssRefused, accepted}
 use Rattle.family.specs.Carried.{link_of}
 use Rattle.family.specs.Link.{link_inv}
 use Rattle.family.specs.declared.carried.CarriedLink.{CarriedLink}
@@ -96,7 +96,7 @@ try_means T c m = after_means (all_to T.n (finite_at m)) T c m
 
 -- by the first test, of each eta
 unfoldable pub after_eta : Bool → Trial → List Float → Tried
-after_eta false T c = refused etaRefused
+after_eta false T c = refused eta_refused
 after_eta true T c = try_means T c (means_of T c)
 
 -- the first test

@@ -17,7 +17,7 @@ use Rattle.factor.specs.Triangle.{SameBelow, reach}
 use Rattle.factor.specs.declared.pivots.Factored.{Factored}
 use Rattle.factor.specs.declared.pivots.Factored.TheVariants.{Done, Bad}
 use Rattle.factor.proofs.LdlTextbook.{ldl_lower, ldl_end_same}
-use Rattle.factor.proofs.Solved.{ldl-inverse-same}
+use Rattle.factor.proofs.Solved.{ldl_inverse_same}
 use Rattle.quadrature.specs.declared.orders.Decline.TheVariants.{Inverse, Factor}
 use Rattle.agq_rule.specs.Scale.{after_cholesky, cholesky_scale, inverse_scale, after_ldl, ldl_scale, block_scale, section_of}
 use Rattle.scale.specs.Tells.{tell_scale, ScaleLeaves}
@@ -32,7 +32,7 @@ factor_of_block k B = ldl_of k B (build zero_at (k * k))
 -- factors with the same lower triangle have one inverse
 inverse_same : (s : ℕ) (F G : List Float) → SameBelow s F G → ldl_inverse s F ≡ ldl_inverse s G
 unfolding ldl_inverse matrix
-inverse_same s F G same = build_cong (λ t. ldl_inverse_at s F (t / s) (t % s)) (λ t. ldl_inverse_at s G (t / s) (t % s)) (s * s) (λ t l. ldl-inverse-same s F G same (t / s) (t % s))
+inverse_same s F G same = build_cong (λ t. ldl_inverse_at s F (t / s) (t % s)) (λ t. ldl_inverse_at s G (t / s) (t % s)) (s * s) (λ t l. ldl_inverse_same s F G same (t / s) (t % s))
 
 -- a slice of its size that is filled by its entries is the inverse
 grid_inverse : (k : ℕ) (L b : List Float) → length b ≡ k * k → grid_to k k (ldl_inverse_at k L) b ≡ ldl_inverse k L
@@ -107,16 +107,16 @@ block_of q s k m = section_of q (row 0 (q * q) m) s k
 
 module _ (q s k place end : ℕ) (m m₁ t ys : List Float) (r : Factored) (ep : place ≡ inverse_place q) (ee : end ≡ place + k * k) (hm : end ≤ length m) (ht : k * k ≤ length t)
     (w : Wrote (inverse_place q) (k * k) (block_of q s k m) m m₁) (l : length ys ≡ length (lent_front k t)) (d : LdlLeaves k (take (end - place) (drop place m₁)) (lent_front k t) r ys) where
-  wrote-block : Wrote place (k * k) (block_of q s k m) m m₁
-  wrote-block = rw ep w
+  wrote_block : Wrote place (k * k) (block_of q s k m) m m₁
+  wrote_block = rw ep w
 
   first : Factors k (block_of q s k m) t (with_front k t ys) r
-  first = factor_made k place end (block_of q s k m) m₁ t ys r ee wrote-block.row' ht l d
+  first = factor_made k place end (block_of q s k m) m₁ t ys r ee wrote_block.row' ht l d
 
   -- LDL' has a bad pivot
-  pub no-inverse : (i : ℕ) → r ≡ Bad i → ScaleLeaves q s k m m₁ t (with_front k t ys) (Unscaled Inverse)
+  pub no_inverse : (i : ℕ) → r ≡ Bad i → ScaleLeaves q s k m m₁ t (with_front k t ys) (Unscaled Inverse)
   unfolding tell_scale block_scale ldl_scale after_ldl
-  no-inverse i e = record { scale = rw (← first.end, e) refl; matrices_only = w.only; terms_only = first.frame }
+  no_inverse i e = record { scale = rw (← first.end, e) refl; matrices_only = w.only; terms_only = first.frame }
 
   module _ (zs ws : List Float) (z : Factored) (e : r ≡ Done) (lz : length zs ≡ length (mid_of place (end - place) m₁))
       (y : zs ≡ grid_to k k (ldl_inverse_at k (take (k * k - 0) (drop 0 (with_front k t ys)))) (mid_of place (end - place) m₁))
@@ -128,7 +128,7 @@ module _ (q s k place end : ℕ) (m m₁ t ys : List Float) (r : Factored) (ep :
     third = root_made k place end (ldl_inverse k (factor_of_block k (block_of q s k m))) (put_mid place (end - place) m₁ zs) ws z ee (omega (arith, w.only.len, second.only.len)) second.row' lw x
 
     changed : Only (inverse_place q) (k * k) m (put_mid place (end - place) (put_mid place (end - place) m₁ zs) ws)
-    changed = let o : Only place (k * k) m (put_mid place (end - place) (put_mid place (end - place) m₁ zs) ws) = only_trans wrote-block.only (only_trans second.only third.frame) in rw (← ep) o
+    changed = let o : Only place (k * k) m (put_mid place (end - place) (put_mid place (end - place) m₁ zs) ws) = only_trans wrote_block.only (only_trans second.only third.frame) in rw (← ep) o
 
     -- Cholesky of the inverse has a bad pivot
     pub no_factor : (i : ℕ) → z ≡ Bad i → ScaleLeaves q s k m (put_mid place (end - place) (put_mid place (end - place) m₁ zs) ws) t (with_front k t ys) (Unscaled Factor)

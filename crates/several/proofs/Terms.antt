@@ -40,10 +40,10 @@ module _ (gain : List Float → Float) (n q xbeta s k size l u trial point : ℕ
   same_u = only_row u q trial (q + q + q) (inl g.hats) (omega (arith, g.hats, g.in_m)) p.in_m
 
   -- tp and up: the parts of the slice that the penalty is formed from
-  pub group-made : (tp up : List Float) (pen lw x : Float) → tp ≡ row (trial + s) k m' → up ≡ row (u + s) k m' → pen ≡ sum_to k (penalty_at tp up) → lw ≡ sum_to k (digit_entry logs size point) → x ≡ delta_of inv dd pen
+  pub group_made : (tp up : List Float) (pen lw x : Float) → tp ≡ row (trial + s) k m' → up ≡ row (u + s) k m' → pen ≡ sum_to k (penalty_at tp up) → lw ≡ sum_to k (digit_entry logs size point) → x ≡ delta_of inv dd pen
       → PointIn (group_term_in gain s k inv nodes logs size (row l (k * k) m) (row u q m) (row trial q m) point) T n q xbeta trial r r' m m' (lw ⊕ x)
   unfolding group_term_in group_term_with log_weight_in
-  group-made tp up pen lw x et eu e w d =
+  group_made tp up pen lw x et eu e w d =
       let parts : sum_to k (penalty_at tp up) ≡ group_penalty s k (row trial q m') (row u q m') =
       rw (et, eu) (penalty_of_rows trial u q s k m' g.within (omega (arith, g.in_m, p.in_m.len)) (omega (arith, g.hats, g.in_m, p.in_m.len))) in
       let penalty : pen ≡ group_penalty s k T (row u q m) = rw (← p.effects, ← same_u) (e ∙ parts) in

@@ -19,7 +19,7 @@ use Rattle.family.specs.declared.carried.CarriedFamily.{CarriedFamily}
 use Rattle.family.specs.declared.carried.CarriedLink.{CarriedLink}
 use Rattle.agq_rule.specs.Point.{digit_entry}
 use Rattle.agq_rule.specs.Term.{moved_at}
-use Rattle.points.proofs.Within.{row-filled}
+use Rattle.points.proofs.Within.{row_filled}
 use Rattle.agq.specs.Gained.{Room, GainedIn, gain_in}
 use Rattle.several.specs.Several.{Grid, nodes_at, moved_effects, group_effects, TrialIn}
 use Rattle.several.proofs.Nodes.{point_finite}
@@ -38,7 +38,7 @@ grid_kept q s k size l u trial nodes m m1 d g =
 stretch_row : (b q s k : ℕ) (f : ℕ → Float) (v w : List Float) → s + k ≤ q → b + q ≤ length v → Wrote (b + s) k (build f k) v w → row b q w ≡ fill_at s k f (row b q v)
 stretch_row b q s k f v w l h p =
     let e : w ≡ fill_at (b + s) k f v = wrote_unique (b + s) k (build f k) v w (fill_at (b + s) k f v) (omega arith) p (fillat_wrote (b + s) k k f v (fill_at (b + s) k f v) refl (omega arith) (omega arith) (omega arith)) in
-    rw e (row-filled b q s k f v h l)
+    rw e (row_filled b q s k f v h l)
 
 pub stretch_at : (b q s k : ℕ) (v : List Float) → s + k ≤ q → b + q ≤ length v → (i : ℕ) → i < k → row (b + s) k v ! i ≡ row b q v ! (s + i)
 stretch_at b q s k v l h i g =
@@ -61,9 +61,9 @@ module _ (q s k size l u trial point : ℕ) (nodes m m1 m2 : List Float) (g : Gr
   abbrev T : List Float
   T = group_effects s k nodes size (row l (k * k) m) (row u q m) (row trial q m) point
 
-  same-shift : (i : ℕ) → i < k → moved_at k (row l (k * k) m1) (row (trial + q + q) k m1) 0 (row (u + s) k m1) i ≡ moved_at k (row l (k * k) m) (nodes_at nodes size k point) s (row u q m) i
+  same_shift : (i : ℕ) → i < k → moved_at k (row l (k * k) m1) (row (trial + q + q) k m1) 0 (row (u + s) k m1) i ≡ moved_at k (row l (k * k) m) (nodes_at nodes size k point) s (row u q m) i
   unfolding moved_at nodes_at
-  same-shift i h =
+  same_shift i h =
       rw (
         only_row l (k * k) (trial + q + q) k (inl (omega (arith, g.factor, g.hats))) (omega (arith, g.factor, g.hats, g.in_m)) w.only,
         w.row',
@@ -73,26 +73,26 @@ module _ (q s k size l u trial point : ℕ) (nodes m m1 m2 : List Float) (g : Gr
       )
       refl
 
-  trial-effects : row trial q m2 ≡ T
+  trial_effects : row trial q m2 ≡ T
   unfolding group_effects moved_effects
-  trial-effects =
+  trial_effects =
       stretch_row trial q s k (moved_at k (row l (k * k) m1) (row (trial + q + q) k m1) 0 (row (u + s) k m1)) m1 m2 g.within (omega (arith, g.in_m, w.only.len)) v
       ∙ rw (only_row trial q (trial + q + q) k (inl (omega arith)) (omega (arith, g.in_m)) w.only)
-      (fillat_cong s k (moved_at k (row l (k * k) m1) (row (trial + q + q) k m1) 0 (row (u + s) k m1)) (moved_at k (row l (k * k) m) (nodes_at nodes size k point) s (row u q m)) (row trial q m) same-shift)
+      (fillat_cong s k (moved_at k (row l (k * k) m1) (row (trial + q + q) k m1) 0 (row (u + s) k m1)) (moved_at k (row l (k * k) m) (nodes_at nodes size k point) s (row u q m)) (row trial q m) same_shift)
 
-  trial-only : Only trial (q + q + q) m m2
-  trial-only =
+  trial_only : Only trial (q + q + q) m m2
+  trial_only =
       only_trans (only_wide (trial + q + q) k trial (q + q + q) (omega arith) (omega (arith, g.within)) w.only)
       (only_wide (trial + s) k trial (q + q + q) (omega arith) (omega (arith, g.within)) v.only)
 
   -- with dd of them
-  pub trial-made : (family : CarriedFamily) (link : CarriedLink) (shape : Shape) (theta : List Float) (Z : Sparse) (y weights offset : List Float) (n xbeta : ℕ) (r r' m' : List Float) (dd : Float)
+  pub trial_made : (family : CarriedFamily) (link : CarriedLink) (shape : Shape) (theta : List Float) (Z : Sparse) (y weights offset : List Float) (n xbeta : ℕ) (r r' m' : List Float) (dd : Float)
       → GainedIn family link shape theta Z y weights offset n q xbeta trial r r' m2 m' dd
       → TrialIn (gain_in family link shape theta Z y weights offset n q xbeta r) T n q xbeta trial r r' m m' dd
-  trial-made family link shape theta Z y weights offset n xbeta r r' m' dd p =
+  trial_made family link shape theta Z y weights offset n xbeta r r' m' dd p =
       record {
-        gained = rw (← trial-effects) p.gain;
-        effects = only_row trial q (trial + q) q (inl (omega arith)) (omega (arith, g.in_m, trial-only.len)) p.b.only ∙ trial-effects;
-        in_m = only_trans trial-only (only_wide (trial + q) q trial (q + q + q) (omega arith) (omega arith) p.b.only);
+        gained = rw (← trial_effects) p.gain;
+        effects = only_row trial q (trial + q) q (inl (omega arith)) (omega (arith, g.in_m, trial_only.len)) p.b.only ∙ trial_effects;
+        in_m = only_trans trial_only (only_wide (trial + q) q trial (q + q + q) (omega arith) (omega arith) p.b.only);
         in_r = p.means.only;
       }

@@ -15,7 +15,7 @@ use Rattle.model.specs.declared.sizes.Shape.{Shape}
 use Rattle.family.specs.declared.carried.CarriedFamily.{CarriedFamily}
 use Rattle.family.specs.declared.carried.CarriedLink.{CarriedLink}
 use Rattle.agq_rule.specs.Term.{moved_at}
-use Rattle.agq.proofs.Gains.{gain-kept}
+use Rattle.agq.proofs.Gains.{gain_kept}
 use Rattle.agq.proofs.OneTurns.{filled_same}
 use Rattle.agq.specs.Gained.{gain_in}
 use Rattle.several.specs.Several.{Grid, nodes_at, log_weight_in, moved_effects, PointIn, TermsIn, group_effects, group_term_in, joint_effects, joint_term_with, joint_term_in}
@@ -49,27 +49,27 @@ module _ (family : CarriedFamily) (link : CarriedLink) (shape : Shape) (theta : 
     -- of a group
     module _ (s k : ℕ) (g : Grid q s k size l u trial nodes m) (p : TermsIn (group_term_in (gain_in family link shape theta Z y weights offset n q xbeta r) s k inv nodes logs size (row l (k * k) m) (row u q m) (row trial q m)) n q xbeta trial i r r1 m m1 t t1)
         (o : Only s k (row trial q m) (row trial q m1)) where
-      same-effects : group_effects s k nodes size (row l (k * k) m1) (row u q m1) (row trial q m1) i ≡ group_effects s k nodes size (row l (k * k) m) (row u q m) (row trial q m) i
+      same_effects : group_effects s k nodes size (row l (k * k) m1) (row u q m1) (row trial q m1) i ≡ group_effects s k nodes size (row l (k * k) m) (row u q m) (row trial q m) i
       unfolding group_effects moved_effects
-      same-effects =
+      same_effects =
           rw (only_row l (k * k) trial (q + q + q) (inl (omega (arith, g.factor, g.hats))) (omega (arith, g.factor, g.hats, g.in_m)) p.in_m, only_row u q trial (q + q + q) (inl g.hats) (omega (arith, g.hats, g.in_m)) p.in_m)
           (filled_same s k (moved_at k (row l (k * k) m) (nodes_at nodes size k i) s (row u q m)) (row trial q m) (row trial q m1) (omega (arith, g.within, row_length trial q m (omega (arith, g.in_m)))) o)
 
       module _ (r2 m2 : List Float) (x : Float) (c : PointIn (group_term_in (gain_in family link shape theta Z y weights offset n q xbeta r1) s k inv nodes logs size (row l (k * k) m1) (row u q m1) (row trial q m1) i) (group_effects s k nodes size (row l (k * k) m1) (row u q m1) (row trial q m1) i) n q xbeta trial r1 r2 m1 m2 x) where
         group-same : group_term_in (gain_in family link shape theta Z y weights offset n q xbeta r1) s k inv nodes logs size (row l (k * k) m1) (row u q m1) (row trial q m1) i ≡ group_term_in (gain_in family link shape theta Z y weights offset n q xbeta r) s k inv nodes logs size (row l (k * k) m) (row u q m) (row trial q m) i
         unfolding group_term_in
-        group-same = rw (gain-kept family link shape theta Z y weights offset n q xbeta r r1 hr p.in_r, same-effects, only_row u q trial (q + q + q) (inl g.hats) (omega (arith, g.hats, g.in_m)) p.in_m) refl
+        group-same = rw (gain_kept family link shape theta Z y weights offset n q xbeta r r1 hr p.in_r, same_effects, only_row u q trial (q + q + q) (inl g.hats) (omega (arith, g.hats, g.in_m)) p.in_m) refl
 
         -- and the trial row outside the group's places is as it was
         pub group-turn : (TermsIn (group_term_in (gain_in family link shape theta Z y weights offset n q xbeta r) s k inv nodes logs size (row l (k * k) m) (row u q m) (row trial q m)) n q xbeta trial (i + 1) r r2 m m2 t (set t1 i x)) × (Only s k (row trial q m) (row trial q m2))
         unfolding group_effects moved_effects
-        group-turn = (terms_step p c group-same, rw (c.effects ∙ same-effects) (fillat_only s k k (moved_at k (row l (k * k) m) (nodes_at nodes size k i) s (row u q m)) (row trial q m) (omega arith)))
+        group-turn = (terms_step p c group-same, rw (c.effects ∙ same_effects) (fillat_only s k k (moved_at k (row l (k * k) m) (nodes_at nodes size k i) s (row u q m)) (row trial q m) (omega arith)))
 
     -- of all effects
     module _ (hats : Float) (g : Grid q 0 q size l u trial nodes m) (h : hats ≡ dot_of q (row u q m) (row u q m)) (p : TermsIn (joint_term_in (gain_in family link shape theta Z y weights offset n q xbeta r) q inv nodes logs size (row l (q * q) m) (row u q m)) n q xbeta trial i r r1 m m1 t t1) where
       joint-same : joint_term_with (gain_in family link shape theta Z y weights offset n q xbeta r1) q (log_weight_in logs size q i) inv hats (joint_effects q nodes size (row l (q * q) m1) (row u q m1) i) ≡ joint_term_in (gain_in family link shape theta Z y weights offset n q xbeta r) q inv nodes logs size (row l (q * q) m) (row u q m) i
       unfolding joint_term_in
-      joint-same = rw (gain-kept family link shape theta Z y weights offset n q xbeta r r1 hr p.in_r, h, only_row l (q * q) trial (q + q + q) (inl (omega (arith, g.factor, g.hats))) (omega (arith, g.factor, g.hats, g.in_m)) p.in_m, only_row u q trial (q + q + q) (inl g.hats) (omega (arith, g.hats, g.in_m)) p.in_m) refl
+      joint-same = rw (gain_kept family link shape theta Z y weights offset n q xbeta r r1 hr p.in_r, h, only_row l (q * q) trial (q + q + q) (inl (omega (arith, g.factor, g.hats))) (omega (arith, g.factor, g.hats, g.in_m)) p.in_m, only_row u q trial (q + q + q) (inl g.hats) (omega (arith, g.hats, g.in_m)) p.in_m) refl
 
       pub joint-turn : (r2 m2 : List Float) (x : Float) → PointIn (joint_term_with (gain_in family link shape theta Z y weights offset n q xbeta r1) q (log_weight_in logs size q i) inv hats (joint_effects q nodes size (row l (q * q) m1) (row u q m1) i)) (joint_effects q nodes size (row l (q * q) m1) (row u q m1) i) n q xbeta trial r1 r2 m1 m2 x
           → TermsIn (joint_term_in (gain_in family link shape theta Z y weights offset n q xbeta r) q inv nodes logs size (row l (q * q) m) (row u q m)) n q xbeta trial (i + 1) r r2 m m2 t (set t1 i x)

@@ -39,11 +39,11 @@ front_lower s A b X F r h d same e i j l m =
     row_at 0 (s * s) X (omega arith) (i * s + j) (omega (arith, row_fits i s s l)) ∙ ap (λ (k : ℕ). X ! k) (zero-add (i * s + j)) ∙ ap (λ (z : List Float). at s z i j) x ∙ same i j l m
 
 module _ (n q : ℕ) (shape : Shape) (theta : List Float) (zt : Sparse) (w t t' t'' m m' m'' S K A : List Float) (r : Factored) where
-  pub system-made : q ≡ effects_of shape → q * q ≤ length t → q * q ≤ length m → m' ≡ grid_to q q (ztwz_at zt n w) m → S ≡ row 0 (q * q) m'
+  pub system_made : q ≡ effects_of shape → q * q ≤ length t → q * q ≤ length m → m' ≡ grid_to q q (ztwz_at zt n w) m → S ≡ row 0 (q * q) m'
       → t' ≡ grid_to q q (right_column_at shape theta S) t → K ≡ row 0 (q * q) t' → m'' ≡ grid_to q q (system_at shape theta K) m' → A ≡ row 0 (q * q) m''
       → LdlLeaves q A t' r t'' → Whatever n shape theta zt (SystemLeaves w t t'' m m'' r)
   unfolding system_of right_columns ztwz_of factor_of
-  system-made e ht hm em eS et eK em' eA d p offset x =
+  system_made e ht hm em eS et eK em' eA d p offset x =
       let lm : length m' ≡ length m = ap length em ∙ length_grid q q _ m in
       let lt : length t' ≡ length t = ap length et ∙ length_grid q q _ t in
       let wS : Wrote 0 (q * q) (matrix q q (ztwz_at zt n w)) m m' = rw em (grid_wrote q q (ztwz_at zt n w) m hm) in

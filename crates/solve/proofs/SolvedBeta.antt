@@ -15,7 +15,7 @@ use Rattle.factor.specs.Substitution.{cholesky_solve}
 use Rattle.factor.specs.Triangle.{SameBelow, reach}
 use Rattle.factor.specs.declared.pivots.Factored.{Factored}
 use Rattle.factor.proofs.CholeskyTextbook.{cholesky_lower, cholesky_end_same}
-use Rattle.factor.proofs.Solved.{cholesky-solve-same}
+use Rattle.factor.proofs.Solved.{cholesky_solve_same}
 use Rattle.solve.specs.Root.{RootOf, SolvedBeta}
 use Rattle.base.proofs.Rows.{part_is}
 
@@ -40,4 +40,4 @@ pub beta_made : (b p e : ℕ) (l m ys : List Float) → e ≡ b + p → e ≤ le
     → SolvedBeta b p l m (put_mid b (e - b) m ys)
 beta_made b p e l m ys eb h k y C same =
     let w : Wrote b p ys m (put_mid b (e - b) m ys) = part_wrote b p e m ys eb h (k ∙ mid_len b e m h ∙ omega arith) in
-    record { row' = w.row' ∙ y ∙ ap (cholesky_solve p l) (part_is b p e m eb) ∙ cholesky-solve-same p l C same (row b p m); only = w.only }
+    record { row' = w.row' ∙ y ∙ ap (cholesky_solve p l) (part_is b p e m eb) ∙ cholesky_solve_same p l C same (row b p m); only = w.only }

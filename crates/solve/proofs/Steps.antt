@@ -18,7 +18,7 @@ use Rattle.base.specs.Rows.{Wrote}
 use Rattle.base.proofs.Rows.{part_is, part_wrote, only_row, only_wide, only_trans}
 use Rattle.factor.specs.Substitution.{ldl_solve}
 use Rattle.factor.specs.Triangle.{SameBelow}
-use Rattle.factor.proofs.Solved.{ldl-solve-same}
+use Rattle.factor.proofs.Solved.{ldl_solve_same}
 use borrow.Rule.Slice.PartMut.{put_mid, mid_of, mid_len}
 use Rattle.solve.specs.Effects.{EffectsLeft}
 use Rattle.solve.specs.Ready.{Whatever, IsSide, SolvedSide}
@@ -44,7 +44,7 @@ solved_made n q b e shape theta zt v l m ys zs f eb h ly y lz z p offset x F sam
     part_wrote b q e (put_mid b (e - b) m ys) zs eb h' (lz ∙ mid_len b e (put_mid b (e - b) m ys) h' ∙ omega arith) in
     let same' : SameBelow q l F = rw f same in
     let z' : zs ≡ ldl_solve q F (side_of (design_of n p shape theta offset x zt) v) =
-    z ∙ ap (ldl_solve q l) (part_is b q e (put_mid b (e - b) m ys) eb ∙ w.row' ∙ y p offset x) ∙ ldl-solve-same q l F same' (side_of (design_of n p shape theta offset x zt) v) in
+    z ∙ ap (ldl_solve q l) (part_is b q e (put_mid b (e - b) m ys) eb ∙ w.row' ∙ y p offset x) ∙ ldl_solve_same q l F same' (side_of (design_of n p shape theta offset x zt) v) in
     rw (← f) (record { row' = w'.row' ∙ z'; only = only_trans w.only w'.only })
 
 -- u and b = Λu, in two parts one behind the other

@@ -29,12 +29,12 @@ use Rattle.solve.specs.Effects.{EffectsLeft}
 
 -- ---- `side`, `solve_side`
 module _ (n : ℕ) (shape : Shape) (theta : List Float) (zt : Sparse) (v : List Float) where
-  pub side-unique : (x y : List Float) → Whatever n shape theta zt (IsSide v x) → Whatever n shape theta zt (IsSide v y) → x ≡ y
-  side-unique x y d e = one_value (d 0 [] []) (e 0 [] [])
+  pub side_unique : (x y : List Float) → Whatever n shape theta zt (IsSide v x) → Whatever n shape theta zt (IsSide v y) → x ≡ y
+  side_unique x y d e = one_value (d 0 [] []) (e 0 [] [])
 
-  pub solve-side-unique : (L : List Float) (b : ℕ) (m x y : List Float) → b + effects_of shape ≤ length m → Whatever n shape theta zt (SolvedSide v L b m x)
+  pub solve_side_unique : (L : List Float) (b : ℕ) (m x y : List Float) → b + effects_of shape ≤ length m → Whatever n shape theta zt (SolvedSide v L b m x)
       → Whatever n shape theta zt (SolvedSide v L b m y) → x ≡ y
-  solve-side-unique L b m x y h d e =
+  solve_side_unique L b m x y h d e =
       let q = effects_of shape in
       let D = design_of n 0 shape theta [] [] zt in
       wrote_unique b q (ldl_solve q L (side_of D v)) m x y h (d 0 [] [] L (λ i j _ _. refl)) (e 0 [] [] L (λ i j _ _. refl))

@@ -153,16 +153,16 @@ gap a e b d p le ld h = ⊎_elim
 
 -- ---- a sum is never -0.0 where its first part is not
 module _ (a b c : ℕ) (some : 0 < c) where
-  sum-signed : (s t : Bool) → (s ≡ true → c ≤ (a + b) * 2 ^ low binary64) → (b < a → c ≤ (a - b) * 2 ^ low binary64) → (a < b → c ≤ (b - a) * 2 ^ low binary64) → no_minus_zero (sum binary64 s a t b c) ≡ true
+  sum_signed : (s t : Bool) → (s ≡ true → c ≤ (a + b) * 2 ^ low binary64) → (b < a → c ≤ (a - b) * 2 ^ low binary64) → (a < b → c ≤ (b - a) * 2 ^ low binary64) → no_minus_zero (sum binary64 s a t b c) ≡ true
   unfolding sum
-  sum-signed true true o g h = minus_round (a + b) c some (o refl)
-  sum-signed false false o g h = plus_round binary64 (a + b) c
-  sum-signed false true o g h = below (ltb a b) refl
+  sum_signed true true o g h = minus_round (a + b) c some (o refl)
+  sum_signed false false o g h = plus_round binary64 (a + b) c
+  sum_signed false true o g h = below (ltb a b) refl
     where
       below : (x : Bool) → ltb a b ≡ x → no_minus_zero (cond x (round binary64 true (b - a) c) (round binary64 false (a - b) c)) ≡ true
       below true e = minus_round (b - a) c some (h (ltb-true a b e))
       below false e = plus_round binary64 (a - b) c
-  sum-signed true false o g h = below (ltb a b)
+  sum_signed true false o g h = below (ltb a b)
     where
       above : (x : Bool) → ltb b a ≡ x → no_minus_zero (round binary64 (true && x) (a - b) c) ≡ true
       above true e = minus_round (a - b) c some (g (ltb-true b a e))
@@ -196,7 +196,7 @@ add_signed (fin s m e) (fin t n d) p q h =
     let P = 2 ^ low binary64 in
     let le : down e ≤ P = fits_down binary64 s m e p in
     let ld : down d ≤ P = fits_down binary64 t n d q in
-    sum-signed (m * up e * down d) (n * up d * down e) (down e * down d) (mul-pos (down_pos e) (down_pos d)) s t
+    sum_signed (m * up e * down d) (n * up d * down e) (down e * down d) (mul-pos (down_pos e) (down_pos d)) s t
     (λ o. together (m * up e) e (n * up d * down e) d P (minus_size s m e h o) le)
     (λ l. gap (m * up e) e (n * up d) d P le ld l)
     (λ l. rw (mul_comm (down e) (down d)) (gap (n * up d) d (m * up e) e P ld le l))
@@ -208,19 +208,19 @@ module _ (f : ℕ → Float) (fitting : (j : ℕ) → T (fits binary64 (f j))) w
   sum_fits zero = tt
   sum_fits (suc n) = add-fits binary64 (sum_to n f) (f n)
 
-  pub sum-signed-to : (n : ℕ) → no_minus_zero (sum_to n f) ≡ true
+  pub sum_signed_to : (n : ℕ) → no_minus_zero (sum_to n f) ≡ true
   unfolding sum_to of_bits
-  sum-signed-to zero = refl
-  sum-signed-to (suc n) = add_signed (sum_to n f) (f n) (sum_fits n) (fitting n) (sum-signed-to n)
+  sum_signed_to zero = refl
+  sum_signed_to (suc n) = add_signed (sum_to n f) (f n) (sum_fits n) (fitting n) (sum_signed_to n)
 
   -- zeros at its end add nothing
-  pub zeros-after : (m n : ℕ) → m ≤ n → ((j : ℕ) → m ≤ j → j < n → (s : Bool) × (f j ≡ zero_of s)) → sum_to n f ≡ sum_to m f
+  pub zeros_after : (m n : ℕ) → m ≤ n → ((j : ℕ) → m ≤ j → j < n → (s : Bool) × (f j ≡ zero_of s)) → sum_to n f ≡ sum_to m f
   unfolding sum_to
-  zeros-after zero zero l z = refl
-  zeros-after (suc m) zero l z = absurd (not-suc-le-zero l)
-  zeros-after m (suc n) l z = ⊎_elim
+  zeros_after zero zero l z = refl
+  zeros_after (suc m) zero l z = absurd (not-suc-le-zero l)
+  zeros_after m (suc n) l z = ⊎_elim
       (λ (e : m ≡ suc n). rw e refl)
       (λ (k : m < suc n).
       let here : (s : Bool) × (f n ≡ zero_of s) = z n (omega arith) (omega arith) in
-      rw here.1 (add_zero (sum_to n f) here.0 (sum_fits n) (sum-signed-to n)) ∙ zeros-after m n (omega arith) (λ j p q. z j p (omega arith)))
+      rw here.1 (add_zero (sum_to n f) here.0 (sum_fits n) (sum_signed_to n)) ∙ zeros_after m n (omega arith) (λ j p q. z j p (omega arith)))
       (eq-or-lt_of_le l)

@@ -21,7 +21,7 @@ use Rattle.family.specs.declared.carried.CarriedFamily.{CarriedFamily}
 use Rattle.family_lists.specs.Lists.{dev_resid_at}
 use Rattle.factor.specs.Inverse.{cholesky_column_at, cholesky_inverse}
 use Rattle.factor.specs.Triangle.{SameBelow}
-use Rattle.factor.proofs.Solved.{cholesky-inverse-same}
+use Rattle.factor.proofs.Solved.{cholesky_inverse_same}
 use Rattle.rule.specs.Stop.{deviances_of, deviance_sum, fit_term, log_pivot_at, log_pivots, laplace_of}
 use Rattle.stages.specs.Stopped.{DeviancesLeft, Stops}
 
@@ -30,7 +30,7 @@ use Rattle.stages.specs.Stopped.{DeviancesLeft, Stops}
 inverse_same : (s : ℕ) (F G : List Float) → SameBelow s F G → cholesky_inverse s F ≡ cholesky_inverse s G
 unfolding cholesky_inverse matrix
 inverse_same s F G same =
-    build_cong (λ t. cholesky_column_at s F (t / s) (t % s)) (λ t. cholesky_column_at s G (t / s) (t % s)) (s * s) (λ t l. cholesky-inverse-same s F G same (t / s) (t % s))
+    build_cong (λ t. cholesky_column_at s F (t / s) (t % s)) (λ t. cholesky_column_at s G (t / s) (t % s)) (s * s) (λ t l. cholesky_inverse_same s F G same (t / s) (t % s))
 
 -- and the same pivots
 pivots_same : (s : ℕ) (F G : List Float) → SameBelow s F G → log_pivots s F ≡ log_pivots s G

@@ -31,16 +31,16 @@ held_row n false r h = row_whole n (row 0 n r) (row_length 0 n r (omega arith))
 
 -- the predictor and the means, as they are lent
 module _ (n : ℕ) (inSecond : Bool) (second mu raw : ℕ) (eta r : List Float) (es : second ≡ second_eta_row n) (em : mu ≡ mu_row n) (ea : raw ≡ raw_row n) (long : rows_length n ≤ length r) where
-  pub mean-part : take (raw - mu) (drop mu r) ≡ row (mu_row n) n r
-  mean-part = part_is mu n raw r (omega arith) ∙ rw em refl
+  pub mean_part : take (raw - mu) (drop mu r) ≡ row (mu_row n) n r
+  mean_part = part_is mu n raw r (omega arith) ∙ rw em refl
 
   module _ (held : Held n inSecond (take (second - 0) (drop 0 r)) (take (mu - second) (drop second r)) eta) where
     pub eta_part : eta ≡ row (eta_row n inSecond) n r
     eta_part =
         let first_part : take (second - 0) (drop 0 r) ≡ row 0 n r = part_is 0 n second r (omega arith) in
-        let second-part : take (mu - second) (drop second r) ≡ row n n r = part_is second n mu r (omega arith) ∙ rw es refl in
-        (rw (first_part, second-part) at held.is) ∙ held_row n inSecond r (omega arith)
+        let second_part : take (mu - second) (drop second r) ≡ row n n r = part_is second n mu r (omega arith) ∙ rw es refl in
+        (rw (first_part, second_part) at held.is) ∙ held_row n inSecond r (omega arith)
 
     -- they belong together where their rows do
     pub parts_met : (link : CarriedLink) → Met link n (row (eta_row n inSecond) n r) (row (mu_row n) n r) → Met link n eta (take (raw - mu) (drop mu r))
-    parts_met link h = rw (eta_part, mean-part) h
+    parts_met link h = rw (eta_part, mean_part) h

@@ -22,27 +22,27 @@ use Rattle.rule.specs.Given.{Given, n_of}
 use Rattle.rule.specs.Working.{working_weight_at, working_response_at, target_at, working_weights, working_responses, targets, weighted_targets}
 use Rattle.stages.specs.Held.{eta_row, Held}
 use Rattle.stages.specs.Weighed.{WeighRoom, Weighed, Weighs}
-use Rattle.stages.proofs.HeldRows.{mean-part, eta_part}
+use Rattle.stages.proofs.HeldRows.{mean_part, eta_part}
 
 -- two rows that were filled, the one at c behind the one at a
 module _ (a c n : ℕ) (f g : ℕ → Float) (v : List Float) (apart : a + n ≤ c) (fits : c + n ≤ length v) where
-  front-wrote : Wrote a n (build f n) v (fill_at a n f v)
-  front-wrote = fillat_wrote a n n f v (fill_at a n f v) refl (omega arith) (omega arith) (omega arith)
+  front_wrote : Wrote a n (build f n) v (fill_at a n f v)
+  front_wrote = fillat_wrote a n n f v (fill_at a n f v) refl (omega arith) (omega arith) (omega arith)
 
-  back-wrote : Wrote c n (build g n) (fill_at a n f v) (fill_at c n g (fill_at a n f v))
-  back-wrote = fillat_wrote c n n g (fill_at a n f v) (fill_at c n g (fill_at a n f v)) refl (omega arith) (omega arith) (omega (arith, length_fillat a n f v))
+  back_wrote : Wrote c n (build g n) (fill_at a n f v) (fill_at c n g (fill_at a n f v))
+  back_wrote = fillat_wrote c n n g (fill_at a n f v) (fill_at c n g (fill_at a n f v)) refl (omega arith) (omega arith) (omega (arith, length_fillat a n f v))
 
-  front-row : row a n (fill_at c n g (fill_at a n f v)) ≡ build f n
-  front-row = only_row a n c n (inl apart) (omega (arith, length_fillat a n f v)) back-wrote.only ∙ front-wrote.row'
+  front_row : row a n (fill_at c n g (fill_at a n f v)) ≡ build f n
+  front_row = only_row a n c n (inl apart) (omega (arith, length_fillat a n f v)) back_wrote.only ∙ front_wrote.row'
 
-  back-row : row c n (fill_at c n g (fill_at a n f v)) ≡ build g n
-  back-row = back-wrote.row'
+  back_row : row c n (fill_at c n g (fill_at a n f v)) ≡ build g n
+  back_row = back_wrote.row'
 
-  both-two : OnlyTwo a n c n v (fill_at c n g (fill_at a n f v))
-  both-two = two_of a n c n front-wrote.only back-wrote.only
+  both_two : OnlyTwo a n c n v (fill_at c n g (fill_at a n f v))
+  both_two = two_of a n c n front_wrote.only back_wrote.only
 
-  both-only : (m : ℕ) → c + n ≤ a + m → Only a m v (fill_at c n g (fill_at a n f v))
-  both-only m h = only_trans (only_wide a n a m (omega arith) (omega arith) front-wrote.only) (only_wide c n a m (omega arith) h back-wrote.only)
+  both_only : (m : ℕ) → c + n ≤ a + m → Only a m v (fill_at c n g (fill_at a n f v))
+  both_only m h = only_trans (only_wide a n a m (omega arith) (omega arith) front_wrote.only) (only_wide c n a m (omega arith) h back_wrote.only)
 
 -- what the two passes leave, by the rule's words
 weighed_rows : (G : Given) (phi : Float) (q : ℕ) (eta mu r r' t t' : List Float) → z_place (n_of G) q + n_of G ≤ length t → working_row (n_of G) + n_of G ≤ length r
@@ -54,18 +54,18 @@ weighed_rows G phi q eta mu r r' t t' ht hr et er =
     let n = n_of G in
     let f = working_weight_at G.family G.link G.weights phi eta mu in
     let g = working_response_at G.link G.y eta mu in
-    let w : row (w_place q) n t' ≡ build f n = ap (row (w_place q) n) et ∙ front-row (w_place q) (z_place n q) n f g t (omega arith) ht in
-    let z : row (z_place n q) n t' ≡ build g n = ap (row (z_place n q) n) et ∙ back-row (w_place q) (z_place n q) n f g t (omega arith) ht in
+    let w : row (w_place q) n t' ≡ build f n = ap (row (w_place q) n) et ∙ front_row (w_place q) (z_place n q) n f g t (omega arith) ht in
+    let z : row (z_place n q) n t' ≡ build g n = ap (row (z_place n q) n) et ∙ back_row (w_place q) (z_place n q) n f g t (omega arith) ht in
     let k = target_at G.design.offset (build g n) in
     let er' : r' ≡ fill_at (working_row n) n k (fill_at (weighted_row n) n (product_at (build f n) (build k n)) r) = rw (w, z) at er in
     let h = product_at (build f n) (build k n) in
     record {
       w = w;
       z = z;
-      target = ap (row (working_row n) n) er' ∙ back-row (weighted_row n) (working_row n) n h k r (omega arith) hr;
-      weighted = ap (row (weighted_row n) n) er' ∙ front-row (weighted_row n) (working_row n) n h k r (omega arith) hr;
-      rows_only = rw er' (both-two (weighted_row n) (working_row n) n h k r (omega arith) hr);
-      terms_only = rw et (both-only (w_place q) (z_place n q) n f g t (omega arith) ht (n + n) (omega arith));
+      target = ap (row (working_row n) n) er' ∙ back_row (weighted_row n) (working_row n) n h k r (omega arith) hr;
+      weighted = ap (row (weighted_row n) n) er' ∙ front_row (weighted_row n) (working_row n) n h k r (omega arith) hr;
+      rows_only = rw er' (both_two (weighted_row n) (working_row n) n h k r (omega arith) hr);
+      terms_only = rw et (both_only (w_place q) (z_place n q) n f g t (omega arith) ht (n + n) (omega arith));
     }
 
 -- the same from the parts that were lent, for each design
@@ -76,12 +76,12 @@ pub weighed_made : (family : CarriedFamily) (link : CarriedLink) (phi : Float) (
     → r' ≡ fill_at working n (target_at offset (take (unsolved - z) (drop z t'))) (fill_at weighted n (product_at (take (z - w) (drop w t')) (build (target_at offset (take (unsolved - z) (drop z t'))) n)) r)
     → Weighs family link phi y weights offset n q (row (eta_row n inSecond) n r) (row (mu_row n) n r) r r' t t'
 weighed_made family link phi y weights offset n q inSecond second mu raw w z unsolved weighted working eta r r' t t' es em ea ew ez eu eg ek room held et er D en eo =
-    let means = mean-part n inSecond second mu raw eta r es em ea room.rows_long in
+    let means = mean_part n inSecond second mu raw eta r es em ea room.rows_long in
     let w_part : take (z - w) (drop w t') ≡ row (w_place q) n t' = part_is w n z t' (omega arith) ∙ rw ew refl in
-    let z-part : take (unsolved - z) (drop z t') ≡ row (z_place n q) n t' = part_is z n unsolved t' (omega arith) ∙ rw ez refl in
+    let z_part : take (unsolved - z) (drop z t') ≡ row (z_place n q) n t' = part_is z n unsolved t' (omega arith) ∙ rw ez refl in
     let at = eta_part n inSecond second mu raw eta r es em ea room.rows_long held in
     let et' : t' ≡ fill_at (z_place n q) n (working_response_at link y (row (eta_row n inSecond) n r) (row (mu_row n) n r)) (fill_at (w_place q) n (working_weight_at family link weights phi (row (eta_row n inSecond) n r) (row (mu_row n) n r)) t) = rw (means, at, ez, ew) at et in
-    let er' : r' ≡ fill_at (working_row n) n (target_at offset (row (z_place n q) n t')) (fill_at (weighted_row n) n (product_at (row (w_place q) n t') (build (target_at offset (row (z_place n q) n t')) n)) r) = rw (z-part, w_part, ek, eg) at er in
+    let er' : r' ≡ fill_at (working_row n) n (target_at offset (row (z_place n q) n t')) (fill_at (weighted_row n) n (product_at (row (w_place q) n t') (build (target_at offset (row (z_place n q) n t')) n)) r) = rw (z_part, w_part, ek, eg) at er in
     weighed_rows (record { family = family; link = link; y = y; weights = weights; design = D }) phi q (row (eta_row n inSecond) n r) (row (mu_row n) n r) r r' t t'
     (rw en (omega (arith, room.terms_long, square_few room.q_few, room.n_few)))
     (rw en (omega (arith, room.rows_long)))

@@ -13,9 +13,9 @@ use Rattle.base.specs.List.{zero_at, fill_to}
 use Rattle.base.specs.Sparse.{Rising, Rows, Sparse, stored}
 use Rattle.base.proofs.Sums.{lt_or_ge}
 use Rattle.base.proofs.Fills.{fill_none, fill_step, fill_in, fill_past, fill_is, fill_over, length_fill}
-use Rattle.base.proofs.SparseRows.{stored-entry, value-entry}
+use Rattle.base.proofs.SparseRows.{stored_entry, value_entry}
 use Rattle.stored.specs.Stored.{effect_term, z_times_at, added_at}
-use Rattle.stored.proofs.Parted.{Parted, parted-none, passed, between}
+use Rattle.stored.proofs.Parted.{Parted, parted_none, passed, between}
 
 -- where the rule keeps what was there, one may fill further
 fill_on : (k m : ℕ) (f : ℕ → Float) (v : List Float) → k ≤ m → m ≤ length v → ((i : ℕ) → k ≤ i → i < m → f i ≡ v ! i) → fill_to k f v ≡ fill_to m f v
@@ -36,7 +36,7 @@ module _ (Z : Sparse) (rows n : ℕ) (b : List Float) (a : ℕ) (v : List Float)
   row = r.each a l
 
   pub added_none : RowAdded Z b n a v (Z.starts !! a) v
-  added_none = record { cut = 0; bound = omega arith; parted = parted-none row; filled = fill_none _ v }
+  added_none = record { cut = 0; bound = omega arith; parted = parted_none row; filled = fill_none _ v }
 
   module _ {k : ℕ} {w : List Float} (p : RowAdded Z b n a v k w) where
     -- up to the cursor's column nothing is added
@@ -49,7 +49,7 @@ module _ (Z : Sparse) (rows n : ℕ) (b : List Float) (a : ℕ) (v : List Float)
     unfolding added_at add_where stored effect_term
     at_entry q =
         let low : p.cut ≤ Z.columns !! k = p.parted.after k (omega arith) q in
-        rw (stored-entry row k p.parted.start q, value-entry Z rows n a r l k p.parted.start q)
+        rw (stored_entry row k p.parted.start q, value_entry Z rows n a r l k p.parted.start q)
         (ap (λ (x : Float). x ⊕ ((Z.values ! k) ⊗ (b ! a))) (ap (λ (x : List Float). x ! (Z.columns !! k)) p.filled ∙ fill_past p.cut (added_at Z b a v) v (Z.columns !! k) low))
 
     pub added_step : k < Z.starts !! (a + 1) → RowAdded Z b n a v (k + 1) (set w (Z.columns !! k) ((w ! (Z.columns !! k)) ⊕ ((Z.values ! k) ⊗ (b ! a))))

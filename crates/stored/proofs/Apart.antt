@@ -16,7 +16,7 @@ use Rattle.base.specs.Sum.{◌!!◌}
 use Rattle.base.specs.Sparse.{Rising, Rows, Sparse, stored, stored_in, both_sum}
 use Rattle.base.proofs.Doubles.{ff}
 use Rattle.base.proofs.Sums.{lt_or_ge, last_or_before, where_none, where_gap}
-use Rattle.base.proofs.SparseRows.{stored-none}
+use Rattle.base.proofs.SparseRows.{stored_none}
 use Rattle.stored.specs.Stored.{weighted_term, ztwz_at}
 use Rattle.stored.specs.Marks.{lesser, place_of, least_mark, lowered, Disjoint, Between}
 use Rattle.stored.proofs.Symmetry.{same_or_not}
@@ -65,17 +65,17 @@ module _ (columns : List ℕ) (b x : ℕ) where
   unfolding lowered
   lowered_none v = rw (sub_self b) refl
 
-  pub lowered-step : (k : ℕ) (v w : List ℕ) → b ≤ k → w ≡ lowered columns b x (k - b) v → set w (place_of (columns !! k)) (lesser (w !! place_of (columns !! k)) x) ≡ lowered columns b x (k + 1 - b) v
+  pub lowered_step : (k : ℕ) (v w : List ℕ) → b ≤ k → w ≡ lowered columns b x (k - b) v → set w (place_of (columns !! k)) (lesser (w !! place_of (columns !! k)) x) ≡ lowered columns b x (k + 1 - b) v
   unfolding lowered
-  lowered-step k v w l e =
+  lowered_step k v w l e =
       let q : k + 1 - b ≡ suc (k - b) = omega arith in
       let r : b + (k - b) ≡ k = omega arith in
       rw (q, e, r) refl
 
-  pub lowered-length : (t : ℕ) (v : List ℕ) → length (lowered columns b x t v) ≡ length v
+  pub lowered_length : (t : ℕ) (v : List ℕ) → length (lowered columns b x t v) ≡ length v
   unfolding lowered
-  lowered-length zero v = refl
-  lowered-length (suc t) v = length-set (lowered columns b x t v) (place_of (columns !! (b + t))) _ ∙ lowered-length t v
+  lowered_length zero v = refl
+  lowered_length (suc t) v = length-set (lowered columns b x t v) (place_of (columns !! (b + t))) _ ∙ lowered_length t v
 
 -- one mark lowered: no mark rises, and it is at most x
 lower_other : (v : List ℕ) (p x i : ℕ) → p < length v → set v p (lesser (v !! p) x) !! i ≤ v !! i
@@ -90,20 +90,20 @@ lower_here v p x l = rw (get_or-set_same v p (lesser (v !! p) x) 0 l) (lesser_be
 
 module _ (columns : List ℕ) (b x : ℕ) (v : List ℕ) (h : length v ≡ 512) where
   inside : (t : ℕ) → place_of (columns !! (b + t)) < length (lowered columns b x t v)
-  inside t = let m : place_of (columns !! (b + t)) < 512 = mod-lt (columns !! (b + t)) (omega arith) in omega (arith, m, h, lowered-length columns b x t v)
+  inside t = let m : place_of (columns !! (b + t)) < 512 = mod-lt (columns !! (b + t)) (omega arith) in omega (arith, m, h, lowered_length columns b x t v)
 
-  lowered-under : (t i : ℕ) → lowered columns b x t v !! i ≤ v !! i
+  lowered_under : (t i : ℕ) → lowered columns b x t v !! i ≤ v !! i
   unfolding lowered
-  lowered-under zero i = le_refl _
-  lowered-under (suc t) i = omega (arith, lower_other (lowered columns b x t v) (place_of (columns !! (b + t))) x i (inside t), lowered-under t i)
+  lowered_under zero i = le_refl _
+  lowered_under (suc t) i = omega (arith, lower_other (lowered columns b x t v) (place_of (columns !! (b + t))) x i (inside t), lowered_under t i)
 
-  lowered-entry : (t k : ℕ) → k < t → lowered columns b x t v !! place_of (columns !! (b + k)) ≤ x
+  lowered_entry : (t k : ℕ) → k < t → lowered columns b x t v !! place_of (columns !! (b + k)) ≤ x
   unfolding lowered
-  lowered-entry zero k l = absurd (not-suc-le-zero l)
-  lowered-entry (suc t) k l =
+  lowered_entry zero k l = absurd (not-suc-le-zero l)
+  lowered_entry (suc t) k l =
       ⊎_elim
       (λ (e : k ≡ t). rw e (lower_here (lowered columns b x t v) (place_of (columns !! (b + t))) x (inside t)))
-      (λ (m : k < t). omega (arith, lower_other (lowered columns b x t v) (place_of (columns !! (b + t))) x (place_of (columns !! (b + k))) (inside t), lowered-entry t k m))
+      (λ (m : k < t). omega (arith, lower_other (lowered columns b x t v) (place_of (columns !! (b + t))) x (place_of (columns !! (b + k))) (inside t), lowered_entry t k m))
       (last_or_before l)
 
 -- ---- row after row: g numbers the rows, and no observation of a row before a has a mark above the row's number
@@ -125,10 +125,10 @@ pub marked_step : (Z : Sparse) (g : ℕ → ℕ) (a x : ℕ) (marks X : List ℕ
 marked_step Z g a x marks X p l e =
     rw e
     (record {
-      len = lowered-length Z.columns (Z.starts !! a) x (Z.starts !! (a + 1) - Z.starts !! a) marks ∙ p.len;
+      len = lowered_length Z.columns (Z.starts !! a) x (Z.starts !! (a + 1) - Z.starts !! a) marks ∙ p.len;
       under = λ b m k u v. ⊎_elim
           (λ (q : b ≡ a). own b q k u v)
-          (λ (m' : b < a). omega (arith, lowered-under Z.columns (Z.starts !! a) x marks p.len (Z.starts !! (a + 1) - Z.starts !! a) (place_of (Z.columns !! k)), p.under b m' k u v))
+          (λ (m' : b < a). omega (arith, lowered_under Z.columns (Z.starts !! a) x marks p.len (Z.starts !! (a + 1) - Z.starts !! a) (place_of (Z.columns !! k)), p.under b m' k u v))
           (last_or_before (rw add-one at m));
     })
   where
@@ -137,7 +137,7 @@ marked_step Z g a x marks X p l e =
         let u' : Z.starts !! a ≤ k = rw q at u in
         let v' : k < Z.starts !! (a + 1) = rw q at v in
         let r : Z.starts !! a + (k - Z.starts !! a) ≡ k = omega arith in
-        let entry = rw r at (lowered-entry Z.columns (Z.starts !! a) x marks p.len (Z.starts !! (a + 1) - Z.starts !! a) (k - Z.starts !! a) (omega arith)) in
+        let entry = rw r at (lowered_entry Z.columns (Z.starts !! a) x marks p.len (Z.starts !! (a + 1) - Z.starts !! a) (k - Z.starts !! a) (omega arith)) in
         rw q (omega (arith, entry, l))
 
 -- a row with a number below the least mark of row a
@@ -153,16 +153,16 @@ marked_apart Z g a marks least p e b l m k j u v u' v' same =
 module _ (Z : Sparse) (rows n : ℕ) (w : List Float) (a b : ℕ) (r : Rows Z.starts Z.columns Z.values rows n) (l : a < rows) (m : b < rows) (d : Disjoint Z a b) where
   second_none : (i : ℕ) → stored_in Z.columns (Z.starts !! a) (Z.starts !! (a + 1)) i ≡ true → stored_in Z.columns (Z.starts !! b) (Z.starts !! (b + 1)) i ≡ false
   second_none i e =
-      stored-none (r.each b m) i
-      (λ j p q z. ff (sym (stored-none (r.each a l) i (λ k p' q' z'. d k j p' q' p q (z' ∙ sym z))) ∙ e))
+      stored_none (r.each b m) i
+      (λ j p q z. ff (sym (stored_none (r.each a l) i (λ k p' q' z'. d k j p' q' p q (z' ∙ sym z))) ∙ e))
 
   not_both : (i : ℕ) (t : Bool) → stored_in Z.columns (Z.starts !! a) (Z.starts !! (a + 1)) i ≡ t → stored Z a i && stored Z b i ≡ false
   unfolding stored
   not_both i false e = rw e refl
   not_both i true e = rw (second_none i e) (and-false (stored_in Z.columns (Z.starts !! a) (Z.starts !! (a + 1)) i))
 
-  pub disjoint-sum : zero_f ≡ ztwz_at Z n w a b
+  pub disjoint_sum : zero_f ≡ ztwz_at Z n w a b
   unfolding ztwz_at both_sum
-  disjoint-sum =
+  disjoint_sum =
       where_none (λ i. stored Z a i && stored Z b i) (weighted_term Z w a b)
       ∙ where_gap (λ i. stored Z a i && stored Z b i) (weighted_term Z w a b) 0 n (omega arith) (λ i p q. not_both i (stored_in Z.columns (Z.starts !! a) (Z.starts !! (a + 1)) i) refl)

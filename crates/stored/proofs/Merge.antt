@@ -10,8 +10,8 @@ use Rattle.base.specs.Number.{◌⊕◌, ◌⊗◌, zero_f}
 use Rattle.base.specs.Sum.{◌!◌, ◌!!◌, sum_where}
 use Rattle.base.specs.Sparse.{Rising, Rows, Sparse, stored, stored_in, value_at, both_sum}
 use Rattle.base.proofs.Sums.{where_none, where_take, where_gap}
-use Rattle.base.proofs.SparseRows.{stored-entry, value-entry}
-use Rattle.stored.proofs.Parted.{Parted, parted-none, passed, raised, between}
+use Rattle.base.proofs.SparseRows.{stored_entry, value_entry}
+use Rattle.stored.proofs.Parted.{Parted, parted_none, passed, raised, between}
 use Rattle.stored.specs.Stored.{weighted_term}
 
 -- the cursors stand at i and j, and the sum is over the columns below the cut
@@ -26,7 +26,7 @@ module _ (Z : Sparse) (n a b : ℕ) (f : ℕ → Float)
     (r : Rising Z.columns n (Z.starts !! a) (Z.starts !! (a + 1)))
     (s : Rising Z.columns n (Z.starts !! b) (Z.starts !! (b + 1))) where
   pub merge_none : Merged Z n a b f (Z.starts !! a) (Z.starts !! b) zero_f
-  merge_none = record { cut = 0; bound = omega arith; first = parted-none r; second = parted-none s; made = where_none _ f }
+  merge_none = record { cut = 0; bound = omega arith; first = parted_none r; second = parted_none s; made = where_none _ f }
 
   first_none : (i : ℕ) → stored_in Z.columns (Z.starts !! a) (Z.starts !! (a + 1)) i ≡ false → stored Z a i && stored Z b i ≡ false
   unfolding stored
@@ -66,8 +66,8 @@ module _ (Z : Sparse) (n a b : ℕ) (f : ℕ → Float)
     shared : i < Z.starts !! (a + 1) → j < Z.starts !! (b + 1) → Z.columns !! i ≡ Z.columns !! j → stored Z a (Z.columns !! i) && stored Z b (Z.columns !! i) ≡ true
     unfolding stored
     shared l g h =
-        let hit : stored_in Z.columns (Z.starts !! b) (Z.starts !! (b + 1)) (Z.columns !! i) ≡ true = rw h (stored-entry s j m.second.start g) in
-        rw (stored-entry r i m.first.start l, hit) refl
+        let hit : stored_in Z.columns (Z.starts !! b) (Z.starts !! (b + 1)) (Z.columns !! i) ≡ true = rw h (stored_entry s j m.second.start g) in
+        rw (stored_entry r i m.first.start l, hit) refl
 
     -- both rows store the column
     pub merge_both : i < Z.starts !! (a + 1) → j < Z.starts !! (b + 1) → Z.columns !! i ≡ Z.columns !! j → Merged Z n a b f (i + 1) (j + 1) (sum ⊕ f (Z.columns !! i))
@@ -99,4 +99,4 @@ pub weighted_entry : (Z : Sparse) (rows n : ℕ) (w : List Float) (a b i j : ℕ
     → weighted_term Z w a b (Z.columns !! i) ≡ ((Z.values ! i) ⊗ (Z.values ! j)) ⊗ (w ! (Z.columns !! i))
 unfolding weighted_term
 weighted_entry Z rows n w a b i j v l m p q p' q' e =
-    rw (value-entry Z rows n a v l i p q, ap (λ (c : ℕ). value_at Z b c) e ∙ value-entry Z rows n b v m j p' q') refl
+    rw (value_entry Z rows n a v l i p q, ap (λ (c : ℕ). value_at Z b c) e ∙ value_entry Z rows n b v m j p' q') refl

@@ -8,7 +8,7 @@ use native.Mathlib.Omega.{arith}
 use Rattle.base.specs.Sum.{◌!!◌}
 use Rattle.base.specs.Sparse.{Rising, stored_in}
 use Rattle.base.proofs.Sums.{lt_or_ge}
-use Rattle.base.proofs.SparseRows.{later-above, later-or-same, stored-none}
+use Rattle.base.proofs.SparseRows.{later_above, later_or_same, stored_none}
 
 -- of the row from b to e, the entries before k have columns below the cut, the others have not
 pub record Parted (columns : List ℕ) (b e k cut : ℕ) : Type 0 where
@@ -18,8 +18,8 @@ pub record Parted (columns : List ℕ) (b e k cut : ℕ) : Type 0 where
   pub after : (x : ℕ) → k ≤ x → x < e → cut ≤ columns !! x
 
 module _ {columns : List ℕ} {n b e : ℕ} (r : Rising columns n b e) where
-  pub parted-none : Parted columns b e b 0
-  parted-none = record { start = omega arith; order = r.order; before = λ x l m. absurd (omega arith); after = λ x l m. omega arith }
+  pub parted_none : Parted columns b e b 0
+  parted_none = record { start = omega arith; order = r.order; before = λ x l m. absurd (omega arith); after = λ x l m. omega arith }
 
   module _ {k cut : ℕ} (p : Parted columns b e k cut) where
     -- the cursor's entry is passed
@@ -28,8 +28,8 @@ module _ {columns : List ℕ} {n b e : ℕ} (r : Rising columns n b e) where
         record {
           start = omega (arith, p.start);
           order = omega arith;
-          before = λ x g m. let s : columns !! x ≤ columns !! k = later-or-same r x k g (omega arith) l in omega arith;
-          after = λ x g m. let s : columns !! k < columns !! x = later-above r k x p.start (omega arith) m in omega arith;
+          before = λ x g m. let s : columns !! x ≤ columns !! k = later_or_same r x k g (omega arith) l in omega arith;
+          after = λ x g m. let s : columns !! k < columns !! x = later_above r k x p.start (omega arith) m in omega arith;
         }
 
     -- the cut rises, and still none of the entries from the cursor on is below it
@@ -39,14 +39,14 @@ module _ {columns : List ℕ} {n b e : ℕ} (r : Rising columns n b e) where
           start = p.start;
           order = p.order;
           before = λ x g s. let q : columns !! x < cut = p.before x g s in omega arith;
-          after = λ x g s. let q : columns !! k ≤ columns !! x = later-or-same r k x p.start g s in omega arith;
+          after = λ x g s. let q : columns !! k ≤ columns !! x = later_or_same r k x p.start g s in omega arith;
         }
 
     -- between the cut and the cursor's column the row stores nothing
     pub between : (i : ℕ) → cut ≤ i → (k < e → i < columns !! k) → stored_in columns b e i ≡ false
     between i l h =
-        stored-none r i
+        stored_none r i
         (λ x g m z. ⊎_elim
         (λ (s : x < k). let q : columns !! x < cut = p.before x g s in omega arith)
-        (λ (s : k ≤ x). let q : columns !! k ≤ columns !! x = later-or-same r k x p.start s m in let u : i < columns !! k = h (omega arith) in omega arith)
+        (λ (s : k ≤ x). let q : columns !! k ≤ columns !! x = later_or_same r k x p.start s m in let u : i < columns !! k = h (omega arith) in omega arith)
         (lt_or_ge x k))

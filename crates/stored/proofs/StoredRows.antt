@@ -7,7 +7,7 @@ use Rattle.base.specs.Number.{◌⊗◌}
 use Rattle.base.specs.Sum.{◌!◌, ◌!!◌, sum_from}
 use Rattle.base.specs.Sparse.{Sparse, Rows}
 use Rattle.base.proofs.Sums.{from_cong}
-use Rattle.base.proofs.SparseRows.{row-sum, value-entry}
+use Rattle.base.proofs.SparseRows.{row_sum_lem, value_entry}
 use Rattle.stored.specs.Stored.{stored_term, zt_times_at}
 
 -- what entry k of Z' adds: its value times v at its column
@@ -18,5 +18,5 @@ pub zt_entries : (Z : Sparse) (rows n : ℕ) (v : List Float) (a : ℕ) → Rows
     → sum_from (Z.starts !! a) (Z.starts !! (a + 1)) (entry_term Z v) ≡ zt_times_at Z n v a
 unfolding zt_times_at stored_term
 zt_entries Z rows n v a r l =
-    from_cong (Z.starts !! a) (Z.starts !! (a + 1)) _ _ (λ k p q. ap (λ (x : Float). x ⊗ (v ! (Z.columns !! k))) (sym (value-entry Z rows n a r l k p q)))
-    ∙ sym (row-sum Z rows n a r l (stored_term Z v a))
+    from_cong (Z.starts !! a) (Z.starts !! (a + 1)) _ _ (λ k p q. ap (λ (x : Float). x ⊗ (v ! (Z.columns !! k))) (sym (value_entry Z rows n a r l k p q)))
+    ∙ sym (row_sum_lem Z rows n a r l (stored_term Z v a))

@@ -31,23 +31,23 @@ pub same_or_not : (t q : ℕ) → (t ≡ q) ⊎ (t ≡ q → ⊥)
 same_or_not t q = ⊎_elim (λ (l : t < q). inr (λ e. omega arith)) (λ (l : q ≤ t). ⊎_elim (λ (m : q < t). inr (λ e. omega arith)) (λ (m : t ≤ q). inl (omega arith)) (lt_or_ge q t)) (lt_or_ge t q)
 
 module _ (p q : ℕ) (x : Float) (X : List Float) where
-  first-place : p < length X → set (set X p x) q x ! p ≡ x
-  first-place l =
+  first_place : p < length X → set (set X p x) q x ! p ≡ x
+  first_place l =
       ⊎_elim
       (λ (e : p ≡ q). rw (← e) (get_or-set_same (set X p x) p x nan (omega (arith, length-set X p x))))
       (λ (d : p ≡ q → ⊥). get_or-set_other (set X p x) q p x nan d ∙ get_or-set_same X p x nan l)
       (same_or_not p q)
 
-  second-place : q < length X → set (set X p x) q x ! q ≡ x
-  second-place l = get_or-set_same (set X p x) q x nan (omega (arith, length-set X p x))
+  second_place : q < length X → set (set X p x) q x ! q ≡ x
+  second_place l = get_or-set_same (set X p x) q x nan (omega (arith, length-set X p x))
 
   other_place : (t : ℕ) → (t ≡ p → ⊥) → (t ≡ q → ⊥) → set (set X p x) q x ! t ≡ X ! t
   other_place t d e = get_or-set_other (set X p x) q t x nan e ∙ get_or-set_other X p t x nan d
 
 -- ---- row a and column a
 module _ (s a : ℕ) (f : ℕ → ℕ → Float) (v : List Float) where
-  pub border-none : Bordered s a 0 f v v
-  border-none = record { len = refl; across = λ k g. absurd (not-suc-le-zero g); down = λ k g. absurd (not-suc-le-zero g); kept = λ i j g p q. refl; past = λ t g. refl }
+  pub border_none : Bordered s a 0 f v v
+  border_none = record { len = refl; across = λ k g. absurd (not-suc-le-zero g); down = λ k g. absurd (not-suc-le-zero g); kept = λ i j g p q. refl; past = λ t g. refl }
 
   module _ (m : ℕ) (X : List Float) (l : a < s) (g : m ≤ a) (h : s * s ≤ length v) (same : f a m ≡ f m a) (r : Bordered s a m f v X) where
     low : m * s + a < s * s
@@ -61,11 +61,11 @@ module _ (s a : ℕ) (f : ℕ → ℕ → Float) (v : List Float) where
         record {
           len = length-set (set X (a * s + m) (f a m)) (m * s + a) (f a m) ∙ length-set X (a * s + m) (f a m) ∙ r.len;
           across = λ k u. ⊎_elim
-              (λ (e : k ≡ m). rw e (first-place (a * s + m) (m * s + a) (f a m) X (omega (arith, high, r.len))))
+              (λ (e : k ≡ m). rw e (first_place (a * s + m) (m * s + a) (f a m) X (omega (arith, high, r.len))))
               (λ (u' : k < m). other_place (a * s + m) (m * s + a) (f a m) X (a * s + k) (λ e. omega arith) (λ e. omega (arith, same_column s a k m a (omega arith) l e)) ∙ r.across k u')
               (last_or_before u);
           down = λ k u. ⊎_elim
-              (λ (e : k ≡ m). rw e (second-place (a * s + m) (m * s + a) (f a m) X (omega (arith, low, r.len)) ∙ same))
+              (λ (e : k ≡ m). rw e (second_place (a * s + m) (m * s + a) (f a m) X (omega (arith, low, r.len)) ∙ same))
               (λ (u' : k < m). other_place (a * s + m) (m * s + a) (f a m) X (k * s + a) (λ e. omega (arith, same_row s k a a m l (omega arith) e)) (λ e. omega (arith, same_row s k a m a l l e)) ∙ r.down k u')
               (last_or_before u);
           kept = λ i j u p q. other_place (a * s + m) (m * s + a) (f a m) X (i * s + j)
@@ -76,11 +76,11 @@ module _ (s a : ℕ) (f : ℕ → ℕ → Float) (v : List Float) where
         }
 
   -- as the loop has it
-  pub border-step : (m : ℕ) (X : List Float) (ao mo : ℕ) (x : Float) → ao ≡ a * s → mo ≡ m * s → x ≡ f a m → a < s → m ≤ a → s * s ≤ length v → f a m ≡ f m a → Bordered s a m f v X → Bordered s a (m + 1) f v (set (set X (ao + m) x) (mo + a) x)
-  border-step m X ao mo x e e' q l g h same r = rw (e, e', q, add-one m) (border_more m X l g h same r)
+  pub border_step : (m : ℕ) (X : List Float) (ao mo : ℕ) (x : Float) → ao ≡ a * s → mo ≡ m * s → x ≡ f a m → a < s → m ≤ a → s * s ≤ length v → f a m ≡ f m a → Bordered s a m f v X → Bordered s a (m + 1) f v (set (set X (ao + m) x) (mo + a) x)
+  border_step m X ao mo x e e' q l g h same r = rw (e, e', q, add-one m) (border_more m X l g h same r)
 
-  pub border-end : (m : ℕ) (X : List Float) → m ≤ a + 1 → a < m → Bordered s a m f v X → Bordered s a (a + 1) f v X
-  border-end m X l g r = let q : m ≡ a + 1 = omega arith in rw (← q) r
+  pub border_end : (m : ℕ) (X : List Float) → m ≤ a + 1 → a < m → Bordered s a m f v X → Bordered s a (a + 1) f v X
+  border_end m X l g r = let q : m ≡ a + 1 = omega arith in rw (← q) r
 
 -- ---- row after row: X is v, but for its leading m by m square, which is f's
 pub record Leading (s m : ℕ) (f : ℕ → ℕ → Float) (v X : List Float) : Type 0 where
@@ -90,8 +90,8 @@ pub record Leading (s m : ℕ) (f : ℕ → ℕ → Float) (v X : List Float) : 
   pub past : (t : ℕ) → s * s ≤ t → X ! t ≡ v ! t
 
 module _ (s : ℕ) (f : ℕ → ℕ → Float) (v : List Float) where
-  pub leading-none : Leading s 0 f v v
-  leading-none = record { len = refl; inside = λ i j g g'. absurd (not-suc-le-zero g); outside = λ i j g d. refl; past = λ t g. refl }
+  pub leading_none : Leading s 0 f v v
+  leading_none = record { len = refl; inside = λ i j g g'. absurd (not-suc-le-zero g); outside = λ i j g d. refl; past = λ t g. refl }
 
   pub leading_step : (a : ℕ) (X Y : List Float) → a < s → Leading s a f v X → Bordered s a (a + 1) f X Y → Leading s (a + 1) f v Y
   leading_step a X Y l p r =

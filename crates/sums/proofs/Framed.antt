@@ -17,7 +17,7 @@ use Rattle.layout.specs.WorkRows.{xbeta_row, deviance_row, point_row, mark_row}
 use Rattle.layout.specs.WorkMatrices.{system_place, inverse_place, u_place, trial_uplace}
 use Rattle.layout.specs.WorkTerms.{terms_length}
 use Rattle.layout.proofs.Bounds.{products}
-use Rattle.layout.proofs.Inside.{xbeta-in, deviance-in, system-in, inverse-in, u-in, factor_in}
+use Rattle.layout.proofs.Inside.{xbeta_in, deviance_in, system_in, inverse_in, u_in, factor_in}
 use Rattle.layout.proofs.LaidOut.{lent_kept}
 use Rattle.rule.specs.Given.{Given, n_of, q_of}
 use Rattle.rule.specs.Stop.{Mode}
@@ -70,10 +70,10 @@ stands_kept G M r r' m m' t t' lent f s =
     let p = G.design.p in
     let q = q_of G.design in
     record {
-      fixed = only_row (xbeta_row n) n (point_row n) (n + n) (inl (omega arith)) (xbeta-in lent.sizes r refl lent.rows_long) f.rows_only ∙ s.fixed;
-      deviances = only_row (deviance_row n) n (point_row n) (n + n) (inl (omega arith)) (deviance-in lent.sizes r refl lent.rows_long) f.rows_only ∙ s.deviances;
-      system = two_row system_place (q * q) (inverse_place q) (q * q) (trial_uplace p q) (q + q + q) (inl (omega arith)) (inl (omega arith)) (system-in lent.sizes m refl lent.matrices_long) f.matrices_only ∙ s.system;
-      u = two_row (u_place p q) q (inverse_place q) (q * q) (trial_uplace p q) (q + q + q) (inr (omega arith)) (inl (omega arith)) (u-in lent.sizes m refl lent.matrices_long) f.matrices_only ∙ s.u;
+      fixed = only_row (xbeta_row n) n (point_row n) (n + n) (inl (omega arith)) (xbeta_in lent.sizes r refl lent.rows_long) f.rows_only ∙ s.fixed;
+      deviances = only_row (deviance_row n) n (point_row n) (n + n) (inl (omega arith)) (deviance_in lent.sizes r refl lent.rows_long) f.rows_only ∙ s.deviances;
+      system = two_row system_place (q * q) (inverse_place q) (q * q) (trial_uplace p q) (q + q + q) (inl (omega arith)) (inl (omega arith)) (system_in lent.sizes m refl lent.matrices_long) f.matrices_only ∙ s.system;
+      u = two_row (u_place p q) q (inverse_place q) (q * q) (trial_uplace p q) (q + q + q) (inr (omega arith)) (inl (omega arith)) (u_in lent.sizes m refl lent.matrices_long) f.matrices_only ∙ s.u;
     }
 
 -- slices of the same lengths are as good
@@ -98,7 +98,7 @@ room_of {n} {p} {q} xbeta trial a ex et er em =
 
 -- the square of A is in its slice
 pub square_in : {n p q : ℕ} {r m t : List Float} → WorkRoom n p q r m t → q * q ≤ length m
-square_in {q = q} {m = m} lent = omega (arith, system-in lent.sizes {k = 0} m refl lent.matrices_long)
+square_in {q = q} {m = m} lent = omega (arith, system_in lent.sizes {k = 0} m refl lent.matrices_long)
 
 -- û stands before the effects at a point
 pub hats_before : (p q u trial : ℕ) → u ≡ u_place p q → trial ≡ trial_uplace p q → u + q ≤ trial
@@ -107,4 +107,4 @@ hats_before p q u trial eu et = omega arith
 -- what the scale of a block asks for
 pub scale_room : {n p q : ℕ} {r m t : List Float} (s k : ℕ) → WorkRoom n p q r m t → s + k ≤ q → ScaleRoom q s k m t
 scale_room {m = m} {t = t} s k lent h =
-    record { few = lent.sizes.q_few; within = h; matrices = inverse-in lent.sizes m refl lent.matrices_long; terms = factor_in lent.sizes t refl lent.terms_long }
+    record { few = lent.sizes.q_few; within = h; matrices = inverse_in lent.sizes m refl lent.matrices_long; terms = factor_in lent.sizes t refl lent.terms_long }

@@ -15,12 +15,12 @@ use Rattle.base.proofs.Sums.{all_of}
 use Rattle.base.specs.List.{build, fill_to, fill_at}
 use Rattle.base.specs.Rows.{row, Only, Wrote}
 use Rattle.base.proofs.Fills.{build_cong, length_fill, fill_in}
-use Rattle.base.proofs.Rows.{row_length, row-build, front_is, only_row, only_wide, fillat_only, fillat_wrote}
+use Rattle.base.proofs.Rows.{row_length, row_build, front_is, only_row, only_wide, fillat_only, fillat_wrote}
 use Rattle.layout.specs.Layout.{WorkRoom}
 use Rattle.layout.specs.WorkRows.{xbeta_row, deviance_row, mark_row}
 use Rattle.layout.specs.WorkMatrices.{u_place, trial_uplace}
 use Rattle.layout.specs.WorkTerms.{terms_length}
-use Rattle.layout.proofs.Inside.{xbeta-in, deviance-in, u-in, trial-u-in}
+use Rattle.layout.proofs.Inside.{xbeta_in, deviance_in, u_in, trial_u_in}
 use Rattle.quadrature.specs.Orders.{size_of}
 use Rattle.quadrature.specs.Rules.{nodes_of, weights_of, padded, rule_of}
 use Rattle.quadrature.specs.declared.orders.Order.{Order}
@@ -45,7 +45,7 @@ use Rattle.sums.specs.declared.answers.GroupSum.{GroupSum}
 pub front_filled : (count : ℕ) (f : ℕ → Float) (t t' : List Float) → count ≤ length t → t' ≡ fill_to count f t → row 0 count t' ≡ build f count
 front_filled count f t t' h e =
     rw e
-    (row-build 0 count (fill_to count f t) (omega (arith, length_fill count f t)) f
+    (row_build 0 count (fill_to count f t) (omega (arith, length_fill count f t)) f
     (λ k l. rw (zero-add k) (fill_in count f t h k l)))
 
 -- û has been copied to the trial effects; the row of û is as it was
@@ -53,43 +53,43 @@ module _ (n p q u trial : ℕ) (r m t : List Float) (lent : WorkRoom n p q r m t
   abbrev copy : List Float
   copy = fill_at trial q (entry_from m u) m
 
-  pub copied-only : Only trial (q + q + q) m copy
-  copied-only = only_wide trial q trial (q + q + q) (omega arith) (omega arith) (fillat_only trial q q (entry_from m u) m (omega arith))
+  pub copied_only : Only trial (q + q + q) m copy
+  copied_only = only_wide trial q trial (q + q + q) (omega arith) (omega arith) (fillat_only trial q q (entry_from m u) m (omega arith))
 
-  pub copied-u : row u q copy ≡ row u q m
-  copied-u = only_row u q trial q (inl (omega arith)) (u-in lent.sizes m eu lent.matrices_long) (fillat_only trial q q (entry_from m u) m (omega arith))
+  pub copied_u : row u q copy ≡ row u q m
+  copied_u = only_row u q trial q (inl (omega arith)) (u_in lent.sizes m eu lent.matrices_long) (fillat_only trial q q (entry_from m u) m (omega arith))
 
-  pub copied-trial : row trial q copy ≡ row u q m
-  copied-trial =
-      (fillat_wrote trial q q (entry_from m u) m copy refl (omega arith) (omega arith) (trial-u-in lent.sizes m et lent.matrices_long)).row'
-      ∙ sym (row-build u q m (u-in lent.sizes m eu lent.matrices_long) (entry_from m u) (λ k l. refl))
+  pub copied_trial : row trial q copy ≡ row u q m
+  copied_trial =
+      (fillat_wrote trial q q (entry_from m u) m copy refl (omega arith) (omega arith) (trial_u_in lent.sizes m et lent.matrices_long)).row'
+      ∙ sym (row_build u q m (u_in lent.sizes m eu lent.matrices_long) (entry_from m u) (λ k l. refl))
 
 -- the rows that the mark leaves, where a point looks for them
 module _ (n p q mark xbeta : ℕ) (marks r r1 m t : List Float) (lent : WorkRoom n p q r m t) (em : mark ≡ mark_row n) (ex : xbeta ≡ xbeta_row n) (wrote : Wrote mark n marks r r1) where
   pub marked_row : row (xbeta + n + n + n) n r1 ≡ marks
   marked_row = let e : xbeta + n + n + n ≡ mark = omega arith in rw e wrote.row'
 
-  pub marked-fixed : row xbeta n r1 ≡ row (xbeta_row n) n r
-  marked-fixed = rw ex (only_row (xbeta_row n) n mark n (inl (omega arith)) (xbeta-in lent.sizes r refl lent.rows_long) wrote.only)
+  pub marked_fixed : row xbeta n r1 ≡ row (xbeta_row n) n r
+  marked_fixed = rw ex (only_row (xbeta_row n) n mark n (inl (omega arith)) (xbeta_in lent.sizes r refl lent.rows_long) wrote.only)
 
-  pub marked-devs : row (xbeta + n) n r1 ≡ row (deviance_row n) n r
-  marked-devs =
+  pub marked_devs : row (xbeta + n) n r1 ≡ row (deviance_row n) n r
+  marked_devs =
       let e : xbeta + n ≡ deviance_row n = omega arith in
-      rw e (only_row (deviance_row n) n mark n (inl (omega arith)) (deviance-in lent.sizes r refl lent.rows_long) wrote.only)
+      rw e (only_row (deviance_row n) n mark n (inl (omega arith)) (deviance_in lent.sizes r refl lent.rows_long) wrote.only)
 
 -- ---- the rule of an order, as its function answers
 module _ (o : Order) (z : Rule) (e : z ≡ rule_of o) where
-  pub rule-size : z.size ≡ size_of o
+  pub rule_size : z.size ≡ size_of o
   unfolding rule_of
-  rule-size = rw e refl
+  rule_size = rw e refl
 
-  pub rule-nodes : z.nodes ≡ padded (nodes_of o)
+  pub rule_nodes : z.nodes ≡ padded (nodes_of o)
   unfolding rule_of
-  rule-nodes = rw e refl
+  rule_nodes = rw e refl
 
-  pub rule-weights : z.weights ≡ padded (weights_of o)
+  pub rule_weights : z.weights ≡ padded (weights_of o)
   unfolding rule_of
-  rule-weights = rw e refl
+  rule_weights = rw e refl
 
 nodes_long : (o : Order) → size_of o ≤ length (padded (nodes_of o))
 unfolding size_of nodes_of padded
@@ -108,24 +108,24 @@ weights_long Nine = lit≤ tt
 weights_long Eleven = lit≤ tt
 
 module _ (o : Order) (z : Rule) (e : z ≡ rule_of o) where
-  pub rule-nodes-long : z.size ≤ length z.nodes
-  rule-nodes-long = rw (rule-size o z e, rule-nodes o z e) (nodes_long o)
+  pub rule_nodes_long : z.size ≤ length z.nodes
+  rule_nodes_long = rw (rule_size o z e, rule_nodes o z e) (nodes_long o)
 
-  pub rule-weights-long : z.size ≤ length z.weights
-  rule-weights-long = rw (rule-size o z e, rule-weights o z e) (weights_long o)
+  pub rule_weights_long : z.size ≤ length z.weights
+  rule_weights_long = rw (rule_size o z e, rule_weights o z e) (weights_long o)
 
-  pub rule-logs-long : {logs : List Float} → LogRow o logs → z.size ≤ length logs
-  rule-logs-long log = rw (rule-size o z e) log.long
+  pub rule_logs_long : {logs : List Float} → LogRow o logs → z.size ≤ length logs
+  rule_logs_long log = rw (rule_size o z e) log.long
 
-  pub rule-some : 3 ≤ z.size
-  rule-some = rw (rule-size o z e) (size_from o)
+  pub rule_some : 3 ≤ z.size
+  rule_some = rw (rule_size o z e) (size_from o)
 
-  pub rule-in : (t : List Float) → terms_length ≤ length t → z.size ≤ length t
-  rule-in t h = omega (arith, rule-size o z e, size_to o)
+  pub rule_in : (t : List Float) → terms_length ≤ length t → z.size ≤ length t
+  rule_in t h = omega (arith, rule_size o z e, size_to o)
 
-  pub rule-finite : all_to z.size (finite_at z.nodes) ≡ true
-  rule-finite =
-      rw (rule-size o z e, rule-nodes o z e)
+  pub rule_finite : all_to z.size (finite_at z.nodes) ≡ true
+  rule_finite =
+      rw (rule_size o z e, rule_nodes o z e)
       (sym (all_of (finite_at (padded (nodes_of o))) (size_of o) (λ i l. ap finite (node_padded o i l) ∙ node_finite o i l)))
 
 -- ---- a log sum of the terms f, which are the rule's
@@ -159,10 +159,10 @@ module _ (t : List Float) (count : ℕ) (s : Float) (h : count ≤ length t) (e 
   front : log_sum_exp (row 0 count t) ≡ s
   front = sym (e ∙ ap log_sum_exp (front_is count t))
 
-  pub sum-found : finite s ≡ true → record { sum = LogSum s; points = count } ≡ group_sum_of (row 0 count t)
+  pub sum_found : finite s ≡ true → record { sum = LogSum s; points = count } ≡ group_sum_of (row 0 count t)
   unfolding group_sum_of summed_by
-  sum-found f = rw (front, f, row_length 0 count t (omega arith)) refl
+  sum_found f = rw (front, f, row_length 0 count t (omega arith)) refl
 
-  pub no-sum-found : finite s ≡ false → record { sum = NoSum decline.Sum; points = count } ≡ group_sum_of (row 0 count t)
+  pub no_sum_found : finite s ≡ false → record { sum = NoSum decline.Sum; points = count } ≡ group_sum_of (row 0 count t)
   unfolding group_sum_of summed_by
-  no-sum-found f = rw (front, f, row_length 0 count t (omega arith)) refl
+  no_sum_found f = rw (front, f, row_length 0 count t (omega arith)) refl

@@ -19,7 +19,7 @@ use Rattle.points.specs.Grid.{log_at}
 use Rattle.scale.proofs.SectionCopied.{square_within}
 use Rattle.several.specs.Several.{Grid}
 use Rattle.several.proofs.Nodes.{logs_ruled}
-use Rattle.sums.proofs.Fronts.{rule-size, rule-weights, rule-some, rule-nodes-long, rule-weights-long, rule-finite}
+use Rattle.sums.proofs.Fronts.{rule_size, rule_weights, rule_some, rule_nodes_long, rule_weights_long, rule_finite}
 
 pub grid_places : (p q s k l u trial : ℕ) → s + k ≤ q → l ≡ inverse_place q → u ≡ u_place p q → trial ≡ trial_uplace p q → (l + k * k ≤ u) × (l + k * k ≤ trial) × (u + q ≤ trial)
 grid_places p q s k l u trial h el eu et = (omega (arith, square_within q s k h), omega (arith, square_within q s k h), omega arith)
@@ -33,29 +33,29 @@ grid_of {n} {p} {q} o z s k l u trial m' e lent em h el eu et =
       factor = (grid_places p q s k l u trial h el eu et).0;
       hats = (grid_places p q s k l u trial h el eu et).2;
       in_m = omega (arith, lent.matrices_long);
-      some = omega (arith, rule-some o z e);
-      in_nodes = rule-nodes-long o z e;
-      finite_nodes = rule-finite o z e;
+      some = omega (arith, rule_some o z e);
+      in_nodes = rule_nodes_long o z e;
+      finite_nodes = rule_finite o z e;
     }
 
 -- the row of the weights' logarithms, written over a list of eleven
 module _ (o : Order) (z : Rule) (before : List Float) (e : z ≡ rule_of o) (long : length before ≡ 11) where
   few : z.size ≤ length before
-  few = omega (arith, rule-size o z e, size_to o)
+  few = omega (arith, rule_size o z e, size_to o)
 
-  pub logs-room : (z.size ≤ length z.weights) × (z.size ≤ length before)
-  logs-room = (rule-weights-long o z e, few)
+  pub logs_room : (z.size ≤ length z.weights) × (z.size ≤ length before)
+  logs_room = (rule_weights_long o z e, few)
 
-  pub logs-of : (logs : List Float) → logs ≡ fill_to z.size (log_at z.weights) before → LogRow o logs
-  logs-of logs w = logs_ruled o z.size z.weights before logs (rule-size o z e) (rule-weights o z e) few w
+  pub logs_of : (logs : List Float) → logs ≡ fill_to z.size (log_at z.weights) before → LogRow o logs
+  logs_of logs w = logs_ruled o z.size z.weights before logs (rule_size o z e) (rule_weights o z e) few w
 
 -- how many points there are
 pub count_few : (o : Order) (z : Rule) (k most c : ℕ) → z ≡ rule_of o → size_of o ^ k ≤ most → c ≡ z.size ^ k → c ≤ most
-count_few o z k most c e h ec = let p : z.size ^ k ≡ size_of o ^ k = ap (λ (x : ℕ). x ^ k) (rule-size o z e) in omega arith
+count_few o z k most c e h ec = let p : z.size ^ k ≡ size_of o ^ k = ap (λ (x : ℕ). x ^ k) (rule_size o z e) in omega arith
 
 pub count_in_lem : (o : Order) (z : Rule) (k most c : ℕ) (t : List Float) → z ≡ rule_of o → size_of o ^ k ≤ most → c ≡ z.size ^ k → most ≤ 7000 → terms_length ≤ length t → c ≤ length t
 count_in_lem o z k most c t e h ec few long = omega (arith, count_few o z k most c e h ec)
 
 -- what the power asks for
 pub power_room : (o : Order) (z : Rule) (k : ℕ) → z ≡ rule_of o → size_of o ^ k ≤ 7000 → (3 ≤ z.size) × (z.size ^ k ≤ 7000)
-power_room o z k e h = (rule-some o z e, count_few o z k 7000 (z.size ^ k) e h refl)
+power_room o z k e h = (rule_some o z e, count_few o z k 7000 (z.size ^ k) e h refl)

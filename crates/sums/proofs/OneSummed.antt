@@ -16,7 +16,7 @@ use Rattle.model.specs.declared.sizes.Shape.{Shape}
 use Rattle.layout.specs.Layout.{WorkRoom}
 use Rattle.layout.specs.WorkRows.{xbeta_row, mark_row}
 use Rattle.layout.specs.WorkMatrices.{system_place, u_place, trial_uplace}
-use Rattle.layout.proofs.Inside.{u-in}
+use Rattle.layout.proofs.Inside.{u_in}
 use Rattle.quadrature.specs.Orders.{size_of}
 use Rattle.quadrature.specs.Rules.{nodes_of, padded}
 use Rattle.quadrature.specs.declared.orders.Decline.{Decline}
@@ -32,14 +32,14 @@ use Rattle.scale.specs.Tells.{entry_from, one_scale_of}
 use Rattle.scale.specs.declared.sigmas.OneScale.{OneScale}
 use Rattle.scale.specs.declared.sigmas.OneScale.TheVariants.{Sigma, NoSigma}
 use Rattle.agq.specs.One.{one_term_at_node, OnesIn}
-use Rattle.agq.proofs.OneRuled.{one-ruled}
+use Rattle.agq.proofs.OneRuled.{one_ruled}
 use Rattle.sums.specs.Stands.{Stands, given_with}
 use Rattle.sums.specs.Summed.{group_sum_of, SumLeft, GroupLeft}
 use Rattle.sums.specs.Rules.{one_terms, one_rule}
 use Rattle.sums.specs.declared.answers.Summed.TheVariants.{NoSum}
 use Rattle.sums.specs.declared.answers.GroupSum.{GroupSum}
 use Rattle.sums.proofs.Framed.{frame_none, frame_terms}
-use Rattle.sums.proofs.Fronts.{copied-only, copied-u, copied-trial, marked_row, marked-fixed, marked-devs, sum_made, group_of_sum}
+use Rattle.sums.proofs.Fronts.{copied_only, copied_u, copied_trial, marked_row, marked_fixed, marked_devs, sum_made, group_of_sum}
 use Rattle.sums.proofs.Told.{one_declined, one_told}
 
 -- the terms, in the rule's words
@@ -62,18 +62,18 @@ module _ (G : Given) (M : Mode) (phi : Float) (o : Order) (g : ℕ) (sigma : Flo
   hat : row u q m ≡ M.u
   hat = rw eu stands.u
 
-  hat-long : g + 1 ≤ length M.u
-  hat-long = rw (← hat) (omega (arith, row_length u q m (u-in lent.sizes m eu lent.matrices_long)))
+  hat_long : g + 1 ≤ length M.u
+  hat_long = rw (← hat) (omega (arith, row_length u q m (u_in lent.sizes m eu lent.matrices_long)))
 
-  pub one-term-ruled : (i : ℕ) → i < size_of o
+  pub one_term_ruled : (i : ℕ) → i < size_of o
       → one_term_at_node G.family G.link G.design.shape G.design.theta G.design.zt G.y G.weights G.design.offset n q xbeta g sigma (inverse_phi phi) (row u q m1) r1 (row trial q m1) (padded (nodes_of o)) logs i ≡ one_term G M phi o g sigma i
-  one-term-ruled i d =
-      rw (copied-u n p q u trial r m t lent eu et, copied-trial n p q u trial r m t lent eu et, hat)
-      (one-ruled G M phi o g sigma i xbeta r1 M.u (padded (nodes_of o)) logs
+  one_term_ruled i d =
+      rw (copied_u n p q u trial r m t lent eu et, copied_trial n p q u trial r m t lent eu et, hat)
+      (one_ruled G M phi o g sigma i xbeta r1 M.u (padded (nodes_of o)) logs
       (marked_row n p q mark xbeta _ r r1 m t lent em ex wrote)
-      (marked-fixed n p q mark xbeta _ r r1 m t lent em ex wrote ∙ stands.fixed)
-      (marked-devs n p q mark xbeta _ r r1 m t lent em ex wrote ∙ stands.deviances)
-      (only_none g 1 M.u) hat-long (node_padded o i d) (log.each i d))
+      (marked_fixed n p q mark xbeta _ r r1 m t lent em ex wrote ∙ stands.fixed)
+      (marked_devs n p q mark xbeta _ r r1 m t lent em ex wrote ∙ stands.deviances)
+      (only_none g 1 M.u) hat_long (node_padded o i d) (log.each i d))
 
 -- ---- the same for the arguments of the code, of which q is the number of effects
 module _ (family : CarriedFamily) (link : CarriedLink) (shape : Shape) (theta : List Float) (zt : Sparse) (y weights offset : List Float) (n p q : ℕ) (o : Order) (g : ℕ) (sigma phi inv : Float)
@@ -89,11 +89,11 @@ module _ (family : CarriedFamily) (link : CarriedLink) (shape : Shape) (theta : 
   few : size ≤ 7000
   few = omega (arith, size_to o)
 
-  pub one-made : SumLeft (given_with family link shape theta zt y weights offset n p) (one_terms phi o g sigma) n p q (size_of o) r r2 m m2 t t' a
-  one-made =
+  pub one_made : SumLeft (given_with family link shape theta zt y weights offset n p) (one_terms phi o g sigma) n p q (size_of o) r r2 m m2 t t' a
+  one_made =
       sum_made (given_with family link shape theta zt y weights offset n p) (one_terms phi o g sigma) n p q (size_of o) size f r r2 m m2 t t' a es few lent made.terms ea
-      (λ x M s i d. rw (copied, ei, en, eq) (one-term-ruled (given_with family link shape theta zt y weights offset n p x) M phi o g sigma u trial mark xbeta logs r r1 m t log (rw eq at lent) s (rw eq at l) (rw eq at eu) (rw eq at et) em ex wrote i d))
-      (frame_terms n p q mark xbeta trial size f r r1 r2 m m1 m2 t t' em ex et few wrote.only made.in_r (rw copied (copied-only n p q u trial r m t lent eu et)) (only_wide trial (q + q) trial (q + q + q) (omega arith) (omega arith) made.in_m) made.terms)
+      (λ x M s i d. rw (copied, ei, en, eq) (one_term_ruled (given_with family link shape theta zt y weights offset n p x) M phi o g sigma u trial mark xbeta logs r r1 m t log (rw eq at lent) s (rw eq at l) (rw eq at eu) (rw eq at et) em ex wrote i d))
+      (frame_terms n p q mark xbeta trial size f r r1 r2 m m1 m2 t t' em ex et few wrote.only made.in_r (rw copied (copied_only n p q u trial r m t lent eu et)) (only_wide trial (q + q) trial (q + q + q) (omega arith) (omega arith) made.in_m) made.terms)
 
 -- ---- a group, from the test of its diagonal entry
 module _ (family : CarriedFamily) (link : CarriedLink) (shape : Shape) (theta : List Float) (zt : Sparse) (y weights offset : List Float) (n p q : ℕ) (o : Order) (g : ℕ) (phi : Float) (r m t : List Float) (s : OneScale)
@@ -104,10 +104,10 @@ module _ (family : CarriedFamily) (link : CarriedLink) (shape : Shape) (theta : 
   entry : (x : List Float) (M : Mode) → Stands (G x) M r m → s ≡ one_scale_of (at (effects_of shape) M.system g g)
   entry x M st = es ∙ rw (eq, st.system) refl
 
-  pub group-declined : (d : Decline) → s ≡ NoSigma d → GroupLeft G (one_rule phi o g) n p q (size_of o) r r m m t t (record { sum = NoSum d; points = 0 })
-  group-declined d e =
+  pub group_declined : (d : Decline) → s ≡ NoSigma d → GroupLeft G (one_rule phi o g) n p q (size_of o) r r m m t t (record { sum = NoSum d; points = 0 })
+  group_declined d e =
       record { told = λ x M st rest. one_declined (G x) M phi o g (at (effects_of shape) M.system g g) s d rest (entry x M st) e; few = omega arith; frame = frame_none n p q r m t }
 
-  pub group-summed : (sigma : Float) (r' m' t' : List Float) (a : GroupSum) → s ≡ Sigma sigma → SumLeft G (one_terms phi o g sigma) n p q (size_of o) r r' m m' t t' a → GroupLeft G (one_rule phi o g) n p q (size_of o) r r' m m' t t' a
-  group-summed sigma r' m' t' a e left =
+  pub group_summed : (sigma : Float) (r' m' t' : List Float) (a : GroupSum) → s ≡ Sigma sigma → SumLeft G (one_terms phi o g sigma) n p q (size_of o) r r' m m' t t' a → GroupLeft G (one_rule phi o g) n p q (size_of o) r r' m m' t t' a
+  group_summed sigma r' m' t' a e left =
       group_of_sum G (one_terms phi o g sigma) (one_rule phi o g) n p q (size_of o) r r' m m' t t' a left (λ x M st rest h. one_told (G x) M phi o g (at (effects_of shape) M.system g g) s sigma a rest (entry x M st) e h)

@@ -29,9 +29,9 @@ use Rattle.table.proofs.Meant.{count_fits, inputs_fit, results_fit, work_fits, n
 
 -- ---- the lines, from the first to the last
 module _ (r : ℕ) (t : Settings) (s : Shape) (I : Inputs) (L : LentLengths) where
-  pub line-1 : good_sizes t s ≡ false → table_of r t s I L ≡ Refused OutOfRange
+  pub line_1 : good_sizes t s ≡ false → table_of r t s I L ≡ Refused OutOfRange
   unfolding table_of refuse_unless
-  line-1 a = rw a refl
+  line_1 a = rw a refl
 
   module _ (sizes : good_sizes t s ≡ true) where
     pub line_8 : good_count r ≡ false → table_of r t s I L ≡ Refused Responses

@@ -14,7 +14,7 @@ use Rattle.base.specs.Sum.{◌!◌, ◌!!◌, all_to, finite_at}
 use Rattle.base.specs.Sparse.{not_falling, good_starts, column_fits, good_columns, good_row, good_rows, Rising}
 use Rattle.base.proofs.Doubles.{ff}
 use Rattle.base.proofs.Sums.{all_at, all_of, all_fails}
-use Rattle.base.proofs.SparseRows.{starts-step, starts-within, columns_rising}
+use Rattle.base.proofs.SparseRows.{starts_step, starts_within, columns_rising}
 use Rattle.model.specs.Inputs.{Inputs}
 use Rattle.model.specs.Settings.{good_sizes, Sized}
 use Rattle.model.specs.declared.names.Start.{Start}
@@ -76,22 +76,22 @@ module _ (t : Settings) (I : Inputs) where
       (joined (joined (eq-eqb _ _ z.first) (eq-eqb _ _ z.last)) (sym (all_of (not_falling I.starts) t.rows (λ a l. le-leb _ _ (each a l).order))))
       (sym (all_of (good_row I.starts I.columns t.n) t.rows (λ a l. sym (all_of _ _ (column_fits_lem I.columns t.n _ _ (each a l))))))
 
-  rows-meant : good_rows I.starts I.columns t.rows t.n ≡ true → RowsFit t I
+  rows_meant : good_rows I.starts I.columns t.rows t.n ≡ true → RowsFit t I
   unfolding good_rows good_starts good_row
-  rows-meant h =
+  rows_meant h =
       let a : (good_starts I.starts t.rows (length I.columns) ≡ true) × (all_to t.rows (good_row I.starts I.columns t.n) ≡ true) = both h in
       let b : (_ ≡ true) × (all_to t.rows (not_falling I.starts) ≡ true) = both a.0 in
       let c : (eqb (I.starts !! 0) 0 ≡ true) × (eqb (I.starts !! t.rows) (length I.columns) ≡ true) = both b.0 in
-      let step = starts-step I.starts t.rows (length I.columns) (sym a.0) in
-      let few = starts-within I.starts t.rows (length I.columns) (sym a.0) in
+      let step = starts_step I.starts t.rows (length I.columns) (sym a.0) in
+      let few = starts_within I.starts t.rows (length I.columns) (sym a.0) in
       record {
         first = eqb-true _ _ c.0;
         last = eqb-true _ _ c.1;
         each = λ k l. columns_rising I.columns t.n (I.starts !! k) (I.starts !! (k + 1)) (step k l) (few (k + 1) (omega arith)) (sym (all_at (good_row I.starts I.columns t.n) t.rows (sym a.1) k l));
       }
 
-  pub rows-exactly : (good_rows I.starts I.columns t.rows t.n ≡ true) ↔ RowsFit t I
-  rows-exactly = (rows-meant, rows_told)
+  pub rows_exactly : (good_rows I.starts I.columns t.rows t.n ≡ true) ↔ RowsFit t I
+  rows_exactly = (rows_meant, rows_told)
 
 -- ---- number 3
 list_told : (xs : List Float) → AllFinite xs → all_finite xs ≡ true

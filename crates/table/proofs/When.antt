@@ -86,8 +86,8 @@ module _ (r : ℕ) (t : Settings) (s : Shape) (I : Inputs) (L : LentLengths) whe
       (λ x. inl (OutOfRange, x))
 
   -- ---- so exactly when
-  pub refused-when : (x : Refusal) → (table_of r t s I L ≡ Refused x) ↔ GivenWhen r t s I L x
-  refused-when x = (
+  pub refused_when : (x : Refusal) → (table_of r t s I L ≡ Refused x) ↔ GivenWhen r t s I L x
+  refused_when x = (
     λ e.
         ⊎_elim
         (λ (d : (y : Refusal) × GivenWhen r t s I L y). let q : d.0 ≡ x = ap (refusal_in x) (sym (given d.0 d.1) ∙ e) in rw q at d.1)
@@ -96,8 +96,8 @@ module _ (r : ℕ) (t : Settings) (s : Shape) (I : Inputs) (L : LentLengths) whe
     given x,
   )
 
-  pub accepted-when : (f : CarriedFamily) (l : CarriedLink) → (table_of r t s I L ≡ Accepted f l) ↔ AcceptedWhen r t s I L f l
-  accepted-when f l = (
+  pub accepted_when : (f : CarriedFamily) (l : CarriedLink) → (table_of r t s I L ≡ Accepted f l) ↔ AcceptedWhen r t s I L f l
+  accepted_when f l = (
     λ e.
         ⊎_elim
         (λ (d : (y : Refusal) × GivenWhen r t s I L y). absurd (ff (ap is_accepted (sym (given d.0 d.1) ∙ e))))
@@ -107,5 +107,5 @@ module _ (r : ℕ) (t : Settings) (s : Shape) (I : Inputs) (L : LentLengths) whe
   )
 
   -- ---- 5 occurs no longer (document 02, P8)
-  pub never-five : (x : Refusal) → table_of r t s I L ≡ Refused x → refusal_number x ≡ 5 → ⊥
-  never-five x e n = no_five x n
+  pub never_five : (x : Refusal) → table_of r t s I L ≡ Refused x → refusal_number x ≡ 5 → ⊥
+  never_five x e n = no_five x n

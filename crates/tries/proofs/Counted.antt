@@ -156,8 +156,8 @@ module _ (link : CarriedLink) (n q prev next raw mu : ℕ) (u w z : List Float) 
   abbrev with_it : Account
   with_it = made ⊞ one (fate_of r)
 
-  with-is : b ≡ with_it
-  with-is = eb ∙ rw ea refl
+  with_is : b ≡ with_it
+  with_is = eb ∙ rw ea refl
 
   one_more : with_it.tries ≡ made.tries + 1
   one_more = counts_one made (one (fate_of r)) with_it r refl refl
@@ -168,13 +168,13 @@ module _ (link : CarriedLink) (n q prev next raw mu : ℕ) (u w z : List Float) 
   pub moved : (p : Float) → r ≡ Accepted p → TriesDone (trial_in link n q prev raw u w z v) next mu v y (Moved p b)
   unfolding after_try
   moved p e =
-      rw with-is
+      rw with_is
       (record { says = rw e (rw e at turned); only = two_trans g.only d.only; few = hundred (made.tries + 1) with_it (omega (arith, g.capped)) parts_more })
 
   pub halved : tell_try r (row next n y) (row mu n y) ≡ refused (fate_of r) → Going (trial_in link n q prev raw u w z v) next mu cap v y (step ⊗ half_f) b
   unfolding after_try ◌⊞◌ tally count_of
   halved e =
-      rw with-is
+      rw with_is
       (record {
         capped = g.capped;
         few = omega (arith, one_more);

@@ -27,9 +27,9 @@ module _ (T : Trial) (next mu : ℕ) (step : Float) (v w : List Float) (apart : 
   fine r t e h = rw held at (sym e ∙ h)
 
   -- refused by the first test
-  pub eta-refused : (r : Bool) → r ≡ all_to T.n (fine_eta_at T.link (row next T.n w)) → r ≡ false → TryDone T next mu step v w EtaRefused
+  pub eta_refused_lem : (r : Bool) → r ≡ all_to T.n (fine_eta_at T.link (row next T.n w)) → r ≡ false → TryDone T next mu step v w EtaRefused
   unfolding try_of try_eta after_eta
-  eta-refused r e h =
+  eta_refused_lem r e h =
       record {
         says = rw (fine r false e h);
         candidate = held;

@@ -14,7 +14,7 @@ use Rattle.base.specs.Rows.{row, Out, Wrote, OnlyTwo}
 use Rattle.base.proofs.Unique.{one_value}
 use Rattle.base.proofs.Sums.{lt_or_ge}
 use Rattle.base.proofs.Rows.{row_at, wrote_unique}
-use Rattle.model.specs.Items.{etaRefused, meanRefused, pwrssRefused, accepted, a_try, tally}
+use Rattle.model.specs.Items.{eta_refused, meanRefused, pwrssRefused, accepted, a_try, tally}
 use Rattle.model.specs.declared.counts.Account.{Account}
 use Rattle.family.specs.declared.carried.CarriedLink.{CarriedLink}
 use Rattle.rule.specs.Try.{Trial, candidate_at, fine_eta_at, mean_at, square_at, add_to, Tried, refused, moves}
@@ -74,7 +74,7 @@ both_unique b c n v x y hb hc p q eb ec =
 -- ---- `one_try`
 -- the answer that tells of a try
 abbrev answer : Tried → Try
-answer (refused etaRefused) = EtaRefused
+answer (refused eta_refused) = EtaRefused
 answer (refused meanRefused) = MeanRefused
 answer (refused pwrssRefused) = PwrssRefused
 answer (refused accepted) = EtaRefused
@@ -87,12 +87,12 @@ answer_told PwrssRefused c m = refl
 answer_told (Accepted p) c m = refl
 
 module _ (T : Trial) (next mu : ℕ) (step : Float) (v x y : List Float) (r s : Try) (next_in : next + T.n ≤ length v) (mu_in : mu + T.n ≤ length v) (d : TryDone T next mu step v x r) (e : TryDone T next mu step v y s) where
-  pub try-answer-unique : r ≡ s
-  try-answer-unique =
+  pub try_answer_unique : r ≡ s
+  try_answer_unique =
       answer_told r (row next T.n x) (row mu T.n x) ∙ ap answer (d.says ∙ sym e.says) ∙ sym (answer_told s (row next T.n y) (row mu T.n y))
 
-  pub try-rows-unique : x ≡ y
-  try-rows-unique = both_unique next mu T.n v x y next_in mu_in d.only e.only (d.candidate ∙ sym e.candidate) (d.means ∙ sym e.means)
+  pub try_rows_unique : x ≡ y
+  try_rows_unique = both_unique next mu T.n v x y next_in mu_in d.only e.only (d.candidate ∙ sym e.candidate) (d.means ∙ sym e.means)
 
 -- `of_try`
 pub of_try_unique : (t : Try) (r s : Account) → r ≡ tally (a_try (fate_of t) ∷ []) → s ≡ tally (a_try (fate_of t) ∷ []) → r ≡ s
@@ -119,8 +119,8 @@ mean_row (found m a) c = m.mu
 mean_row (none a) c = c
 
 module _ (T : Trial) (next mu : ℕ) (v x y : List Float) (r s : TriesEnd) (d : TriesDone T next mu v x r) (e : TriesDone T next mu v y s) where
-  pub tries-answer-unique : r ≡ s
-  tries-answer-unique =
+  pub tries_answer_unique : r ≡ s
+  tries_answer_unique =
       answers_told r (row next T.n x) (row mu T.n x) ∙ ap answers (d.says ∙ sym e.says) ∙ sym (answers_told s (row next T.n y) (row mu T.n y))
 
 -- where a try was accepted, the rows too

@@ -91,13 +91,13 @@ module _ {M : Type 1} {𝓤 : Ura M} (𝓛 : Logic 𝓤) (mem : Memory → SProp
 module _ {M : Type 1} {𝓤 : Ura M} (𝓛 : Logic 𝓤) (mem : Memory → SProp 𝓤) (run : Routine → Fun 𝓤) where
   open 𝓛 use {H}
 
-  past-walks : (C : Calls 𝓤 H) (Λ : Loops 𝓤 H) → Walks 𝓛 past.ended stayed (WpFn 𝓤 H C Λ code.function) (past.clauses 𝓛 mem run)
-  past-walks C Λ = walked 𝓛 past.ended stayed (past.clauses 𝓛 mem run) (WpFn 𝓤 H C Λ code.function) (λ κs. (LL.vals (T.the_type (named_lft 1 0 tt κs)) (T'.the_laws (named_lft 1 0 tt κs)), (uint_vals w64, tt))) (λ κs. (LL.tells (T.the_type (named_lft 1 0 tt κs)) (T'.the_laws (named_lft 1 0 tt κs)), (uint_Tells w64, tt)))
+  past_walks : (C : Calls 𝓤 H) (Λ : Loops 𝓤 H) → Walks 𝓛 past.ended stayed (WpFn 𝓤 H C Λ code.function) (past.clauses 𝓛 mem run)
+  past_walks C Λ = walked 𝓛 past.ended stayed (past.clauses 𝓛 mem run) (WpFn 𝓤 H C Λ code.function) (λ κs. (LL.vals (T.the_type (named_lft 1 0 tt κs)) (T'.the_laws (named_lft 1 0 tt κs)), (uint_vals w64, tt))) (λ κs. (LL.tells (T.the_type (named_lft 1 0 tt κs)) (T'.the_laws (named_lft 1 0 tt κs)), (uint_Tells w64, tt)))
       (λ κs qs bounds a g are. needs 𝓤 _ _ (λ near. walk 𝓛 mem run κs.0 qs.0 a.0 a.1.0 are.1.0.1 (sum_fits a.0.at a.1.0 near) C Λ ((LL.lawful (T.the_type (named_lft 1 0 tt κs)) (T'.the_laws (named_lft 1 0 tt κs)) 𝓛).typed a.0 _ are.0).0))
 
 past_meets : {M : Type 1} {𝓤 : Ura M} (𝓛 : Logic 𝓤) → (mem : Memory → SProp 𝓤) (run : Routine → Fun 𝓤) (𝓣 : Tables 𝓤 𝓛.H)
     → Meets 𝓛 past.signature (WpFn 𝓤 𝓛.H 𝓣.C 𝓣.Λ code.function) (past.spec 𝓛 mem run)
-past_meets {𝓤 = 𝓤} 𝓛 mem run 𝓣 = walk_Meets 𝓛 past.ended stayed (Goes-none 𝓛 1 B yes (λ κs x f. refl), (Goes-none 𝓛 1 (λ _. usize) yes (λ κs x f. refl), tt)) (past.clauses 𝓛 mem run) (WpFn 𝓤 𝓛.H 𝓣.C 𝓣.Λ code.function) (WpFn-mono 𝓤 𝓛.H 𝓛.laws 𝓣 code.function) (past-walks 𝓛 mem run 𝓣.C 𝓣.Λ)
+past_meets {𝓤 = 𝓤} 𝓛 mem run 𝓣 = walk_Meets 𝓛 past.ended stayed (Goes-none 𝓛 1 B yes (λ κs x f. refl), (Goes-none 𝓛 1 (λ _. usize) yes (λ κs x f. refl), tt)) (past.clauses 𝓛 mem run) (WpFn 𝓤 𝓛.H 𝓣.C 𝓣.Λ code.function) (WpFn-mono 𝓤 𝓛.H 𝓛.laws 𝓣 code.function) (past_walks 𝓛 mem run 𝓣.C 𝓣.Λ)
 
 pub past_spec : {M : Type 1} → stated.statement M
 unfolding code.routine tables_of

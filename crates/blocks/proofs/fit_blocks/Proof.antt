@@ -107,23 +107,23 @@ module _ {M : Type 1} {𝓤 : Ura M} (𝓛 : Logic 𝓤) (mem : Memory → SProp
   abbrev d : Shape
   d = shape_of a.1.0.now
 
-  abbrev to-shape : (ShapeOf 𝓛 mem run).Ghost
-  to-shape = (((κs.0, tt), (qs.0, tt), tt, (a.1.0, tt), (at.1.0, tt)), tt)
+  abbrev to_shape : (ShapeOf 𝓛 mem run).Ghost
+  to_shape = (((κs.0, tt), (qs.0, tt), tt, (a.1.0, tt), (at.1.0, tt)), tt)
 
-  goes-shape : ent 𝓤 (⋆ 𝓛 (tok ∷ ‵ OwnB ∷ [])) ((ShapeOf 𝓛 mem run).pre to-shape)
-  goes-shape = qed 𝓛 (tok ∷ ‵ OwnB ∷ []) ∵ nothing ! $ move ! (2 ∷ 0 ∷ []) $ fjoin ! $ nothing ! $ move ! (2 ∷ 0 ∷ []) $ join ! $ join ! $ frame ! $ done !
+  goes_shape : ent 𝓤 (⋆ 𝓛 (tok ∷ ‵ OwnB ∷ [])) ((ShapeOf 𝓛 mem run).pre to_shape)
+  goes_shape = qed 𝓛 (tok ∷ ‵ OwnB ∷ []) ∵ nothing ! $ move ! (2 ∷ 0 ∷ []) $ fjoin ! $ nothing ! $ move ! (2 ∷ 0 ∷ []) $ join ! $ join ! $ frame ! $ done !
 
   shape_said : (r : Shape) → ent 𝓤 (ensured 𝓛 shape.ended (shape.clauses 𝓛 mem run) (κs.0, tt) (a.1.0, tt) tt r) (fact 𝓤 (r ≡ d))
   shape_said r = ex_e 𝓤 _ (λ ws. snd∗ 𝓤 (sem 𝓛 (lasts shape.ended (κs.0, tt) (a.1.0, tt) ws)) (fact 𝓤 (r ≡ d)))
 
-  abbrev to-fit : Val → (Fit 𝓛 mem run).Ghost
-  to-fit u = ((κs.1, qs.1, tt, (a.0, (d, a.1.1)), (at.0, (u ∷ [], at.1.1))), tt)
+  abbrev to_fit : Val → (Fit 𝓛 mem run).Ghost
+  to_fit u = ((κs.1, qs.1, tt, (a.0, (d, a.1.1)), (at.0, (u ∷ [], at.1.1))), tt)
 
   abbrev OwnFit : Val → Fml
   OwnFit u = fsep OwnT (fsep ((S.the_row).own_val d (u ∷ [])) OwnLent)
 
-  goes-fit : (u : Val) → ent 𝓤 (⋆ 𝓛 (others ∷ ‵ (OwnFit u) ∷ [])) ((Fit 𝓛 mem run).pre (to-fit u))
-  goes-fit u = qed 𝓛 (others ∷ ‵ (OwnFit u) ∷ []) ∵ join ! $ frame ! $ done !
+  goes_fit : (u : Val) → ent 𝓤 (⋆ 𝓛 (others ∷ ‵ (OwnFit u) ∷ [])) ((Fit 𝓛 mem run).pre (to_fit u))
+  goes_fit u = qed 𝓛 (others ∷ ‵ (OwnFit u) ∷ []) ∵ join ! $ frame ! $ done !
 
   -- what the callee says at its end
   abbrev Said : Answer → SProp 𝓤
@@ -165,8 +165,8 @@ module _ {M : Type 1} {𝓤 : Ura M} (𝓛 : Logic 𝓤) (mem : Memory → SProp
         pass0 ! $
         move ! (96 ∷ []) $ split ! $ move ! (98 ∷ []) $ fsplit ! $ move ! (1 ∷ []) $ fsplit ! $
         -- [what the blocks own; what the lent slices own; what the first owns; the token; the other tokens; the locals]
-        move ! (3 ∷ 0 ∷ []) $ use2 𝓛 (raw ((ShapeOf 𝓛 mem run).pre to-shape)) goes-shape $
-        calls_at ! fm (ShapeOf 𝓛 mem run) known-shape to-shape (and_then ! (load ! (from ! (stop !)) (look ! 94 refl)) (no_more !)) (λ u.
+        move ! (3 ∷ 0 ∷ []) $ use2 𝓛 (raw ((ShapeOf 𝓛 mem run).pre to_shape)) goes_shape $
+        calls_at ! fm (ShapeOf 𝓛 mem run) known-shape to_shape (and_then ! (load ! (from ! (stop !)) (look ! 94 refl)) (no_more !)) (λ u.
         use1 𝓛 (later (some (λ (r : Shape). (raw (toks 𝓛 1 (κs.0, tt) (qs.0, tt)) ⊛ ‵ ((S.the_row).own_val r (u ∷ []))) ⊛ raw (ensured 𝓛 shape.ended (shape.clauses 𝓛 mem run) (κs.0, tt) (a.1.0, tt) tt r)))) (id⊢ 𝓤 _) $ await ! tt $ pick ! (λ r'.
         split ! $ move ! (1 ∷ []) $ use1 𝓛 (raw (fact 𝓤 (r' ≡ d))) (shape_said r') $ heard ! (r' ≡ d) (λ e. split ! $ use1 𝓛 tok (fst∗ 𝓤 _ (emp 𝓤)) $ move ! (1 ∷ []) $ rewrite ! 0 (λ (y : Shape). ‵ ((S.the_row).own_val y (u ∷ []))) e refl $
         -- [what the shape owns; the token; what the lent slices own; what the first owns; the other tokens; the locals]
@@ -195,8 +195,8 @@ module _ {M : Type 1} {𝓤 : Ura M} (𝓛 : Logic 𝓤) (mem : Memory → SProp
         assigns ! (agg ! (and_then ! (load ! (from ! (stop !)) (look ! 11 refl)) (and_then ! (load ! (from ! (fld ! refl (stop !))) (look_in ! 57 (sub ! 1 refl (whole !)))) (no_more !)))) (from ! (stop !)) (init ! 9 refl (tt, (tt, (record { fits = are.1.1.1.1.1.1.1.1.1.1.1.1.1.1.1.1.1.1.1.1.0.0.1.0 }, tt)))) $
         assigns ! (addr ! (from ! (fld ! refl (hop ! (look_in ! 55 (sub ! 0 refl (whole !))) (stop !))))) (from ! (stop !)) (init ! 7 refl (tt, tt)) $
         assigns ! (agg ! (and_then ! (load ! (from ! (stop !)) (look ! 7 refl)) (and_then ! (load ! (from ! (fld ! refl (stop !))) (look_in ! 55 (sub ! 1 refl (whole !)))) (no_more !)))) (from ! (stop !)) (init ! 5 refl (tt, (tt, (record { fits = are.1.1.1.1.1.1.1.1.1.1.1.1.1.1.1.1.1.1.1.1.1.0.0.1.0 }, tt)))) $
-        move ! (0 ∷ 2 ∷ []) $ fjoin ! $ move ! (2 ∷ 0 ∷ []) $ fjoin ! $ move ! (2 ∷ 0 ∷ []) $ use2 𝓛 (raw ((Fit 𝓛 mem run).pre (to-fit u))) (goes-fit u) $
-        calls_at ! fm (Fit 𝓛 mem run) known-fit (to-fit u) (and_then ! (load ! (from ! (stop !)) (look ! 94 refl)) (and_then ! (load ! (from ! (stop !)) (look ! 50 refl)) (and_then ! (load ! (from ! (stop !)) (look ! 90 refl)) (and_then ! (load ! (from ! (stop !)) (look ! 88 refl)) (and_then ! (load ! (from ! (stop !)) (look ! 86 refl)) (and_then ! (load ! (from ! (stop !)) (look ! 84 refl)) (and_then ! (load ! (from ! (stop !)) (look ! 82 refl)) (and_then ! (load ! (from ! (stop !)) (look ! 80 refl)) (and_then ! (load ! (from ! (stop !)) (look ! 78 refl)) (and_then ! (load ! (from ! (stop !)) (look ! 76 refl)) (and_then ! (load ! (from ! (stop !)) (look ! 46 refl)) (and_then ! (load ! (from ! (stop !)) (look ! 42 refl)) (and_then ! (load ! (from ! (stop !)) (look ! 38 refl)) (and_then ! (load ! (from ! (stop !)) (look ! 34 refl)) (and_then ! (load ! (from ! (stop !)) (look ! 30 refl)) (and_then ! (load ! (from ! (stop !)) (look ! 26 refl)) (and_then ! (load ! (from ! (stop !)) (look ! 22 refl)) (and_then ! (load ! (from ! (stop !)) (look ! 18 refl)) (and_then ! (load ! (from ! (stop !)) (look ! 14 refl)) (and_then ! (load ! (from ! (stop !)) (look ! 10 refl)) (and_then ! (load ! (from ! (stop !)) (look ! 6 refl)) (and_then ! (load ! (from ! (stop !)) (look ! 2 refl)) (no_more !))))))))))))))))))))))) (λ w.
+        move ! (0 ∷ 2 ∷ []) $ fjoin ! $ move ! (2 ∷ 0 ∷ []) $ fjoin ! $ move ! (2 ∷ 0 ∷ []) $ use2 𝓛 (raw ((Fit 𝓛 mem run).pre (to_fit u))) (goes_fit u) $
+        calls_at ! fm (Fit 𝓛 mem run) known-fit (to_fit u) (and_then ! (load ! (from ! (stop !)) (look ! 94 refl)) (and_then ! (load ! (from ! (stop !)) (look ! 50 refl)) (and_then ! (load ! (from ! (stop !)) (look ! 90 refl)) (and_then ! (load ! (from ! (stop !)) (look ! 88 refl)) (and_then ! (load ! (from ! (stop !)) (look ! 86 refl)) (and_then ! (load ! (from ! (stop !)) (look ! 84 refl)) (and_then ! (load ! (from ! (stop !)) (look ! 82 refl)) (and_then ! (load ! (from ! (stop !)) (look ! 80 refl)) (and_then ! (load ! (from ! (stop !)) (look ! 78 refl)) (and_then ! (load ! (from ! (stop !)) (look ! 76 refl)) (and_then ! (load ! (from ! (stop !)) (look ! 46 refl)) (and_then ! (load ! (from ! (stop !)) (look ! 42 refl)) (and_then ! (load ! (from ! (stop !)) (look ! 38 refl)) (and_then ! (load ! (from ! (stop !)) (look ! 34 refl)) (and_then ! (load ! (from ! (stop !)) (look ! 30 refl)) (and_then ! (load ! (from ! (stop !)) (look ! 26 refl)) (and_then ! (load ! (from ! (stop !)) (look ! 22 refl)) (and_then ! (load ! (from ! (stop !)) (look ! 18 refl)) (and_then ! (load ! (from ! (stop !)) (look ! 14 refl)) (and_then ! (load ! (from ! (stop !)) (look ! 10 refl)) (and_then ! (load ! (from ! (stop !)) (look ! 6 refl)) (and_then ! (load ! (from ! (stop !)) (look ! 2 refl)) (no_more !))))))))))))))))))))))) (λ w.
         use1 𝓛 (later (some (λ (r : Answer). (others ⊛ ‵ ((O.the_row).own_val r (w ∷ []))) ⊛ raw (Said r)))) (id⊢ 𝓤 _) $ await ! tt $ pick ! (λ r.
         split ! $ split ! $ move ! (1 ∷ []) $ peeks ! O.the_row (Is O.the_row) (shows 𝓛 O.the_row) r (w ∷ []) (λ is'. land ! (from ! (stop !)) (init ! 98 refl ((LL.lawful O.the_type O'.the_laws 𝓛).typed r _ is').0) $
         -- [what the answer owns; the other tokens; what is said; the token; the locals]

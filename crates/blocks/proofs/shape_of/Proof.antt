@@ -131,33 +131,33 @@ module _ {M : Type 1} {𝓤 : Ura M} (𝓛 : Logic 𝓤) (mem : Memory → SProp
   tok = ‵ (flft κ q) ⊛ ‵ ftrue
 
   -- ---- each call: what it is passed, what it asks, and what is known of its result
-  abbrev to-blank : (BlankOf 𝓛 mem run).Ghost
-  to-blank = ((tt, tt, tt, (length ys, tt), (vint w64 (length ys) ∷ [], tt)), tt)
+  abbrev to_blank : (BlankOf 𝓛 mem run).Ghost
+  to_blank = ((tt, tt, tt, (length ys, tt), (vint w64 (length ys) ∷ [], tt)), tt)
 
-  goes_blank : ent 𝓤 (emp 𝓤) ((BlankOf 𝓛 mem run).pre to-blank)
+  goes_blank : ent 𝓤 (emp 𝓤) ((BlankOf 𝓛 mem run).pre to_blank)
   goes_blank = qed 𝓛 [] ∵ nothing ! $ owned ! usize (Is usize) (uint_Makes 𝓛 w64) (length ys) _ (refl, gs) $ fjoin ! $ nothing ! $ join ! $ frame ! $ done !
 
-  blank-said : (r : Shape) → ent 𝓤 (ensured 𝓛 blank.ended (blank.clauses 𝓛 mem run) tt (length ys, tt) tt r) (fact 𝓤 (r ≡ blank_shape (length ys)))
-  blank-said r = ex_e 𝓤 _ (λ ws. snd∗ 𝓤 (sem 𝓛 (lasts blank.ended tt (length ys, tt) ws)) (fact 𝓤 (r ≡ blank_shape (length ys))))
+  blank_said : (r : Shape) → ent 𝓤 (ensured 𝓛 blank.ended (blank.clauses 𝓛 mem run) tt (length ys, tt) tt r) (fact 𝓤 (r ≡ blank_shape (length ys)))
+  blank_said r = ex_e 𝓤 _ (λ ws. snd∗ 𝓤 (sem 𝓛 (lasts blank.ended tt (length ys, tt) ws)) (fact 𝓤 (r ≡ blank_shape (length ys))))
 
-  abbrev to-or : ℕ → (Or 𝓛 mem run).Ghost
-  to-or i = (((κ, tt), (q, tt), tt, (s, (i, tt)), (v ∷ [], (vint w64 i ∷ [], tt))), tt)
+  abbrev to_or : ℕ → (Or 𝓛 mem run).Ghost
+  to_or i = (((κ, tt), (q, tt), tt, (s, (i, tt)), (v ∷ [], (vint w64 i ∷ [], tt))), tt)
 
-  goes-or : (i : ℕ) → i < 2 ^ 64 → ent 𝓤 (⋆ 𝓛 (tok ∷ ‵ Own ∷ [])) ((Or 𝓛 mem run).pre (to-or i))
-  goes-or i gi = qed 𝓛 (tok ∷ ‵ Own ∷ []) ∵ nothing ! $ owned ! usize (Is usize) (uint_Makes 𝓛 w64) i _ (refl, gi) $ fjoin ! $ move ! (2 ∷ 0 ∷ []) $ fjoin ! $ move ! (1 ∷ 0 ∷ []) $ join ! $ frame ! $ done !
+  goes_or : (i : ℕ) → i < 2 ^ 64 → ent 𝓤 (⋆ 𝓛 (tok ∷ ‵ Own ∷ [])) ((Or 𝓛 mem run).pre (to_or i))
+  goes_or i gi = qed 𝓛 (tok ∷ ‵ Own ∷ []) ∵ nothing ! $ owned ! usize (Is usize) (uint_Makes 𝓛 w64) i _ (refl, gi) $ fjoin ! $ move ! (2 ∷ 0 ∷ []) $ fjoin ! $ move ! (1 ∷ 0 ∷ []) $ join ! $ frame ! $ done !
 
-  or-said : (i : ℕ) (r : Block) → ent 𝓤 (ensured 𝓛 or.ended (or.clauses 𝓛 mem run) (κ, tt) (s, (i, tt)) tt r) (fact 𝓤 (r ≡ get_or ys i no_block))
-  or-said i r = ex_e 𝓤 _ (λ ws. snd∗ 𝓤 (sem 𝓛 (lasts or.ended (κ, tt) (s, (i, tt)) ws)) (fact 𝓤 (r ≡ get_or ys i no_block)))
+  or_said : (i : ℕ) (r : Block) → ent 𝓤 (ensured 𝓛 or.ended (or.clauses 𝓛 mem run) (κ, tt) (s, (i, tt)) tt r) (fact 𝓤 (r ≡ get_or ys i no_block))
+  or_said i r = ex_e 𝓤 _ (λ ws. snd∗ 𝓤 (sem 𝓛 (lasts or.ended (κ, tt) (s, (i, tt)) ws)) (fact 𝓤 (r ≡ get_or ys i no_block)))
 
-  abbrev to-put : Shape → ℕ → Block → Val → (Put 𝓛 mem run).Ghost
-  to-put d i r u = ((tt, tt, tt, (d, (i, (r, tt))), (S'.lowered d ∷ [], (vint w64 i ∷ [], (u ∷ [], tt)))), tt)
+  abbrev to_put : Shape → ℕ → Block → Val → (Put 𝓛 mem run).Ghost
+  to_put d i r u = ((tt, tt, tt, (d, (i, (r, tt))), (S'.lowered d ∷ [], (vint w64 i ∷ [], (u ∷ [], tt)))), tt)
 
-  goes-put : (d : Shape) (i : ℕ) (r : Block) (u : Val) → i < 8 → i < 2 ^ 64 → ent 𝓤 (⋆ 𝓛 (‵ ((S.the_row).own_val d (S'.lowered d ∷ [])) ∷ ‵ ((B.the_row).own_val r (u ∷ [])) ∷ [])) ((Put 𝓛 mem run).pre (to-put d i r u))
-  goes-put d i r u small gi = qed 𝓛 (‵ ((S.the_row).own_val d (S'.lowered d ∷ [])) ∷ ‵ ((B.the_row).own_val r (u ∷ [])) ∷ []) ∵ says ! small $ nothing ! $ frame ! $
+  goes_put : (d : Shape) (i : ℕ) (r : Block) (u : Val) → i < 8 → i < 2 ^ 64 → ent 𝓤 (⋆ 𝓛 (‵ ((S.the_row).own_val d (S'.lowered d ∷ [])) ∷ ‵ ((B.the_row).own_val r (u ∷ [])) ∷ [])) ((Put 𝓛 mem run).pre (to_put d i r u))
+  goes_put d i r u small gi = qed 𝓛 (‵ ((S.the_row).own_val d (S'.lowered d ∷ [])) ∷ ‵ ((B.the_row).own_val r (u ∷ [])) ∷ []) ∵ says ! small $ nothing ! $ frame ! $
       nothing ! $ move ! (2 ∷ 0 ∷ []) $ fjoin ! $ owned ! usize (Is usize) (uint_Makes 𝓛 w64) i _ (refl, gi) $ fjoin ! $ move ! (1 ∷ 0 ∷ []) $ fjoin ! $ done !
 
-  put-said : (d : Shape) (i : ℕ) (r : Block) (t : Shape) → ent 𝓤 (ensured 𝓛 put.ended (put.clauses 𝓛 mem run) tt (d, (i, (r, tt))) tt t) (fact 𝓤 (t ≡ put_at d i r))
-  put-said d i r t = ex_e 𝓤 _ (λ ws. snd∗ 𝓤 (sem 𝓛 (lasts put.ended tt (d, (i, (r, tt))) ws)) (fact 𝓤 (t ≡ put_at d i r)))
+  put_said : (d : Shape) (i : ℕ) (r : Block) (t : Shape) → ent 𝓤 (ensured 𝓛 put.ended (put.clauses 𝓛 mem run) tt (d, (i, (r, tt))) tt t) (fact 𝓤 (t ≡ put_at d i r))
+  put_said d i r t = ex_e 𝓤 _ (λ ws. snd∗ 𝓤 (sem 𝓛 (lasts put.ended tt (d, (i, (r, tt))) ws)) (fact 𝓤 (t ≡ put_at d i r)))
 
   exits : ent 𝓤 (⋆ 𝓛 (‵ ((S.the_row).own_val (placed_to ys 8) (S'.lowered (placed_to ys 8) ∷ [])) ∷ tok ∷ ‵ Own ∷ [])) (Post (S'.lowered (placed_to ys 8)))
   unfolding placed_to
@@ -204,19 +204,19 @@ module _ {M : Type 1} {𝓤 : Ura M} (𝓛 : Logic 𝓤) (mem : Memory → SProp
           let gi : i < 2 ^ 64 = omega arith in
           assigns ! (bin ! (load ! (from ! (stop !)) (look ! 9 refl)) (lit ! tt) tt) (from ! (stop !)) (init ! 5 refl (tt, tt)) $
           rewrite ! 5 (λ (t : Bool). ‵ (fat full_share ty_bool l₅ 0 (vbool t))) yes' refl $ stays ! (load ! (from ! (stop !)) (look ! 5 refl)) $
-          move ! (2 ∷ []) $ use1 𝓛 (‵ Own ⊛ ‵ Own) ((shr_slice_copy 𝓛 (named 0) κ B.the_row).twice s (v ∷ [])) $ split ! $ move ! (3 ∷ 0 ∷ []) $ use2 𝓛 (raw ((Or 𝓛 mem run).pre (to-or i))) (goes-or i gi) $
+          move ! (2 ∷ []) $ use1 𝓛 (‵ Own ⊛ ‵ Own) ((shr_slice_copy 𝓛 (named 0) κ B.the_row).twice s (v ∷ [])) $ split ! $ move ! (3 ∷ 0 ∷ []) $ use2 𝓛 (raw ((Or 𝓛 mem run).pre (to_or i))) (goes_or i gi) $
           -- [what block_or asks; what blocks owns; what the shape owns; _6 at 3; …]
-          calls_at ! fm (Or 𝓛 mem run) known-or (to-or i) (and_then ! (load ! (from ! (stop !)) (look ! 13 refl)) (and_then ! (load ! (from ! (stop !)) (look ! 9 refl)) (no_more !))) (λ u.
+          calls_at ! fm (Or 𝓛 mem run) known-or (to_or i) (and_then ! (load ! (from ! (stop !)) (look ! 13 refl)) (and_then ! (load ! (from ! (stop !)) (look ! 9 refl)) (no_more !))) (λ u.
           use1 𝓛 (later (some (λ (r : Block). (tok ⊛ ‵ ((B.the_row).own_val r (u ∷ []))) ⊛ raw (ensured 𝓛 or.ended (or.clauses 𝓛 mem run) (κ, tt) (s, (i, tt)) tt r)))) (id⊢ 𝓤 _) $ await ! tt $ pick ! (λ r.
-          split ! $ move ! (1 ∷ []) $ use1 𝓛 (raw (fact 𝓤 (r ≡ get_or ys i no_block))) (or-said i r) $ heard ! (r ≡ get_or ys i no_block) (λ e. split ! $ move ! (1 ∷ []) $
+          split ! $ move ! (1 ∷ []) $ use1 𝓛 (raw (fact 𝓤 (r ≡ get_or ys i no_block))) (or_said i r) $ heard ! (r ≡ get_or ys i no_block) (λ e. split ! $ move ! (1 ∷ []) $
           -- [the block; the token; what blocks owns; what the shape owns; _6 at 4; …]
           peeks ! B.the_row (Is B.the_row) (shows 𝓛 B.the_row) r (u ∷ []) (λ is.
           land ! (from ! (stop !)) (init ! 4 refl ((LL.lawful B.the_type B'.the_laws 𝓛).typed r _ is).0) $
-          move ! (3 ∷ 0 ∷ []) $ use2 𝓛 (raw ((Put 𝓛 mem run).pre (to-put (placed_to ys i) i r u))) (goes-put (placed_to ys i) i r u small gi) $
+          move ! (3 ∷ 0 ∷ []) $ use2 𝓛 (raw ((Put 𝓛 mem run).pre (to_put (placed_to ys i) i r u))) (goes_put (placed_to ys i) i r u small gi) $
           -- [what put asks; the token; what blocks owns; _6 at 3; …]
-          calls_at ! fm (Put 𝓛 mem run) known-put (to-put (placed_to ys i) i r u) (and_then ! (load ! (from ! (stop !)) (look ! 11 refl)) (and_then ! (load ! (from ! (stop !)) (look ! 9 refl)) (and_then ! (load ! (from ! (stop !)) (look ! 3 refl)) (no_more !)))) (λ u'.
+          calls_at ! fm (Put 𝓛 mem run) known-put (to_put (placed_to ys i) i r u) (and_then ! (load ! (from ! (stop !)) (look ! 11 refl)) (and_then ! (load ! (from ! (stop !)) (look ! 9 refl)) (and_then ! (load ! (from ! (stop !)) (look ! 3 refl)) (no_more !)))) (λ u'.
           use1 𝓛 (later (some (λ (t : Shape). (‵ ftrue ⊛ ‵ ((S.the_row).own_val t (u' ∷ []))) ⊛ raw (ensured 𝓛 put.ended (put.clauses 𝓛 mem run) tt (placed_to ys i, (i, (r, tt))) tt t)))) (id⊢ 𝓤 _) $ await ! tt $ pick ! (λ t.
-          split ! $ move ! (1 ∷ []) $ use1 𝓛 (raw (fact 𝓤 (t ≡ put_at (placed_to ys i) i r))) (put-said (placed_to ys i) i r t) $ heard ! (t ≡ put_at (placed_to ys i) i r) (λ e'. split ! $ drop ! $
+          split ! $ move ! (1 ∷ []) $ use1 𝓛 (raw (fact 𝓤 (t ≡ put_at (placed_to ys i) i r))) (put_said (placed_to ys i) i r t) $ heard ! (t ≡ put_at (placed_to ys i) i r) (λ e'. split ! $ drop ! $
           peeks ! S.the_row (Is S.the_row) (shows 𝓛 S.the_row) t (u' ∷ []) (λ is'.
           let whose : u' ≡ S'.lowered t = ap only ((S'.lowers).val_is t (u' ∷ []) is') in
           let filled : t ≡ placed_to ys (suc i) = e' ∙ ap (put_at (placed_to ys i) i) e in
@@ -250,10 +250,10 @@ module _ {M : Type 1} {𝓤 : Ura M} (𝓛 : Logic 𝓤) (mem : Memory → SProp
         alloc1 ! (λ l₀. alloc1 ! (λ l₁. alloc1 ! (λ l₂. alloc1 ! (λ l₃. alloc1 ! (λ l₄. alloc1 ! (λ l₅. alloc1 ! (λ l₆. alloc0 ! $ params1 ! $
         pass1 ! (init ! 10 refl ((shr_slice_Lawful 𝓛 (named 0) κ B.the_row).typed s (v ∷ []) p).0) $ pass0 ! $
         assigns ! (of_opd ! (load ! (from ! (fld ! refl (stop !))) (look_in ! 10 (sub ! 1 refl (whole !))))) (from ! (stop !)) (init ! 4 refl (tt, record { fits = gs })) $
-        use0 𝓛 (raw ((BlankOf 𝓛 mem run).pre to-blank)) goes_blank $
-        calls_at ! fm (BlankOf 𝓛 mem run) known-blank to-blank (and_then ! (load ! (from ! (stop !)) (look ! 5 refl)) (no_more !)) (λ u.
+        use0 𝓛 (raw ((BlankOf 𝓛 mem run).pre to_blank)) goes_blank $
+        calls_at ! fm (BlankOf 𝓛 mem run) known-blank to_blank (and_then ! (load ! (from ! (stop !)) (look ! 5 refl)) (no_more !)) (λ u.
         use1 𝓛 (later (some (λ (r : Shape). (‵ ftrue ⊛ ‵ ((S.the_row).own_val r (u ∷ []))) ⊛ raw (ensured 𝓛 blank.ended (blank.clauses 𝓛 mem run) tt (length ys, tt) tt r)))) (id⊢ 𝓤 _) $ await ! tt $ pick ! (λ r.
-        split ! $ move ! (1 ∷ []) $ use1 𝓛 (raw (fact 𝓤 (r ≡ blank_shape (length ys)))) (blank-said r) $ heard ! (r ≡ blank_shape (length ys)) (λ e. split ! $ drop ! $
+        split ! $ move ! (1 ∷ []) $ use1 𝓛 (raw (fact 𝓤 (r ≡ blank_shape (length ys)))) (blank_said r) $ heard ! (r ≡ blank_shape (length ys)) (λ e. split ! $ drop ! $
         peeks ! S.the_row (Is S.the_row) (shows 𝓛 S.the_row) r (u ∷ []) (λ is.
         let whose : u ≡ S'.lowered r = ap only ((S'.lowers).val_is r (u ∷ []) is) in
         land ! (from ! (stop !)) (init ! 9 refl ((LL.lawful S.the_type S'.the_laws 𝓛).typed r _ is).0) $

@@ -119,17 +119,17 @@ module _ {M : Type 1} {𝓤 : Ura M} (𝓛 : Logic 𝓤) (mem : Memory → SProp
   goes_make : ent 𝓤 (⋆ 𝓛 (‵ OwnT ∷ [])) ((Make 𝓛 mem run).pre to_make)
   goes_make = qed 𝓛 (‵ OwnT ∷ []) ∵ nothing ! $ move ! (1 ∷ []) $ fjoin ! $ nothing ! $ join ! $ frame ! $ done !
 
-  make-said : (r : Settings) → ent 𝓤 (ensured 𝓛 make.ended (make.clauses 𝓛 mem run) tt (a.0, tt) tt r) (fact 𝓤 (r ≡ d))
-  make-said r = ex_e 𝓤 _ (λ ws. snd∗ 𝓤 (sem 𝓛 (lasts make.ended tt (a.0, tt) ws)) (fact 𝓤 (r ≡ d)))
+  make_said : (r : Settings) → ent 𝓤 (ensured 𝓛 make.ended (make.clauses 𝓛 mem run) tt (a.0, tt) tt r) (fact 𝓤 (r ≡ d))
+  make_said r = ex_e 𝓤 _ (λ ws. snd∗ 𝓤 (sem 𝓛 (lasts make.ended tt (a.0, tt) ws)) (fact 𝓤 (r ≡ d)))
 
-  abbrev to-fit : Val → (Fit 𝓛 mem run).Ghost
-  to-fit u = ((κs, qs, tt, (d, a.1), (u ∷ [], at.1)), tt)
+  abbrev to_fit : Val → (Fit 𝓛 mem run).Ghost
+  to_fit u = ((κs, qs, tt, (d, a.1), (u ∷ [], at.1)), tt)
 
   abbrev OwnFit : Val → Fml
   OwnFit u = fsep ((S.the_row).own_val d (u ∷ [])) OwnSlices
 
-  goes-fit : (u : Val) → ent 𝓤 (⋆ 𝓛 (tokens ∷ ‵ (OwnFit u) ∷ [])) ((Fit 𝓛 mem run).pre (to-fit u))
-  goes-fit u = qed 𝓛 (tokens ∷ ‵ (OwnFit u) ∷ []) ∵ join ! $ frame ! $ done !
+  goes_fit : (u : Val) → ent 𝓤 (⋆ 𝓛 (tokens ∷ ‵ (OwnFit u) ∷ [])) ((Fit 𝓛 mem run).pre (to_fit u))
+  goes_fit u = qed 𝓛 (tokens ∷ ‵ (OwnFit u) ∷ []) ∵ join ! $ frame ! $ done !
 
   abbrev to_end : Answer → Val → (End 𝓛 mem run).Ghost
   to_end r u = ((tt, tt, tt, (r, tt), (u ∷ [], tt)), tt)
@@ -137,8 +137,8 @@ module _ {M : Type 1} {𝓤 : Ura M} (𝓛 : Logic 𝓤) (mem : Memory → SProp
   goes_end : (r : Answer) (u : Val) → ent 𝓤 (⋆ 𝓛 (‵ ((O.the_row).own_val r (u ∷ [])) ∷ [])) ((End 𝓛 mem run).pre (to_end r u))
   goes_end r u = qed 𝓛 (‵ ((O.the_row).own_val r (u ∷ [])) ∷ []) ∵ nothing ! $ move ! (1 ∷ []) $ fjoin ! $ nothing ! $ join ! $ frame ! $ done !
 
-  end-said : (r : Answer) (t : PlainAnswer) → ent 𝓤 (ensured 𝓛 end.ended (end.clauses 𝓛 mem run) tt (r, tt) tt t) (fact 𝓤 (t ≡ plain_of r))
-  end-said r t = ex_e 𝓤 _ (λ ws. snd∗ 𝓤 (sem 𝓛 (lasts end.ended tt (r, tt) ws)) (fact 𝓤 (t ≡ plain_of r)))
+  end_said : (r : Answer) (t : PlainAnswer) → ent 𝓤 (ensured 𝓛 end.ended (end.clauses 𝓛 mem run) tt (r, tt) tt t) (fact 𝓤 (t ≡ plain_of r))
+  end_said r t = ex_e 𝓤 _ (λ ws. snd∗ 𝓤 (sem 𝓛 (lasts end.ended tt (r, tt) ws)) (fact 𝓤 (t ≡ plain_of r)))
 
   -- what the second callee says at its end, and what is to be said
   abbrev Said : Answer → SProp 𝓤
@@ -190,7 +190,7 @@ module _ {M : Type 1} {𝓤 : Ura M} (𝓛 : Logic 𝓤) (mem : Memory → SProp
         use1 𝓛 (raw ((Make 𝓛 mem run).pre to_make)) goes_make $
         calls_at ! fm (Make 𝓛 mem run) known-make to_make (and_then ! (load ! (from ! (stop !)) (look ! 97 refl)) (no_more !)) (λ u.
         use1 𝓛 (later (some (λ (r : Settings). (‵ ftrue ⊛ ‵ ((S.the_row).own_val r (u ∷ []))) ⊛ raw (ensured 𝓛 make.ended (make.clauses 𝓛 mem run) tt (a.0, tt) tt r)))) (id⊢ 𝓤 _) $ await ! tt $ pick ! (λ r'.
-        split ! $ move ! (1 ∷ []) $ use1 𝓛 (raw (fact 𝓤 (r' ≡ d))) (make-said r') $ heard ! (r' ≡ d) (λ e. split ! $ drop ! $ rewrite ! 0 (λ (y : Settings). ‵ ((S.the_row).own_val y (u ∷ []))) e refl $
+        split ! $ move ! (1 ∷ []) $ use1 𝓛 (raw (fact 𝓤 (r' ≡ d))) (make_said r') $ heard ! (r' ≡ d) (λ e. split ! $ drop ! $ rewrite ! 0 (λ (y : Settings). ‵ ((S.the_row).own_val y (u ∷ []))) e refl $
         -- [what the settings own; what the slices own; the tokens; the locals]
         peeks ! S.the_row (Is S.the_row) (shows 𝓛 S.the_row) d (u ∷ []) (λ is. land ! (from ! (stop !)) (init ! 53 refl ((LL.lawful S.the_type S'.the_laws 𝓛).typed d _ is).0) $
         assigns ! (addr ! (from ! (fld ! refl (hop ! (look_in ! 77 (sub ! 0 refl (whole !))) (stop !))))) (from ! (stop !)) (init ! 49 refl (tt, tt)) $
@@ -217,15 +217,15 @@ module _ {M : Type 1} {𝓤 : Ura M} (𝓛 : Logic 𝓤) (mem : Memory → SProp
         assigns ! (agg ! (and_then ! (load ! (from ! (stop !)) (look ! 9 refl)) (and_then ! (load ! (from ! (fld ! refl (stop !))) (look_in ! 57 (sub ! 1 refl (whole !)))) (no_more !)))) (from ! (stop !)) (init ! 7 refl (tt, (tt, (record { fits = are.1.1.1.1.1.1.1.1.1.1.1.1.1.1.1.1.1.1.1.1.0.0.1.0 }, tt)))) $
         assigns ! (addr ! (from ! (fld ! refl (hop ! (look_in ! 55 (sub ! 0 refl (whole !))) (stop !))))) (from ! (stop !)) (init ! 5 refl (tt, tt)) $
         assigns ! (agg ! (and_then ! (load ! (from ! (stop !)) (look ! 5 refl)) (and_then ! (load ! (from ! (fld ! refl (stop !))) (look_in ! 55 (sub ! 1 refl (whole !)))) (no_more !)))) (from ! (stop !)) (init ! 3 refl (tt, (tt, (record { fits = are.1.1.1.1.1.1.1.1.1.1.1.1.1.1.1.1.1.1.1.1.1.0.0.1.0 }, tt)))) $
-        fjoin ! $ move ! (1 ∷ 0 ∷ []) $ use2 𝓛 (raw ((Fit 𝓛 mem run).pre (to-fit u))) (goes-fit u) $
-        calls_at ! fm (Fit 𝓛 mem run) known-fit (to-fit u) (and_then ! (load ! (from ! (stop !)) (look ! 51 refl)) (and_then ! (load ! (from ! (stop !)) (look ! 93 refl)) (and_then ! (load ! (from ! (stop !)) (look ! 91 refl)) (and_then ! (load ! (from ! (stop !)) (look ! 89 refl)) (and_then ! (load ! (from ! (stop !)) (look ! 87 refl)) (and_then ! (load ! (from ! (stop !)) (look ! 85 refl)) (and_then ! (load ! (from ! (stop !)) (look ! 83 refl)) (and_then ! (load ! (from ! (stop !)) (look ! 81 refl)) (and_then ! (load ! (from ! (stop !)) (look ! 79 refl)) (and_then ! (load ! (from ! (stop !)) (look ! 77 refl)) (and_then ! (load ! (from ! (stop !)) (look ! 45 refl)) (and_then ! (load ! (from ! (stop !)) (look ! 41 refl)) (and_then ! (load ! (from ! (stop !)) (look ! 37 refl)) (and_then ! (load ! (from ! (stop !)) (look ! 33 refl)) (and_then ! (load ! (from ! (stop !)) (look ! 29 refl)) (and_then ! (load ! (from ! (stop !)) (look ! 25 refl)) (and_then ! (load ! (from ! (stop !)) (look ! 21 refl)) (and_then ! (load ! (from ! (stop !)) (look ! 17 refl)) (and_then ! (load ! (from ! (stop !)) (look ! 13 refl)) (and_then ! (load ! (from ! (stop !)) (look ! 9 refl)) (and_then ! (load ! (from ! (stop !)) (look ! 5 refl)) (and_then ! (load ! (from ! (stop !)) (look ! 1 refl)) (no_more !))))))))))))))))))))))) (λ v.
+        fjoin ! $ move ! (1 ∷ 0 ∷ []) $ use2 𝓛 (raw ((Fit 𝓛 mem run).pre (to_fit u))) (goes_fit u) $
+        calls_at ! fm (Fit 𝓛 mem run) known-fit (to_fit u) (and_then ! (load ! (from ! (stop !)) (look ! 51 refl)) (and_then ! (load ! (from ! (stop !)) (look ! 93 refl)) (and_then ! (load ! (from ! (stop !)) (look ! 91 refl)) (and_then ! (load ! (from ! (stop !)) (look ! 89 refl)) (and_then ! (load ! (from ! (stop !)) (look ! 87 refl)) (and_then ! (load ! (from ! (stop !)) (look ! 85 refl)) (and_then ! (load ! (from ! (stop !)) (look ! 83 refl)) (and_then ! (load ! (from ! (stop !)) (look ! 81 refl)) (and_then ! (load ! (from ! (stop !)) (look ! 79 refl)) (and_then ! (load ! (from ! (stop !)) (look ! 77 refl)) (and_then ! (load ! (from ! (stop !)) (look ! 45 refl)) (and_then ! (load ! (from ! (stop !)) (look ! 41 refl)) (and_then ! (load ! (from ! (stop !)) (look ! 37 refl)) (and_then ! (load ! (from ! (stop !)) (look ! 33 refl)) (and_then ! (load ! (from ! (stop !)) (look ! 29 refl)) (and_then ! (load ! (from ! (stop !)) (look ! 25 refl)) (and_then ! (load ! (from ! (stop !)) (look ! 21 refl)) (and_then ! (load ! (from ! (stop !)) (look ! 17 refl)) (and_then ! (load ! (from ! (stop !)) (look ! 13 refl)) (and_then ! (load ! (from ! (stop !)) (look ! 9 refl)) (and_then ! (load ! (from ! (stop !)) (look ! 5 refl)) (and_then ! (load ! (from ! (stop !)) (look ! 1 refl)) (no_more !))))))))))))))))))))))) (λ v.
         use1 𝓛 (later (some (λ (r : Answer). (tokens ⊛ ‵ ((O.the_row).own_val r (v ∷ []))) ⊛ raw (Said r)))) (id⊢ 𝓤 _) $ await ! tt $ pick ! (λ r.
         split ! $ split ! $ move ! (1 ∷ []) $ peeks ! O.the_row (Is O.the_row) (shows 𝓛 O.the_row) r (v ∷ []) (λ is'. land ! (from ! (stop !)) (init ! 51 refl ((LL.lawful O.the_type O'.the_laws 𝓛).typed r _ is').0) $
         -- [what the answer owns; the tokens; what is said; the locals]
         use1 𝓛 (raw ((End 𝓛 mem run).pre (to_end r v))) (goes_end r v) $
         calls_at ! fm (End 𝓛 mem run) known-end (to_end r v) (and_then ! (load ! (from ! (stop !)) (look ! 51 refl)) (no_more !)) (λ w.
         use1 𝓛 (later (some (λ (t : PlainAnswer). (‵ ftrue ⊛ ‵ ((R.the_row).own_val t (w ∷ []))) ⊛ raw (ensured 𝓛 end.ended (end.clauses 𝓛 mem run) tt (r, tt) tt t)))) (id⊢ 𝓤 _) $ await ! tt $ pick ! (λ t.
-        split ! $ move ! (1 ∷ []) $ use1 𝓛 (raw (fact 𝓤 (t ≡ plain_of r))) (end-said r t) $ heard ! (t ≡ plain_of r) (λ e'. split ! $ drop ! $
+        split ! $ move ! (1 ∷ []) $ use1 𝓛 (raw (fact 𝓤 (t ≡ plain_of r))) (end_said r t) $ heard ! (t ≡ plain_of r) (λ e'. split ! $ drop ! $
         peeks ! R.the_row (Is R.the_row) (shows 𝓛 R.the_row) t (w ∷ []) (λ is''. land ! (from ! (stop !)) (init ! 99 refl ((LL.lawful R.the_type R'.the_laws 𝓛).typed t _ is'').0) $
         returns ! (look ! 99 refl) $ forget ! 3 refl $ forget ! 5 refl $ forget ! 7 refl $ forget ! 9 refl $ forget ! 11 refl $ forget ! 13 refl $ forget ! 15 refl $ forget ! 17 refl $ forget ! 19 refl $ forget ! 21 refl $ forget ! 23 refl $ forget ! 25 refl $ forget ! 27 refl $ forget ! 29 refl $ forget ! 31 refl $ forget ! 33 refl $ forget ! 35 refl $ forget ! 37 refl $ forget ! 39 refl $ forget ! 41 refl $ forget ! 43 refl $ forget ! 45 refl $ forget ! 47 refl $ forget ! 49 refl $ forget ! 51 refl $ forget ! 53 refl $ forget ! 55 refl $ forget ! 57 refl $ forget ! 59 refl $ forget ! 61 refl $ forget ! 63 refl $ forget ! 65 refl $ forget ! 67 refl $ forget ! 69 refl $ forget ! 71 refl $ forget ! 73 refl $ forget ! 75 refl $ forget ! 77 refl $ forget ! 79 refl $ forget ! 81 refl $ forget ! 83 refl $ forget ! 85 refl $ forget ! 87 refl $ forget ! 89 refl $ forget ! 91 refl $ forget ! 93 refl $ forget ! 95 refl $ forget ! 97 refl $ forget ! 99 refl $
         move ! (99 ∷ 100 ∷ []) $ free1 ! $ move ! (97 ∷ 98 ∷ []) $ free1 ! $ move ! (95 ∷ 96 ∷ []) $ free1 ! $ move ! (93 ∷ 94 ∷ []) $ free1 ! $ move ! (91 ∷ 92 ∷ []) $ free1 ! $ move ! (89 ∷ 90 ∷ []) $ free1 ! $ move ! (87 ∷ 88 ∷ []) $ free1 ! $ move ! (85 ∷ 86 ∷ []) $ free1 ! $ move ! (83 ∷ 84 ∷ []) $ free1 ! $ move ! (81 ∷ 82 ∷ []) $ free1 ! $ move ! (79 ∷ 80 ∷ []) $ free1 ! $ move ! (77 ∷ 78 ∷ []) $ free1 ! $ move ! (75 ∷ 76 ∷ []) $ free1 ! $ move ! (73 ∷ 74 ∷ []) $ free1 ! $ move ! (71 ∷ 72 ∷ []) $ free1 ! $ move ! (69 ∷ 70 ∷ []) $ free1 ! $ move ! (67 ∷ 68 ∷ []) $ free1 ! $ move ! (65 ∷ 66 ∷ []) $ free1 ! $ move ! (63 ∷ 64 ∷ []) $ free1 ! $ move ! (61 ∷ 62 ∷ []) $ free1 ! $ move ! (59 ∷ 60 ∷ []) $ free1 ! $ move ! (57 ∷ 58 ∷ []) $ free1 ! $ move ! (55 ∷ 56 ∷ []) $ free1 ! $ move ! (53 ∷ 54 ∷ []) $ free1 ! $ move ! (51 ∷ 52 ∷ []) $ free1 ! $ move ! (49 ∷ 50 ∷ []) $ free1 ! $ move ! (47 ∷ 48 ∷ []) $ free1 ! $ move ! (45 ∷ 46 ∷ []) $ free1 ! $ move ! (43 ∷ 44 ∷ []) $ free1 ! $ move ! (41 ∷ 42 ∷ []) $ free1 ! $ move ! (39 ∷ 40 ∷ []) $ free1 ! $ move ! (37 ∷ 38 ∷ []) $ free1 ! $ move ! (35 ∷ 36 ∷ []) $ free1 ! $ move ! (33 ∷ 34 ∷ []) $ free1 ! $ move ! (31 ∷ 32 ∷ []) $ free1 ! $ move ! (29 ∷ 30 ∷ []) $ free1 ! $ move ! (27 ∷ 28 ∷ []) $ free1 ! $ move ! (25 ∷ 26 ∷ []) $ free1 ! $ move ! (23 ∷ 24 ∷ []) $ free1 ! $ move ! (21 ∷ 22 ∷ []) $ free1 ! $ move ! (19 ∷ 20 ∷ []) $ free1 ! $ move ! (17 ∷ 18 ∷ []) $ free1 ! $ move ! (15 ∷ 16 ∷ []) $ free1 ! $ move ! (13 ∷ 14 ∷ []) $ free1 ! $ move ! (11 ∷ 12 ∷ []) $ free1 ! $ move ! (9 ∷ 10 ∷ []) $ free1 ! $ move ! (7 ∷ 8 ∷ []) $ free1 ! $ move ! (5 ∷ 6 ∷ []) $ free1 ! $ move ! (3 ∷ 4 ∷ []) $ free1 ! $ free0 ! $

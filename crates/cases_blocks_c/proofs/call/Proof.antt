@@ -140,8 +140,8 @@ module _ {M : Type 1} {𝓤 : Ura M} (𝓛 : Logic 𝓤) (mem : Memory → SProp
   abbrev passed : (α l : ℕ) → GName → Args fit.signature (lfts α)
   passed α l γ = (a.0, (slice l γ, a.1.1.1.1))
 
-  abbrev to-fit : ℕ → ℕ → GName → (Fit 𝓛 mem run).Ghost
-  to-fit α l γ = ((lfts α, (full_share, qs), tt, passed α l γ, (at.0, (v₀ l ∷ [], at.1.1.1.1))), tt)
+  abbrev to_fit : ℕ → ℕ → GName → (Fit 𝓛 mem run).Ghost
+  to_fit α l γ = ((lfts α, (full_share, qs), tt, passed α l γ, (at.0, (v₀ l ∷ [], at.1.1.1.1))), tt)
 
   abbrev token : ℕ → Item 𝓤
   token α = ‵ (flft (α ∷ []) full_share)
@@ -149,8 +149,8 @@ module _ {M : Type 1} {𝓤 : Ura M} (𝓛 : Logic 𝓤) (mem : Memory → SProp
   abbrev OwnFit : ℕ → ℕ → GName → Fml
   OwnFit α l γ = fsep OwnT (fsep (OwnList α l γ) OwnSlices)
 
-  goes-fit : (α l : ℕ) (γ : GName) → ent 𝓤 (⋆ 𝓛 (token α ∷ tokens ∷ ‵ (OwnFit α l γ) ∷ [])) ((Fit 𝓛 mem run).pre (to-fit α l γ))
-  goes-fit α l γ = qed 𝓛 (token α ∷ tokens ∷ ‵ (OwnFit α l γ) ∷ []) ∵ join ! $ join ! $ frame ! $ done !
+  goes_fit : (α l : ℕ) (γ : GName) → ent 𝓤 (⋆ 𝓛 (token α ∷ tokens ∷ ‵ (OwnFit α l γ) ∷ [])) ((Fit 𝓛 mem run).pre (to_fit α l γ))
+  goes_fit α l γ = qed 𝓛 (token α ∷ tokens ∷ ‵ (OwnFit α l γ) ∷ []) ∵ join ! $ join ! $ frame ! $ done !
 
   -- what the callee says at its end, and what is to be said
   abbrev Said : ℕ → ℕ → GName → PlainAnswer → SProp 𝓤
@@ -242,8 +242,8 @@ module _ {M : Type 1} {𝓤 : Ura M} (𝓛 : Logic 𝓤) (mem : Memory → SProp
         move ! (57 ∷ 0 ∷ []) $ use2 𝓛 (‵ (Lying 𝓛 l₂₅ ys) ⊛ ‵ (rest n one two l₂₅)) (lies 𝓛 l₂₅ one two n us) $ split ! $ lft_new ! tt (λ α. move ! (1 ∷ []) $
         use1 𝓛 (later (some (λ (γ : GName). ‵ (OwnList α l₂₅ γ) ⊛ ‵ (flent (α ∷ []) (Lying 𝓛 l₂₅ ys))))) (lends_shr_slice 𝓛 B.the_row (named 0) (α ∷ []) full_share ys l₂₅ 0 (fits n one two)) $ await ! tt $ pick ! (λ γ. split ! $ move ! (1 ∷ 3 ∷ []) $ fjoin ! $ move ! (1 ∷ []) $
         -- [what the slice owns; the loan; the token; what the slices own; what the first owns; the locals; the tokens]
-        move ! (0 ∷ 3 ∷ []) $ fjoin ! $ move ! (3 ∷ 0 ∷ []) $ fjoin ! $ move ! (2 ∷ 108 ∷ 0 ∷ []) $ use3 𝓛 (raw ((Fit 𝓛 mem run).pre (to-fit α l₂₅ γ))) (goes-fit α l₂₅ γ) $
-        calls_at ! fm (Fit 𝓛 mem run) known-fit (to-fit α l₂₅ γ) (and_then ! (load ! (from ! (stop !)) (look ! 103 refl)) (and_then ! (load ! (from ! (stop !)) (look ! 50 refl)) (and_then ! (load ! (from ! (stop !)) (look ! 95 refl)) (and_then ! (load ! (from ! (stop !)) (look ! 93 refl)) (and_then ! (load ! (from ! (stop !)) (look ! 91 refl)) (and_then ! (load ! (from ! (stop !)) (look ! 89 refl)) (and_then ! (load ! (from ! (stop !)) (look ! 87 refl)) (and_then ! (load ! (from ! (stop !)) (look ! 85 refl)) (and_then ! (load ! (from ! (stop !)) (look ! 83 refl)) (and_then ! (load ! (from ! (stop !)) (look ! 81 refl)) (and_then ! (load ! (from ! (stop !)) (look ! 46 refl)) (and_then ! (load ! (from ! (stop !)) (look ! 42 refl)) (and_then ! (load ! (from ! (stop !)) (look ! 38 refl)) (and_then ! (load ! (from ! (stop !)) (look ! 34 refl)) (and_then ! (load ! (from ! (stop !)) (look ! 30 refl)) (and_then ! (load ! (from ! (stop !)) (look ! 26 refl)) (and_then ! (load ! (from ! (stop !)) (look ! 22 refl)) (and_then ! (load ! (from ! (stop !)) (look ! 18 refl)) (and_then ! (load ! (from ! (stop !)) (look ! 14 refl)) (and_then ! (load ! (from ! (stop !)) (look ! 10 refl)) (and_then ! (load ! (from ! (stop !)) (look ! 6 refl)) (and_then ! (load ! (from ! (stop !)) (look ! 2 refl)) (no_more !))))))))))))))))))))))) (λ v.
+        move ! (0 ∷ 3 ∷ []) $ fjoin ! $ move ! (3 ∷ 0 ∷ []) $ fjoin ! $ move ! (2 ∷ 108 ∷ 0 ∷ []) $ use3 𝓛 (raw ((Fit 𝓛 mem run).pre (to_fit α l₂₅ γ))) (goes_fit α l₂₅ γ) $
+        calls_at ! fm (Fit 𝓛 mem run) known-fit (to_fit α l₂₅ γ) (and_then ! (load ! (from ! (stop !)) (look ! 103 refl)) (and_then ! (load ! (from ! (stop !)) (look ! 50 refl)) (and_then ! (load ! (from ! (stop !)) (look ! 95 refl)) (and_then ! (load ! (from ! (stop !)) (look ! 93 refl)) (and_then ! (load ! (from ! (stop !)) (look ! 91 refl)) (and_then ! (load ! (from ! (stop !)) (look ! 89 refl)) (and_then ! (load ! (from ! (stop !)) (look ! 87 refl)) (and_then ! (load ! (from ! (stop !)) (look ! 85 refl)) (and_then ! (load ! (from ! (stop !)) (look ! 83 refl)) (and_then ! (load ! (from ! (stop !)) (look ! 81 refl)) (and_then ! (load ! (from ! (stop !)) (look ! 46 refl)) (and_then ! (load ! (from ! (stop !)) (look ! 42 refl)) (and_then ! (load ! (from ! (stop !)) (look ! 38 refl)) (and_then ! (load ! (from ! (stop !)) (look ! 34 refl)) (and_then ! (load ! (from ! (stop !)) (look ! 30 refl)) (and_then ! (load ! (from ! (stop !)) (look ! 26 refl)) (and_then ! (load ! (from ! (stop !)) (look ! 22 refl)) (and_then ! (load ! (from ! (stop !)) (look ! 18 refl)) (and_then ! (load ! (from ! (stop !)) (look ! 14 refl)) (and_then ! (load ! (from ! (stop !)) (look ! 10 refl)) (and_then ! (load ! (from ! (stop !)) (look ! 6 refl)) (and_then ! (load ! (from ! (stop !)) (look ! 2 refl)) (no_more !))))))))))))))))))))))) (λ v.
         use1 𝓛 (later (some (λ (r : PlainAnswer). ((token α ⊛ tokens) ⊛ ‵ ((R.the_row).own_val r (v ∷ []))) ⊛ raw (Said α l₂₅ γ r)))) (id⊢ 𝓤 _) $ await ! tt $ pick ! (λ r. split ! $ split ! $ split ! $
         -- [the token; the tokens; what the answer owns; what is said; the loan; the locals]: the lifetime ends, and the list is whole again
         move ! (4 ∷ []) $ fsplit ! $ move ! (2 ∷ []) $ lft_end ! tt $ lent_back ! tt $ use2 𝓛 (some (λ (y : Val). ‵ (Cell 𝓛 l₂₅ y))) (lay 𝓛 l₂₅ one two n) $ pick ! (λ y. move ! (2 ∷ []) $

@@ -2,7 +2,7 @@
 use mathlib.Core.Path.{refl, ◌∙◌}
 use lib.ListN.{length-set}
 use Rattle.stored.specs.Stored.{sparse}
-use Rattle.agq.proofs.Ones.{one-made}
+use Rattle.agq.proofs.Ones.{one_made}
 use native.Mathlib.Omega.{arith}
 use Rattle.agq.proofs.one.one_point.Goals as goal
 
@@ -47,6 +47,6 @@ shape_of-m c = c.point_gain-dd.ensures.b.only.len ∙ simp length-set refl
 pub returns : goal.returns
 returns c =
     let a = c.args in
-    one-made a.family a.link a.shape a.theta.now (sparse a.starts.now a.columns.now a.values.now) a.y.now a.weights.now
+    one_made a.family a.link a.shape a.theta.now (sparse a.starts.now a.columns.now a.values.now) a.y.now a.weights.now
     a.offset.now a.n a.q a.xbeta a.g a.sigma a.node a.log-weight a.inv-phi a.u a.trial a.r.now _ a.m.now _
     c.requires.g_lt_q.0 c.requires.g_lt_q.1 c.requires.room.in_m _ _ c.point_gain-dd.ensures c.delta.ensures

@@ -5,7 +5,7 @@ use Prim.Native.Nat.{◌-◌, ◌+◌}
 use native.Mathlib.Omega.{arith}
 use Rattle.base.specs.Sparse.{good_row, good_rows}
 use Rattle.base.proofs.Sums.{all_none, all_fails, all_step, all_end}
-use Rattle.base.proofs.SparseRows.{starts-step, starts-within}
+use Rattle.base.proofs.SparseRows.{starts_step, starts_within}
 use Rattle.base.proofs.Loops.{loops}
 use borrow.Author.Rules.{rules}
 use Rattle.base.proofs.sparse.rows_ok.Goals as goal
@@ -38,7 +38,7 @@ bounds-starts-a-in-loop-a c = search (rules, loops)
 pub columns_ok-requires : goal.columns_ok-requires
 columns_ok-requires c =
     let good = c.loop-a.invariant.1 in
-    (starts-step _ _ _ good c.loop-a.a (omega arith), starts-within _ _ _ good (c.loop-a.a + 1) (omega arith))
+    (starts_step _ _ _ good c.loop-a.a (omega arith), starts_within _ _ _ good (c.loop-a.a + 1) (omega arith))
 
 pub returns-then-not-columns_ok : goal.returns-then-not-columns_ok
 unfolding good_rows good_row

@@ -4,7 +4,7 @@ use Prim.Native.Nat.{◌-◌}
 use lib.ListN.{length, length-set}
 use Rattle.base.proofs.Fills.{fillat_none}
 use Rattle.base.proofs.Rows.{fillat_wrote}
-use Rattle.columns.proofs.Laws.{mixed-step}
+use Rattle.columns.proofs.Laws.{mixed_step}
 use native.Mathlib.Omega.{arith}
 use Rattle.columns.proofs.remainders.normal_row.Goals as goal
 
@@ -15,7 +15,7 @@ pub loop-b-preserved : goal.loop-b-preserved
 loop-b-preserved c =
     let args = c.args in
     let loop = c.loop-b in
-    let step = mixed-step args.c.now args.solved.now args.p args.q args.a args.unsolved args.normal args.t.now c.requires.2 c.requires.3 c.requires.4 _ _ _ _ loop.b loop.t _ c.offset-d.ensures.0 c.offset-v.ensures.0 refl c.offset-o.ensures.0 c.loop-b-test.true c.dot_from-mixed.ensures loop.invariant.2 in
+    let step = mixed_step args.c.now args.solved.now args.p args.q args.a args.unsolved args.normal args.t.now c.requires.2 c.requires.3 c.requires.4 _ _ _ _ loop.b loop.t _ c.offset-d.ensures.0 c.offset-v.ensures.0 refl c.offset-o.ensures.0 c.loop-b-test.true c.dot_from-mixed.ensures loop.invariant.2 in
     (omega arith, simp length-set (omega arith), step)
 
 pub returns : goal.returns

@@ -4,7 +4,7 @@ use Prim.Native.Nat.{◌-◌}
 use lib.ListN.{length, length-set}
 use Rattle.base.proofs.Fills.{fillat_none}
 use Rattle.base.proofs.Rows.{fillat_wrote}
-use Rattle.columns.proofs.Laws.{side-step}
+use Rattle.columns.proofs.Laws.{side_step}
 use native.Mathlib.Omega.{arith}
 use Rattle.columns.proofs.remainders.sides_into.Goals as goal
 
@@ -15,7 +15,7 @@ pub loop-a-preserved : goal.loop-a-preserved
 loop-a-preserved c =
     let args = c.args in
     let loop = c.loop-a in
-    let step = side-step args.p args.q args.unsolved args.wy args.beta args.t.now args.m.now c.requires.0 c.requires.1 c.requires.2 loop.a _ _ _ loop.m _ c.loop-a-test.true c.offset-o.ensures.0 refl refl c.dot-mixed.ensures loop.invariant.2 in
+    let step = side_step args.p args.q args.unsolved args.wy args.beta args.t.now args.m.now c.requires.0 c.requires.1 c.requires.2 loop.a _ _ _ loop.m _ c.loop-a-test.true c.offset-o.ensures.0 refl refl c.dot-mixed.ensures loop.invariant.2 in
     (omega arith, simp length-set (omega arith), step)
 
 pub returns : goal.returns

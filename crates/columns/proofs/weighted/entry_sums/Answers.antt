@@ -3,7 +3,7 @@ use mathlib.Core.Path.{refl, ap, ◌∙◌}
 use Prim.Native.Nat.{◌-◌}
 use lib.ListN.{length, length-replicate}
 use Rattle.base.specs.Number.{zero_f}
-use Rattle.columns.proofs.WeightedSums.{entries_none, entries-step, entries_end}
+use Rattle.columns.proofs.WeightedSums.{entries_none, entries_step, entries_end}
 use native.Mathlib.Omega.{arith}
 use Rattle.columns.proofs.weighted.entry_sums.Goals as goal
 
@@ -58,7 +58,7 @@ loop-k-preserved c =
     let a = c.args in
     let place = c.offset-o.ensures.0 in
     let added = c.add_weighted.ensures in
-    (omega arith, omega arith, loop.invariant.2, omega arith, omega arith, entries-step a.columns.now a.values.now a.x.now a.p a.w.now a.begin a.b a.count loop.k _ _ loop.sums _ loop.invariant.0 place refl loop.invariant.5 added)
+    (omega arith, omega arith, loop.invariant.2, omega arith, omega arith, entries_step a.columns.now a.values.now a.x.now a.p a.w.now a.begin a.b a.count loop.k _ _ loop.sums _ loop.invariant.0 place refl loop.invariant.5 added)
 
 pub shape_of-sums : goal.shape_of-sums
 shape_of-sums c = omega arith

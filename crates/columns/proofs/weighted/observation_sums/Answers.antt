@@ -3,7 +3,7 @@ use mathlib.Core.Path.{refl, ap, ◌∙◌}
 use Prim.Native.Nat.{◌-◌}
 use lib.ListN.{length, length-replicate}
 use Rattle.base.specs.Number.{zero_f}
-use Rattle.columns.proofs.WeightedSums.{dots-none, dots-step, dots-end}
+use Rattle.columns.proofs.WeightedSums.{dots_none, dots_step, dots_end}
 use native.Mathlib.Omega.{arith}
 use Rattle.columns.proofs.weighted.observation_sums.Goals as goal
 
@@ -11,7 +11,7 @@ pub loop-i-init : goal.loop-i-init
 loop-i-init c =
     let a = c.args in
     let none = c.requires.count_bound.1 in
-    (omega arith, omega arith, ap length none ∙ length-replicate a.count zero_f, dots-none a.x.now a.p a.w.now a.v.now a.b a.count _ none)
+    (omega arith, omega arith, ap length none ∙ length-replicate a.count zero_f, dots_none a.x.now a.p a.w.now a.v.now a.b a.count _ none)
 
 pub offset-o-requires : goal.offset-o-requires
 offset-o-requires c = omega arith
@@ -46,7 +46,7 @@ loop-i-preserved c =
     let a = c.args in
     let place = c.offset-o.ensures.0 in
     let added = c.add_weighted.ensures in
-    (omega arith, omega arith, omega arith, dots-step a.x.now a.p a.w.now a.v.now a.b a.count loop.i _ _ loop.sums _ place refl loop.invariant.3 added)
+    (omega arith, omega arith, omega arith, dots_step a.x.now a.p a.w.now a.v.now a.b a.count loop.i _ _ loop.sums _ place refl loop.invariant.3 added)
 
 pub shape_of-sums : goal.shape_of-sums
 shape_of-sums c = omega arith
@@ -55,4 +55,4 @@ pub returns : goal.returns
 returns c =
     let a = c.args in
     let loop = c.loop-i in
-    dots-end a.x.now a.p a.w.now a.v.now a.b a.count a.n loop.i _ (omega arith) (omega arith) loop.invariant.3
+    dots_end a.x.now a.p a.w.now a.v.now a.b a.count a.n loop.i _ (omega arith) (omega arith) loop.invariant.3

@@ -1,7 +1,7 @@
 -- `columns::sides_from` meets its contract: each width writes its columns, of which the first begins at b or before it, and the last is behind b.
 use Rattle.columns.specs.Weighted.{entries_side}
 use Rattle.linear.proofs.CrossSums.{begin_within}
-use Rattle.columns.proofs.WeightedSums.{columns-further}
+use Rattle.columns.proofs.WeightedSums.{columns_further}
 use native.Mathlib.Omega.{arith}
 use Rattle.columns.proofs.weighted.sides_from.Goals as goal
 
@@ -15,7 +15,7 @@ one_side-requires c = record {
 pub returns-then-p-lt2 : goal.returns-then-p-lt2
 returns-then-p-lt2 c =
     let a = c.args in
-    columns-further (entries_side a.columns.now a.values.now a.x.now a.p a.w.now a.begin a.end) a.p a.b a.b 1 a.out.now _ (omega arith) (omega arith) (omega arith) (omega arith) c.one_side.ensures
+    columns_further (entries_side a.columns.now a.values.now a.x.now a.p a.w.now a.begin a.end) a.p a.b a.b 1 a.out.now _ (omega arith) (omega arith) (omega arith) (omega arith) c.one_side.ensures
 
 pub two_sides-requires : goal.two_sides-requires
 two_sides-requires c = record {
@@ -28,7 +28,7 @@ pub returns-then-p-lt6 : goal.returns-then-p-lt6
 returns-then-p-lt6 c =
     let a = c.args in
     let within = begin_within a.b a.p 2 _ (omega arith) (omega arith) (omega arith) c.begin_at-o.ensures in
-    columns-further (entries_side a.columns.now a.values.now a.x.now a.p a.w.now a.begin a.end) a.p a.b _ 2 a.out.now _ within.0 within.1 within.2 (omega arith) c.two_sides.ensures
+    columns_further (entries_side a.columns.now a.values.now a.x.now a.p a.w.now a.begin a.end) a.p a.b _ 2 a.out.now _ within.0 within.1 within.2 (omega arith) c.two_sides.ensures
 
 pub six_sides-requires : goal.six_sides-requires
 six_sides-requires c = record {
@@ -41,4 +41,4 @@ pub returns : goal.returns
 returns c =
     let a = c.args in
     let within = begin_within a.b a.p 6 _ (omega arith) (omega arith) (omega arith) c.begin_at-o-2.ensures in
-    columns-further (entries_side a.columns.now a.values.now a.x.now a.p a.w.now a.begin a.end) a.p a.b _ 6 a.out.now _ within.0 within.1 within.2 (omega arith) c.six_sides.ensures
+    columns_further (entries_side a.columns.now a.values.now a.x.now a.p a.w.now a.begin a.end) a.p a.b _ 6 a.out.now _ within.0 within.1 within.2 (omega arith) c.six_sides.ensures

@@ -4,4 +4,4 @@ use Rattle.elementary.proofs.expo.large.Goals as goal
 
 pub returns : goal.returns
 unfolding large
-returns c = rw (c.scaled.ensures, c.double-scale.ensures, c.wrapping_add_u64.ensures)
+returns c = rw (c.scaled.ensures, c.double-scale.ensures, c.wrapping_add_u64.ensures.value)

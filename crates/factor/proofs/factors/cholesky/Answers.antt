@@ -6,7 +6,7 @@ use native.Mathlib.Omega.{arith}
 use lib.ListN.{length, length-set}
 use Rattle.base.proofs.InPlace.{by_none}
 use Rattle.factor.proofs.PivotTests.{first_none}
-use Rattle.factor.proofs.CholeskyRows.{cholesky-stop, cholesky-go, cholesky_done}
+use Rattle.factor.proofs.CholeskyRows.{cholesky_stop, cholesky_go, cholesky_done}
 use Rattle.base.proofs.Loops.{inplace}
 use borrow.Author.Rules.{rules}
 use Rattle.factor.proofs.factors.cholesky.Goals as goal
@@ -39,7 +39,7 @@ pub shape_of-a-then-not-positive_pivot : goal.shape_of-a-then-not-positive_pivot
 shape_of-a-then-not-positive_pivot c = search (rules, inplace)
 
 pub returns-then-not-positive_pivot : goal.returns-then-not-positive_pivot
-returns-then-not-positive_pivot c = cholesky-stop _ _ _ _ _ _ _ _ (omega arith) (omega arith) c.offset-io.ensures.0 c.loop-i.invariant.2 c.cholesky_row.ensures c.rows_dot-sum.ensures c.positive_pivot.ensures c.loop-i.invariant.3 c.if-not-positive_pivot.true
+returns-then-not-positive_pivot c = cholesky_stop _ _ _ _ _ _ _ _ (omega arith) (omega arith) c.offset-io.ensures.0 c.loop-i.invariant.2 c.cholesky_row.ensures c.rows_dot-sum.ensures c.positive_pivot.ensures c.loop-i.invariant.3 c.if-not-positive_pivot.true
 
 pub sqrt-requires : goal.sqrt-requires
 sqrt-requires c = search (rules, inplace)
@@ -61,7 +61,7 @@ loop-i-smaller c = search (rules, inplace)
 
 pub loop-i-preserved : goal.loop-i-preserved
 loop-i-preserved c =
-    let go = cholesky-go _ _ _ _ _ _ _ _ (omega arith) (omega arith) c.offset-io.ensures.0 c.loop-i.invariant.2 c.cholesky_row.ensures c.rows_dot-sum.ensures c.positive_pivot.ensures c.loop-i.invariant.3 c.if-not-positive_pivot.false in
+    let go = cholesky_go _ _ _ _ _ _ _ _ (omega arith) (omega arith) c.offset-io.ensures.0 c.loop-i.invariant.2 c.cholesky_row.ensures c.rows_dot-sum.ensures c.positive_pivot.ensures c.loop-i.invariant.3 c.if-not-positive_pivot.false in
     (omega arith, simp length-set (omega arith), rw c.sqrt.ensures go.0, go.1)
 
 pub shape_of-a : goal.shape_of-a

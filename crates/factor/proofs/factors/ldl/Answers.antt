@@ -10,7 +10,7 @@ use Rattle.base.specs.Sum.{◌!◌}
 use Rattle.base.proofs.InPlace.{by_none}
 use Rattle.factor.specs.Factor.{ldl_rule}
 use Rattle.factor.proofs.PivotTests.{first_none}
-use Rattle.factor.proofs.LdlRows.{ldl-stop, ldl-go, ldl_done}
+use Rattle.factor.proofs.LdlRows.{ldl_stop, ldl_go, ldl_done}
 use Rattle.factor.proofs.LdlHeads.{ldl_zeros, fine_kept, fine_next}
 use Rattle.base.proofs.Loops.{inplace}
 use borrow.Author.Rules.{rules}
@@ -55,7 +55,7 @@ returns-then-not-usable_pivot c =
     let loop = c.loop-i in
     let offset = c.offset-io in
     let row = c.ldl_row-head in
-    ldl-stop _ _ _ _ _ _ _ _ _ (omega arith) (omega arith) offset.ensures.0 loop.invariant.2 row.ensures.list c.ldl_sum-sum.ensures c.usable_pivot.ensures loop.invariant.3 c.if-not-usable_pivot.true
+    ldl_stop _ _ _ _ _ _ _ _ _ (omega arith) (omega arith) offset.ensures.0 loop.invariant.2 row.ensures.list c.ldl_sum-sum.ensures c.usable_pivot.ensures loop.invariant.3 c.if-not-usable_pivot.true
 
 pub overflow_add-out : goal.overflow_add-out
 overflow_add-out c = search (rules, inplace)
@@ -82,7 +82,7 @@ loop-i-preserved c =
     let offset = c.offset-io in
     let row = c.ldl_row-head in
     let X = row.new.out in
-    let go = ldl-go _ _ _ _ _ _ _ _ _ (omega arith) (omega arith) offset.ensures.0 loop.invariant.2 row.ensures.list c.ldl_sum-sum.ensures c.usable_pivot.ensures loop.invariant.3 c.if-not-usable_pivot.false in
+    let go = ldl_go _ _ _ _ _ _ _ _ _ (omega arith) (omega arith) offset.ensures.0 loop.invariant.2 row.ensures.list c.ldl_sum-sum.ensures c.usable_pivot.ensures loop.invariant.3 c.if-not-usable_pivot.false in
     let before = fine_kept (ldl_rule a.s a.a.now) a.s loop.i loop.i loop.out X loop.fine (omega arith) row.ensures.list loop.invariant.4 in
     let pivot = (a.a.now ! (offset.result + loop.i)) ⊖ c.ldl_sum-sum.result in
     (omega arith, simp length-set (omega arith), go.0, go.1, fine_next a.s loop.i offset.result X pivot loop.fine c.rows_fine-fine.result (omega arith) offset.ensures.0 c.rows_fine-fine.ensures before)

@@ -7,7 +7,7 @@ use lib.ListN.{length, length-set}
 use Rattle.factor.specs.Factor.{ldl_rule}
 use Rattle.factor.proofs.RowByRow.{row_none, row_end, rowwise}
 use Rattle.factor.proofs.LdlRows.{ldl_row_step}
-use Rattle.factor.proofs.LdlHeads.{ldl_zeros, fine_kept, next-made}
+use Rattle.factor.proofs.LdlHeads.{ldl_zeros, fine_kept, next_made}
 use borrow.Author.Rules.{rules}
 use Rattle.factor.proofs.factors.ldl_row.Goals as goal
 
@@ -68,7 +68,7 @@ loop-j-preserved c =
     let a = c.args in
     let offset = c.offset-io in
     let loop = c.loop-j in
-    let next = next-made a.s a.i loop.j loop.head offset.result loop.out a.fine _ offset.ensures.0 (omega arith) loop.invariant.3 loop.invariant.4 c.next_head-head.result c.next_head-head.ensures in
+    let next = next_made a.s a.i loop.j loop.head offset.result loop.out a.fine _ offset.ensures.0 (omega arith) loop.invariant.3 loop.invariant.4 c.next_head-head.result c.next_head-head.ensures in
     (omega arith, simp length-set (omega arith), rw (c.ldl_sum-sum.ensures, c.offset-jo.ensures.0, offset.ensures.0) (ldl_row_step _ _ _ _ _ _ (omega arith) (omega arith) loop.invariant.2), next.0, next.1)
 
 pub shape_of-out : goal.shape_of-out

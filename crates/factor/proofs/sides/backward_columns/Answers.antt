@@ -7,7 +7,7 @@ use native.Mathlib.Nat.{not-le_of_lt}
 use Rattle.base.proofs.InPlace.{down_none}
 use Rattle.factor.specs.Substitution.{unit_backward_rule}
 use Rattle.factor.proofs.ZeroTerms.{head_bounds, down_zeros}
-use Rattle.factor.proofs.EachColumn.{each_none, each_down, fine-down}
+use Rattle.factor.proofs.EachColumn.{each_none, each_down, fine_down}
 use Rattle.factor.proofs.ColumnsSolved.{backward_end}
 use borrow.Author.Rules.{rules}
 use Rattle.factor.proofs.sides.backward_columns.Goals as goal
@@ -29,7 +29,7 @@ loop-i-preserved c =
     let loop = c.loop-i in
     let row = c.backward_row-row in
     let g = (unit_backward_rule a.s a.l.now) in
-    (omega arith, search rules, each_down g (loop.i - 1) a.s a.count loop.i a.x.now loop.x _ (omega arith) (omega arith) (omega arith) loop.invariant.2 row.ensures.list, fine-down g (loop.i - 1) a.s a.count loop.x _ row.result (omega arith) row.ensures loop.fine _ (omega arith) c.both-fine.ensures (λ t b k l m p. loop.invariant.3 t b k l (omega arith) p))
+    (omega arith, search rules, each_down g (loop.i - 1) a.s a.count loop.i a.x.now loop.x _ (omega arith) (omega arith) (omega arith) loop.invariant.2 row.ensures.list, fine_down g (loop.i - 1) a.s a.count loop.x _ row.result (omega arith) row.ensures loop.fine _ (omega arith) c.both-fine.ensures (λ t b k l m p. loop.invariant.3 t b k l (omega arith) p))
 
 pub returns : goal.returns
 returns c = backward_end _ _ _ _ _ _ (omega arith) c.loop-i.invariant.2

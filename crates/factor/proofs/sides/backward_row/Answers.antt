@@ -6,7 +6,7 @@ use borrow.Rule.Slice.PartMut.{mid_of}
 use Rattle.base.specs.InPlace.{ruled}
 use Rattle.factor.specs.Substitution.{unit_backward_rule}
 use Rattle.base.proofs.Sums.{all_none}
-use Rattle.factor.proofs.EachColumn.{each_first, each_end, entered-list, entered-fine, flag_end, part-entry}
+use Rattle.factor.proofs.EachColumn.{each_first, each_end, entered_list, entered_fine, flag_end, part_entry}
 use Rattle.factor.proofs.ColumnsSolved.{backward_part}
 use Rattle.base.proofs.Loops.{loops}
 use borrow.Author.Rules.{rules}
@@ -38,7 +38,7 @@ backward_entry-one-requires c =
     let a = c.args in
     let loop = c.loop-a in
     let offset = c.offset-o in
-    let same = part-entry (ruled (unit_backward_rule a.s a.l.now) a.i) a.s loop.a a.x.now loop.x offset.result (offset.result + a.s) loop.invariant.2 offset.ensures.0 refl (omega arith) in
+    let same = part_entry (ruled (unit_backward_rule a.s a.l.now) a.i) a.s loop.a a.x.now loop.x offset.result (offset.result + a.s) loop.invariant.2 offset.ensures.0 refl (omega arith) in
     (omega arith, omega arith, search rules, omega arith, omega arith, backward_part a.s a.i loop.a a.head a.l.now a.x.now (mid_of offset.result (offset.result + a.s - offset.result) loop.x) (omega arith) same (c.requires.5 loop.a (omega arith)))
 
 pub both-fine-requires : goal.both-fine-requires
@@ -56,7 +56,7 @@ loop-a-preserved c =
     let loop = c.loop-a in
     let offset = c.offset-o in
     let entry = c.backward_entry-one in
-    (omega arith, search rules, entered-list (unit_backward_rule a.s a.l.now) a.i a.s loop.a a.x.now loop.x offset.result (offset.result + a.s) loop.invariant.2 offset.ensures.0 refl (omega arith) entry.new.x entry.result entry.ensures entry.auto.x, entered-fine (unit_backward_rule a.s a.l.now) a.i a.s loop.a a.x.now loop.x offset.result (offset.result + a.s) loop.invariant.2 offset.ensures.0 refl (omega arith) entry.new.x entry.result entry.ensures _ _ c.both-fine.ensures loop.invariant.3)
+    (omega arith, search rules, entered_list (unit_backward_rule a.s a.l.now) a.i a.s loop.a a.x.now loop.x offset.result (offset.result + a.s) loop.invariant.2 offset.ensures.0 refl (omega arith) entry.new.x entry.result entry.ensures entry.auto.x, entered_fine (unit_backward_rule a.s a.l.now) a.i a.s loop.a a.x.now loop.x offset.result (offset.result + a.s) loop.invariant.2 offset.ensures.0 refl (omega arith) entry.new.x entry.result entry.ensures _ _ c.both-fine.ensures loop.invariant.3)
 
 pub shape_of-x : goal.shape_of-x
 shape_of-x c = search (rules, loops)

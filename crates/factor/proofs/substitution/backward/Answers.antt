@@ -4,7 +4,7 @@ use Prim.Native.Nat.{◌-◌}
 use native.Mathlib.Omega.{arith}
 use lib.ListN.{length, length-set}
 use Rattle.factor.specs.Substitution.{backward}
-use Rattle.factor.proofs.SubstitutionSteps.{backward-step}
+use Rattle.factor.proofs.SubstitutionSteps.{backward_step}
 use Rattle.base.proofs.Loops.{inplace}
 use borrow.Author.Rules.{rules}
 use Rattle.factor.proofs.substitution.backward.Goals as goal
@@ -46,7 +46,7 @@ pub loop-i-smaller : goal.loop-i-smaller
 loop-i-smaller c = search (rules, inplace)
 
 pub loop-i-preserved : goal.loop-i-preserved
-loop-i-preserved c = (omega arith, simp length-set (omega arith), rw c.sum_below-below.ensures (backward-step _ _ _ _ _ _ c.offset-o.ensures.0 c.loop-i.i (omega arith) (omega arith) c.loop-i.invariant.2))
+loop-i-preserved c = (omega arith, simp length-set (omega arith), rw c.sum_below-below.ensures (backward_step _ _ _ _ _ _ c.offset-o.ensures.0 c.loop-i.i (omega arith) (omega arith) c.loop-i.invariant.2))
 
 pub shape_of-x : goal.shape_of-x
 shape_of-x c = search (rules, inplace)

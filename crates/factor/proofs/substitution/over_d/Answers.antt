@@ -3,7 +3,7 @@ use Prim.Native.Nat.{◌-◌}
 use native.Mathlib.Omega.{arith}
 use lib.ListN.{length, length-set}
 use Rattle.factor.specs.Substitution.{over_d}
-use Rattle.factor.proofs.SubstitutionSteps.{over-d-step}
+use Rattle.factor.proofs.SubstitutionSteps.{over_d_step}
 use Rattle.base.proofs.Loops.{inplace}
 use borrow.Author.Rules.{rules}
 use Rattle.factor.proofs.substitution.over_d.Goals as goal
@@ -42,7 +42,7 @@ pub loop-i-smaller : goal.loop-i-smaller
 loop-i-smaller c = search (rules, inplace)
 
 pub loop-i-preserved : goal.loop-i-preserved
-loop-i-preserved c = (omega arith, simp length-set (omega arith), over-d-step _ _ _ _ _ _ c.offset-o.ensures.0 c.loop-i.invariant.2)
+loop-i-preserved c = (omega arith, simp length-set (omega arith), over_d_step _ _ _ _ _ _ c.offset-o.ensures.0 c.loop-i.invariant.2)
 
 pub shape_of-x : goal.shape_of-x
 shape_of-x c = search (rules, inplace)

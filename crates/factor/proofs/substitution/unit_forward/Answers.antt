@@ -3,7 +3,7 @@ use Prim.Native.Nat.{◌-◌}
 use native.Mathlib.Omega.{arith}
 use lib.ListN.{length, length-set}
 use Rattle.factor.specs.Substitution.{unit_forward}
-use Rattle.factor.proofs.SubstitutionSteps.{unit-forward-step}
+use Rattle.factor.proofs.SubstitutionSteps.{unit_forward_step}
 use Rattle.base.proofs.Loops.{inplace}
 use borrow.Author.Rules.{rules}
 use Rattle.factor.proofs.substitution.unit_forward.Goals as goal
@@ -36,7 +36,7 @@ pub loop-i-smaller : goal.loop-i-smaller
 loop-i-smaller c = search (rules, inplace)
 
 pub loop-i-preserved : goal.loop-i-preserved
-loop-i-preserved c = (omega arith, simp length-set (omega arith), rw c.sum_before-sum.ensures (unit-forward-step _ _ _ _ _ _ c.offset-o.ensures.0 c.loop-i.invariant.2))
+loop-i-preserved c = (omega arith, simp length-set (omega arith), rw c.sum_before-sum.ensures (unit_forward_step _ _ _ _ _ _ c.offset-o.ensures.0 c.loop-i.invariant.2))
 
 pub shape_of-x : goal.shape_of-x
 shape_of-x c = search (rules, inplace)

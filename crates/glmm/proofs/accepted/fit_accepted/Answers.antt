@@ -2,8 +2,8 @@
 use mathlib.Core.Path.{◌∙◌}
 use Rattle.stored.specs.Stored.{sparse}
 use Rattle.rule.specs.Given.{design_of, given_of}
-use Rattle.glmm.proofs.Room.{stands, to-wipe}
-use Rattle.glmm.proofs.Wiping.{call-left}
+use Rattle.glmm.proofs.Room.{stands, to_wipe}
+use Rattle.glmm.proofs.Wiping.{call_left}
 use Rattle.glmm.proofs.accepted.fit_accepted.Goals as goal
 
 pub fit_in-f-requires : goal.fit_in-f-requires
@@ -19,7 +19,7 @@ write_fit-requires c = record {
     }
 
 pub wipe_work-requires : goal.wipe_work-requires
-wipe_work-requires c = to-wipe c.requires.asked c.fit_in-f.ensures.rows_only.len c.fit_in-f.ensures.matrices_only.len c.fit_in-f.ensures.terms_only.len
+wipe_work-requires c = to_wipe c.requires.asked c.fit_in-f.ensures.rows_only.len c.fit_in-f.ensures.matrices_only.len c.fit_in-f.ensures.terms_only.len
 
 pub shape_of-beta : goal.shape_of-beta
 shape_of-beta c = c.write_fit.auto.beta
@@ -60,7 +60,7 @@ shape_of-terms c = c.wipe_work.auto.terms ∙ c.fit_in-f.auto.t
 pub returns : goal.returns
 returns c =
     let args = c.args in
-    call-left
+    call_left
     (given_of args.family args.link args.y.now args.weights.now
     (design_of args.n args.p args.shape args.theta.now args.offset.now args.x.now
     (sparse args.starts.now args.columns.now args.values.now))) _ args.q c.requires.asked.ready.effects _ _ _ _ _ _ _ _ _ _ _ _

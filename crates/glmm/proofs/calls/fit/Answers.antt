@@ -1,6 +1,6 @@
 -- `glmm::fit` meets its contract: by the verdict an accepted call is fitted, and of a refused one every slice stays as it is.
 use Rattle.call.specs.Call.{lengths_of, call_given}
-use Rattle.glmm.proofs.ByVerdict.{call_asked, call_limit, call_writable, call_fitted, call-refused}
+use Rattle.glmm.proofs.ByVerdict.{call_asked, call_limit, call_writable, call_fitted, call_refused}
 use Rattle.glmm.proofs.calls.fit.Goals as goal
 
 pub fit_accepted-requires : goal.fit_accepted-requires
@@ -71,7 +71,7 @@ pub returns-in-Refused : goal.returns-in-Refused
 unfolding lengths_of
 returns-in-Refused c =
     let args = c.args in
-    call-refused args.settings args.shape args.theta.now args.y.now args.weights.now args.offset.now args.x.now args.starts.now
+    call_refused args.settings args.shape args.theta.now args.y.now args.weights.now args.offset.now args.x.now args.starts.now
     args.columns.now args.values.now args.beta.now args.se.now args.z.now args.u.now args.b.now args.mu.now args.eta.now
     args.residual.now args.v.now args.rows.now args.matrices.now args.terms.now _ _ _ c.verdict_of-verdict.ensures
     c.in-Refused.is c.refused.ensures

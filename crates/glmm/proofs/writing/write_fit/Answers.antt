@@ -1,7 +1,7 @@
 -- `glmm::write_fit` meets its contract: the parts of the fit stand where the layout says, and the writer of results is handed them.
 use native.Mathlib.Omega.{arith}
 use Rattle.layout.proofs.Bounds.{products}
-use Rattle.glmm.proofs.Written.{unwritten, written_if, rows-read, parts_read, parts_written}
+use Rattle.glmm.proofs.Written.{unwritten, written_if, rows_read, parts_read, parts_written}
 use Rattle.glmm.proofs.writing.write_fit.Goals as goal
 
 pub returns-then-not-fitted : goal.returns-then-not-fitted
@@ -55,7 +55,7 @@ slice_bounds-holder-end-2 c = omega (arith, c.second_eta_row-second.ensures, c.m
 pub holder-predictor-requires : goal.holder-predictor-requires
 holder-predictor-requires c =
     let args = c.args in
-    rows-read args.shape args.n args.p args.q args.theta.now args.y.now args.r.now args.m.now c.requires.standing _ _ _ _ _ _ _ _ _
+    rows_read args.shape args.n args.p args.q args.theta.now args.y.now args.r.now args.m.now c.requires.standing _ _ _ _ _ _ _ _ _
     c.root_inverse_at-root.ensures c.wy_at-wy.ensures c.beta_at-fixed.ensures c.beta_end-fixed_end.ensures
     c.u_at-effects.ensures c.b_at-next.ensures c.second_eta_row-second.ensures c.mu_row-means.ensures c.raw_row-raw.ensures
 

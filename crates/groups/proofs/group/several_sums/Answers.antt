@@ -3,10 +3,10 @@ use mathlib.Core.Path.{◌∙◌, ap}
 use native.Mathlib.Omega.{arith}
 use lib.ListN.{length}
 use Rattle.base.proofs.Fills.{length_fillat, length_fill}
-use Rattle.layout.proofs.Inside.{mark-in, trial-u-in}
+use Rattle.layout.proofs.Inside.{mark_in, trial_u_in}
 use Rattle.stored.specs.Stored.{sparse}
 use Rattle.sums.proofs.Framed.{hats_before, room_of}
-use Rattle.sums.proofs.Fronts.{rule-size, rule-nodes, rule-logs-long}
+use Rattle.sums.proofs.Fronts.{rule_size, rule_nodes, rule_logs_long}
 use Rattle.sums.proofs.Grids.{grid_of, count_few, count_in_lem, power_room}
 use Rattle.groups.proofs.SeveralSummed.{several_made}
 use Rattle.groups.proofs.group.several_sums.Goals as goal
@@ -17,7 +17,7 @@ mark_row-mark-requires c = c.requires.roomy.lent.sizes.n_few
 pub mark_group-requires : goal.mark_group-requires
 mark_group-requires c = record {
       rows = c.requires.roomy.ready.rows;
-      k_bound = (c.requires.k_bound.0, mark-in c.requires.roomy.lent.sizes c.args.r.now c.mark_row-mark.ensures c.requires.roomy.lent.rows_long);
+      k_bound = (c.requires.k_bound.0, mark_in c.requires.roomy.lent.sizes c.args.r.now c.mark_row-mark.ensures c.requires.roomy.lent.rows_long);
     }
 
 pub u_at-u-requires : goal.u_at-u-requires
@@ -29,7 +29,7 @@ trial_u_at-trial-requires c = (c.requires.roomy.lent.sizes.p_few, c.requires.roo
 pub copy_row-requires : goal.copy_row-requires
 copy_row-requires c = (
       hats_before c.args.p c.args.q _ _ c.u_at-u.ensures c.trial_u_at-trial.ensures,
-      trial-u-in c.requires.roomy.lent.sizes c.args.m.now c.trial_u_at-trial.ensures c.requires.roomy.lent.matrices_long,
+      trial_u_in c.requires.roomy.lent.sizes c.args.m.now c.trial_u_at-trial.ensures c.requires.roomy.lent.matrices_long,
     )
 
 pub inverse_at-l-requires : goal.inverse_at-l-requires
@@ -51,7 +51,7 @@ group_terms-requires c =
             (ap length c.copy_row.ensures ∙ length_fillat _ _ _ _) pre.1.0 c.inverse_at-l.ensures c.u_at-u.ensures
             c.trial_u_at-trial.ensures;
       size_in_bounds = (
-          rule-logs-long _ _ c.gh_rule-rule.ensures pre.1.2,
+          rule_logs_long _ _ c.gh_rule-rule.ensures pre.1.2,
           count_in_lem c.args.order _ c.args.k 400 _ c.args.t.now c.gh_rule-rule.ensures pre.1.1
               c.power-count.ensures (omega arith) pre.0.lent.terms_long,
         );
@@ -80,6 +80,6 @@ returns c =
     c.requires.roomy.ready.effects c.requires.roomy.lent
     (count_few args.order _ args.k 7000 _ c.gh_rule-rule.ensures (omega (arith, c.requires.k_bound.1)) c.power-count.ensures)
     c.mark_row-mark.ensures c.u_at-u.ensures c.trial_u_at-trial.ensures c.inverse_at-l.ensures c.xbeta_row-xbeta.ensures
-    c.inverse_phi-inv.ensures (rule-size _ _ c.gh_rule-rule.ensures) (rule-nodes _ _ c.gh_rule-rule.ensures) c.requires.k_bound.2
+    c.inverse_phi-inv.ensures (rule_size _ _ c.gh_rule-rule.ensures) (rule_nodes _ _ c.gh_rule-rule.ensures) c.requires.k_bound.2
     c.log_sum.ensures args.s args.k c.requires.k_bound.0 c.power-count.ensures c.mark_group.ensures c.copy_row.ensures
     c.group_terms.ensures

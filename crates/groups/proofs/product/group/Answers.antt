@@ -1,6 +1,6 @@
 -- `groups::group` meets its contract: its test is the rule's.
 use mathlib.Core.Path.{refl}
-use Rattle.groups.proofs.Looped.{group-one, group-several, lone_within}
+use Rattle.groups.proofs.Looped.{group_one, group_several, lone_within}
 use Rattle.groups.proofs.product.group.Goals as goal
 
 pub one_group-requires : goal.one_group-requires
@@ -21,7 +21,7 @@ shape_of-t-then-k-eq1 c = c.one_group.ensures.frame.terms_only.len
 pub returns-then-k-eq1 : goal.returns-then-k-eq1
 returns-then-k-eq1 c =
     let args = c.args in
-    group-one _ args.phi args.order args.n args.p args.q args.k args.g _ _ _ _ _ _ _ c.if-k-eq1.true c.one_group.ensures
+    group_one _ args.phi args.order args.n args.p args.q args.k args.g _ _ _ _ _ _ _ c.if-k-eq1.true c.one_group.ensures
 
 pub several_group-requires : goal.several_group-requires
 several_group-requires c = record {
@@ -41,5 +41,5 @@ shape_of-t c = c.several_group.ensures.frame.terms_only.len
 pub returns : goal.returns
 returns c =
     let args = c.args in
-    group-several _ args.phi args.order args.n args.p args.q args.k args.g _ _ _ _ _ _ _ _ c.if-k-eq1.false refl
+    group_several _ args.phi args.order args.n args.p args.q args.k args.g _ _ _ _ _ _ _ _ c.if-k-eq1.false refl
     c.several_group.ensures

@@ -6,12 +6,12 @@ use lib.ListN.{replicate}
 use Rattle.base.specs.Number.{zero_f}
 use Rattle.stored.specs.Stored.{sparse}
 use Rattle.sums.proofs.Framed.{roomy_kept}
-use Rattle.sums.proofs.Grids.{logs-room, logs-of}
+use Rattle.sums.proofs.Grids.{logs_room, logs_of}
 use Rattle.groups.proofs.Looped.{effects_within, groups_few, begun, room_left, goes_on, declines, ends}
 use Rattle.groups.proofs.product.product_step.Goals as goal
 
 pub log_weights-requires : goal.log_weights-requires
-log_weights-requires c = logs-room _ _ (replicate 11 zero_f) c.gh_rule-rule.ensures refl
+log_weights-requires c = logs_room _ _ (replicate 11 zero_f) c.gh_rule-rule.ensures refl
 
 pub loop-g-init : goal.loop-g-init
 loop-g-init c =
@@ -27,7 +27,7 @@ group-a-requires c = record {
         effects_within c.args.q c.args.groups c.args.k c.loop-g.g c.args.order c.requires.grouped
             c.loop-g-test.true,
         c.requires.grouped.capped,
-        logs-of _ _ _ c.gh_rule-rule.ensures refl _ c.log_weights.ensures,
+        logs_of _ _ _ c.gh_rule-rule.ensures refl _ c.log_weights.ensures,
       );
     }
 

@@ -1,7 +1,7 @@
 -- `inner::inner_answer` meets its contract: the fit's end decides; where it stopped, the work slices hold the mode for the quadrature.
 use mathlib.Core.Path.{◌∙◌}
 use Rattle.pirls.proofs.Fitted.{asked_kept}
-use Rattle.inner.proofs.Answering.{lent-after, sum_fits, failed-left, stopped_left}
+use Rattle.inner.proofs.Answering.{lent_after, sum_fits, failed_left, stopped_left}
 use Rattle.inner.proofs.fits.inner_answer.Goals as goal
 
 pub inner_fit-fit-requires : goal.inner_fit-fit-requires
@@ -27,7 +27,7 @@ pub shape_of-t-in-Failed : goal.shape_of-t-in-Failed
 shape_of-t-in-Failed c = c.inner_fit-fit.ensures.terms_only.len
 
 pub returns-in-Failed : goal.returns-in-Failed
-returns-in-Failed c = failed-left _ c.args.wish _ _ _ _ _ _ _ _ _ _ c.inner_fit-fit.ensures _ _ c.in-Failed.is c.failed_answer.ensures
+returns-in-Failed c = failed_left _ c.args.wish _ _ _ _ _ _ _ _ _ _ c.inner_fit-fit.ensures _ _ c.in-Failed.is c.failed_answer.ensures
 
 pub shape_of-r-in-Stopped : goal.shape_of-r-in-Stopped
 shape_of-r-in-Stopped c = c.quadrature_at-quadrature.ensures.rows_only.len ∙ c.inner_fit-fit.ensures.rows_only.len
@@ -41,5 +41,5 @@ shape_of-t-in-Stopped c = c.quadrature_at-quadrature.ensures.terms_only.len ∙ 
 pub returns-in-Stopped : goal.returns-in-Stopped
 returns-in-Stopped c =
     stopped_left _ c.args.wish _ _ _ _ _ _ _ _ _ _ c.inner_fit-fit.ensures
-    (lent-after c.requires.asked c.inner_fit-fit.ensures.rows_only c.inner_fit-fit.ensures.matrices_only
+    (lent_after c.requires.asked c.inner_fit-fit.ensures.rows_only c.inner_fit-fit.ensures.matrices_only
     c.inner_fit-fit.ensures.terms_only) _ _ _ _ c.quadrature_at-quadrature.ensures _ c.in-Stopped.is c.answer_of.ensures

@@ -1,7 +1,7 @@
 -- `inner::joint_at` meets its contract: the step is made with the order that the rule chooses, after Xβ stands in its row.
 use mathlib.Core.Path.{sym, ◌∙◌}
 use Rattle.quadrature.proofs.OrderFacts.{joint_within}
-use Rattle.inner.proofs.Stepped.{roomy, joint-declined, joint_made}
+use Rattle.inner.proofs.Stepped.{roomy, joint_declined, joint_made}
 use Rattle.inner.proofs.quadratures.joint_at.Goals as goal
 
 pub fixed_row-requires : goal.fixed_row-requires
@@ -16,7 +16,7 @@ joint_step-requires c = record {
 pub returns-in-Without : goal.returns-in-Without
 returns-in-Without c =
     let args = c.args in
-    joint-declined args.family args.link args.shape args.theta.now _ args.y.now args.weights.now args.offset.now args.n args.p
+    joint_declined args.family args.link args.shape args.theta.now _ args.y.now args.weights.now args.offset.now args.n args.p
     args.q args.x.now args.wish args.phi args.fit _ c.requires.ready.effects
     (sym c.resolve_gh_order_joint-choice.ensures ∙ c.in-Without.is) _ _ _ _ c.declined.ensures
 

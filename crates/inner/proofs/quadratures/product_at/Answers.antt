@@ -1,6 +1,6 @@
 -- `inner::product_at` meets its contract: the step is made with the order that the rule chooses, after Xβ stands in its row.
 use mathlib.Core.Path.{sym, ◌∙◌}
-use Rattle.inner.proofs.Stepped.{roomy, grouped, product-declined, product_made}
+use Rattle.inner.proofs.Stepped.{roomy, grouped, product_declined, product_made}
 use Rattle.inner.proofs.quadratures.product_at.Goals as goal
 
 pub fixed_row-requires : goal.fixed_row-requires
@@ -16,7 +16,7 @@ product_step-requires c = record {
 pub returns-in-Without : goal.returns-in-Without
 returns-in-Without c =
     let args = c.args in
-    product-declined args.family args.link args.shape args.theta.now _ args.y.now args.weights.now args.offset.now args.n args.p
+    product_declined args.family args.link args.shape args.theta.now _ args.y.now args.weights.now args.offset.now args.n args.p
     args.q args.x.now args.wish args.phi args.fit args.groups args.k _
     (sym c.resolve_gh_order_product-choice.ensures ∙ c.in-Without.is) _ _ _ _ c.declined.ensures
 

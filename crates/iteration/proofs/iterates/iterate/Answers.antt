@@ -1,7 +1,7 @@
 -- `iteration::iterate` meets its contract: weights, solve and tries are each the rule's.
 use mathlib.Core.Path.{refl, ◌∙◌}
 use Rattle.layout.proofs.LaidOut.{lent_kept}
-use Rattle.iteration.proofs.IterationMade.{iterate-unsolvable, iterate-stuck, iterate-moved}
+use Rattle.iteration.proofs.IterationMade.{iterate_unsolvable, iterate_stuck, iterate_moved}
 use Rattle.iteration.proofs.iterates.iterate.Goals as goal
 
 pub weigh-requires : goal.weigh-requires
@@ -29,7 +29,7 @@ solve_into-solving-requires c = record {
 pub returns-in-Unsolved : goal.returns-in-Unsolved
 returns-in-Unsolved c =
     let args = c.args in
-    iterate-unsolvable args.family args.link args.phi args.n args.p args.q args.shape args.theta.now args.offset.now args.x.now
+    iterate_unsolvable args.family args.link args.phi args.n args.p args.q args.shape args.theta.now args.offset.now args.x.now
     args.y.now args.weights.now _ args.in_second _ _ _ _ _ _ _ _ _ c.requires.asked.ready.effects c.requires.asked.lent c.weigh.ensures
     c.solve_into-solving.ensures _ c.in-Unsolved.is
 
@@ -45,13 +45,13 @@ shape_of-r-in-Moved c = c.step-end.auto.r ∙ c.solve_into-solving.auto.r ∙ c.
 pub returns-in-Moved : goal.returns-in-Moved
 returns-in-Moved c =
     let args = c.args in
-    iterate-moved args.family args.link args.phi args.n args.p args.q args.shape args.theta.now args.offset.now args.x.now
+    iterate_moved args.family args.link args.phi args.n args.p args.q args.shape args.theta.now args.offset.now args.x.now
     args.y.now args.weights.now _ args.in_second _ _ _ _ _ _ _ _ _ c.requires.asked.ready.effects c.requires.asked.lent c.weigh.ensures
     c.solve_into-solving.ensures _ _ _ _ c.in-Found.is c.in-Moved.is c.step-end.ensures
 
 pub returns-in-NoMove : goal.returns-in-NoMove
 returns-in-NoMove c =
     let args = c.args in
-    iterate-stuck args.family args.link args.phi args.n args.p args.q args.shape args.theta.now args.offset.now args.x.now
+    iterate_stuck args.family args.link args.phi args.n args.p args.q args.shape args.theta.now args.offset.now args.x.now
     args.y.now args.weights.now _ args.in_second _ _ _ _ _ _ _ _ _ c.requires.asked.ready.effects c.requires.asked.lent c.weigh.ensures
     c.solve_into-solving.ensures _ _ _ c.in-Found.is c.in-NoMove.is c.step-end.ensures

@@ -1,7 +1,7 @@
 -- `iteration::raw_into` meets its contract: each call reads what the one before it left.
-use Rattle.layout.proofs.Inside.{row-few, beta_few}
-use Rattle.iteration.proofs.RawMade.{part_has, raw_row_wrote, raw-laid}
-use Rattle.layout.proofs.Inside.{wy-in, solved_in, beta_in, spare-in, raw_in}
+use Rattle.layout.proofs.Inside.{row_few, beta_few}
+use Rattle.iteration.proofs.RawMade.{part_has, raw_row_wrote, raw_laid}
+use Rattle.layout.proofs.Inside.{wy_in, solved_in, beta_in, spare_in, raw_in}
 use native.Mathlib.Omega.{arith}
 use mathlib.Core.Path.{refl, ◌∙◌}
 use Rattle.layout.proofs.LaidOut.{laid_out}
@@ -31,10 +31,10 @@ solved_at-requires c = c.requires.work_room.sizes.q_few
 pub solve_u-requires : goal.solve_u-requires
 solve_u-requires c =
     let pre = c.requires in (
-      wy-in pre.1.0.sizes c.args.m.now c.wy_at.ensures pre.1.0.matrices_long,
+      wy_in pre.1.0.sizes c.args.m.now c.wy_at.ensures pre.1.0.matrices_long,
       solved_in pre.1.0.sizes c.args.m.now c.solved_at.ensures pre.1.0.matrices_long,
       beta_in pre.1.0.sizes c.args.m.now c.beta_at-beta.ensures pre.1.0.matrices_long,
-      omega (arith, spare-in pre.1.0.sizes c.args.t.now c.spare_at-spare.ensures pre.1.0.terms_long),
+      omega (arith, spare_in pre.1.0.sizes c.args.t.now c.spare_at-spare.ensures pre.1.0.terms_long),
     )
 
 pub effects_into-requires : goal.effects_into-requires
@@ -67,7 +67,7 @@ pub overflow_add-be : goal.overflow_add-be
 overflow_add-be c = omega (arith, beta_few c.requires.work_room.sizes c.beta_at-beta.ensures)
 
 pub overflow_add-re : goal.overflow_add-re
-overflow_add-re c = omega (arith, row-few c.requires.work_room.sizes {k = c.raw_row-raw.result} (omega (arith, c.raw_row-raw.ensures)))
+overflow_add-re c = omega (arith, row_few c.requires.work_room.sizes {k = c.raw_row-raw.result} (omega (arith, c.raw_row-raw.ensures)))
 
 pub offset_bounds-m-beta : goal.offset_bounds-m-beta
 offset_bounds-m-beta c = omega (arith, beta_few c.requires.work_room.sizes c.beta_at-beta.ensures)
@@ -81,7 +81,7 @@ slice_bounds-raw_row-end c =
     )
 
 pub offset_bounds-r-raw : goal.offset_bounds-r-raw
-offset_bounds-r-raw c = omega (arith, row-few c.requires.work_room.sizes {k = c.raw_row-raw.result} (omega (arith, c.raw_row-raw.ensures)))
+offset_bounds-r-raw c = omega (arith, row_few c.requires.work_room.sizes {k = c.raw_row-raw.result} (omega (arith, c.raw_row-raw.ensures)))
 
 pub slice_bounds-raw_row-end-2 : goal.slice_bounds-raw_row-end-2
 slice_bounds-raw_row-end-2 c = omega (arith, raw_in c.requires.work_room.sizes c.args.r.now c.raw_row-raw.ensures c.requires.work_room.rows_long, TURN.zb_into.auto)
@@ -121,7 +121,7 @@ returns c =
     let d = raw_row_wrote args.n args.p c.raw_row-raw.result _ c.beta_at-beta.result _ args.offset.now args.x.now _ _ _ refl
     (omega (arith, raw_in c.requires.work_room.sizes args.r.now c.raw_row-raw.ensures c.requires.work_room.rows_long, TURN.zb_into.auto)) refl
     c.raw_row.auto.out c.raw_row.ensures in
-    raw-laid args.n args.p args.q args.shape args.theta.now args.offset.now args.x.now _ _ _ _ _ _ _ _ c.requires.ready.effects
+    raw_laid args.n args.p args.q args.shape args.theta.now args.offset.now args.x.now _ _ _ _ _ _ _ _ c.requires.ready.effects
     c.requires.work_room _ _ _ _ _ _ _ c.wy_at.ensures c.solved_at.ensures c.beta_at-beta.ensures c.spare_at-spare.ensures
     c.u_at-u.ensures c.b_at-b.ensures c.raw_row-raw.ensures c.solve_u.ensures c.effects_into.ensures
     c.zb_into.ensures d

@@ -2,15 +2,15 @@
 use Rattle.layout.proofs.LaidOut.{lent_kept}
 use mathlib.Core.Path.{refl, ◌∙◌}
 use native.Mathlib.Omega.{arith}
-use Rattle.layout.proofs.Inside.{row-few, factor_in}
-use Rattle.iteration.proofs.SidesMade.{sides-made}
+use Rattle.layout.proofs.Inside.{row_few, factor_in}
+use Rattle.iteration.proofs.SidesMade.{sides_made}
 use Rattle.iteration.proofs.sides.right_sides.Goals as goal
 
 pub weighted_row-weighted-requires : goal.weighted_row-weighted-requires
 weighted_row-weighted-requires c = c.requires.work_room.sizes.n_few
 
 pub overflow_add-end : goal.overflow_add-end
-overflow_add-end c = omega (arith, row-few c.requires.work_room.sizes {k = c.weighted_row-weighted.result} (omega (arith, c.weighted_row-weighted.ensures)))
+overflow_add-end c = omega (arith, row_few c.requires.work_room.sizes {k = c.weighted_row-weighted.result} (omega (arith, c.weighted_row-weighted.ensures)))
 
 pub wy_at-wy-requires : goal.wy_at-wy-requires
 wy_at-wy-requires c = (c.requires.work_room.sizes.p_few, c.requires.work_room.sizes.q_few)
@@ -34,6 +34,6 @@ shape_of-t c = c.normal_columns.auto.t
 pub returns : goal.returns
 returns c =
     let args = c.args in
-    sides-made args.n args.p args.q c.weighted_row-weighted.result _ c.wy_at-wy.result args.shape args.theta.now args.x.now _ _ _
+    sides_made args.n args.p args.q c.weighted_row-weighted.result _ c.wy_at-wy.result args.shape args.theta.now args.x.now _ _ _
     _ _ _ _ c.requires.ready.effects c.requires.work_room c.weighted_row-weighted.ensures refl c.wy_at-wy.ensures c.solve_side.ensures
     c.normal_columns.ensures

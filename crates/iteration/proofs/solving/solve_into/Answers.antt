@@ -1,9 +1,9 @@
 -- `iteration::solve_into` meets its contract: each part leaves what the rule's next definition is said of.
 use mathlib.Core.Path.{refl, ◌∙◌}
 use native.Mathlib.Omega.{arith}
-use Rattle.layout.proofs.Inside.{system-in, w_in}
+use Rattle.layout.proofs.Inside.{system_in, w_in}
 use Rattle.layout.proofs.LaidOut.{lent_kept}
-use Rattle.iteration.proofs.SolveMade.{system-ends, normal_ends, solve_finds}
+use Rattle.iteration.proofs.SolveMade.{system_ends, normal_ends, solve_finds}
 use Rattle.iteration.proofs.solving.solve_into.Goals as goal
 
 pub w_at-requires : goal.w_at-requires
@@ -15,14 +15,14 @@ factor_system-factored-requires c = record {
       q_bound = (
         omega (arith, c.w_at.ensures),
         w_in c.requires.work_room.sizes c.args.t.now c.w_at.ensures c.requires.work_room.terms_long,
-        omega (arith, system-in c.requires.work_room.sizes {k = 0} c.args.m.now refl c.requires.work_room.matrices_long),
+        omega (arith, system_in c.requires.work_room.sizes {k = 0} c.args.m.now refl c.requires.work_room.matrices_long),
       );
     }
 
 pub returns-in-Bad : goal.returns-in-Bad
 returns-in-Bad c =
     let args = c.args in
-    system-ends args.n args.p args.q c.w_at.result _ args.shape args.theta.now args.offset.now args.x.now _ _ _ _ _ _ _
+    system_ends args.n args.p args.q c.w_at.result _ args.shape args.theta.now args.offset.now args.x.now _ _ _ _ _ _ _
     c.requires.ready.effects c.requires.work_room c.w_at.ensures c.factor_system-factored.ensures c.in-Bad.is
 
 pub right_sides-requires : goal.right_sides-requires

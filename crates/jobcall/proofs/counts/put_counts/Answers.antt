@@ -3,7 +3,7 @@ use mathlib.Core.Path.{refl}
 use native.Mathlib.Omega.{arith}
 use lib.ListN.{length-set}
 use Rattle.jobcall.specs.Told.{counts_of}
-use Rattle.jobcall.proofs.Stores.{stored_at, stored-laid}
+use Rattle.jobcall.proofs.Stores.{stored_at, stored_laid}
 use Rattle.jobcall.proofs.counts.put_counts.Goals as goal
 
 pub bounds-counts-0 : goal.bounds-counts-0
@@ -53,4 +53,4 @@ shape_of-counts c = simp length-set refl
 
 pub returns : goal.returns
 unfolding counts_of stored_at
-returns c = rw (← c.flag-settled.ensures) (stored-laid _ c.args.counts.now c.requires)
+returns c = rw (← c.flag-settled.ensures) (stored_laid _ c.args.counts.now c.requires)

@@ -1,5 +1,5 @@
 -- `jobcall::call_read` meets its contract: what reading leaves in the fronts of the slices is the job. Assumes nothing.
-use Rattle.jobfit.proofs.Reading.{read-refused, fronts_fit, theta_fits, read_job}
+use Rattle.jobfit.proofs.Reading.{read_refused, fronts_fit, theta_fits, read_job}
 use Rattle.jobcall.proofs.Telling.{refused_told, called_told}
 use Rattle.jobcall.proofs.whole.call_read.Goals as goal
 
@@ -42,7 +42,7 @@ shape_of-counts-in-Refused c = c.put_refusal.auto.counts
 pub returns-in-Refused : goal.returns-in-Refused
 returns-in-Refused c =
     refused_told c.args.own c.args.given.now _ _ _ _ _ _ _ _ _
-    (read-refused _ _ _ _ c.requires.1 c.read_job-found.ensures _ _ c.in-Refused.is) c.put_refusal.ensures
+    (read_refused _ _ _ _ c.requires.1 c.read_job-found.ensures _ _ c.in-Refused.is) c.put_refusal.ensures
 
 pub shape_of-theta-in-Accepted : goal.shape_of-theta-in-Accepted
 shape_of-theta-in-Accepted c = c.read_job-found.auto.theta

@@ -3,7 +3,7 @@ use mathlib.Core.Path.{◌∙◌}
 use native.Mathlib.Omega.{arith}
 use lib.ListN.{length-set}
 use Rattle.results.specs.Nine.{nine}
-use Rattle.jobfit.proofs.Behind.{two_length, fixed-room, effects_room, rows_room, v-room, numbers-laid}
+use Rattle.jobfit.proofs.Behind.{two_length, fixed_room, effects_room, rows_room, v-room, numbers-laid}
 use Rattle.jobfit.proofs.copies.put_numbers.Goals as goal
 
 pub bounds-out-0 : goal.bounds-out-0
@@ -15,7 +15,7 @@ bounds-out-1 c = simp length-set (omega (arith, c.requires))
 pub copy_three-fixed_end-requires : goal.copy_three-fixed_end-requires
 copy_three-fixed_end-requires c =
     let a = c.args in
-    fixed-room a.answer (nine a.beta.now a.se.now a.z.now a.u.now a.b.now a.mu.now a.eta.now a.residual.now a.v.now)
+    fixed_room a.answer (nine a.beta.now a.se.now a.z.now a.u.now a.b.now a.mu.now a.eta.now a.residual.now a.v.now)
     a.out.now c.requires
 
 pub copy_two-effects_end-requires : goal.copy_two-effects_end-requires

@@ -1,5 +1,5 @@
 -- `jobfit::fit_written` meets its contract: under number 0 the results were lent with room, and are written; under any other nothing is. Assumes nothing.
-use Rattle.jobfit.proofs.Lent.{room_kept, unfitted-done, fitted-done}
+use Rattle.jobfit.proofs.Lent.{room_kept, unfitted_done, fitted_done}
 use Rattle.jobfit.proofs.fronts.fit_written.Goals as goal
 
 pub shape_of-beta-then-answer-ne0 : goal.shape_of-beta-then-answer-ne0
@@ -39,7 +39,7 @@ pub shape_of-terms-then-answer-ne0 : goal.shape_of-terms-then-answer-ne0
 shape_of-terms-then-answer-ne0 c = c.fit-answer.auto.terms
 
 pub returns-then-answer-ne0 : goal.returns-then-answer-ne0
-returns-then-answer-ne0 c = unfitted-done _ _ _ _ c.fit-answer.ensures c.if-answer-ne0.true
+returns-then-answer-ne0 c = unfitted_done _ _ _ _ c.fit-answer.ensures c.if-answer-ne0.true
 
 pub put_numbers-requires : goal.put_numbers-requires
 put_numbers-requires c =
@@ -89,4 +89,4 @@ pub shape_of-results : goal.shape_of-results
 shape_of-results c = c.put_numbers.auto.out
 
 pub returns : goal.returns
-returns c = fitted-done _ _ _ _ c.fit-answer.ensures _ c.if-answer-ne0.false c.put_numbers.ensures
+returns c = fitted_done _ _ _ _ c.fit-answer.ensures _ c.if-answer-ne0.false c.put_numbers.ensures

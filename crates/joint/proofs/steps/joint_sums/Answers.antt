@@ -4,11 +4,11 @@ use native.Mathlib.Omega.{arith}
 use lib.ListN.{length, replicate}
 use Rattle.base.specs.Number.{zero_f}
 use Rattle.base.proofs.Fills.{length_fill}
-use Rattle.layout.proofs.Inside.{mark-in}
+use Rattle.layout.proofs.Inside.{mark_in}
 use Rattle.stored.specs.Stored.{sparse}
 use Rattle.sums.proofs.Framed.{room_of}
-use Rattle.sums.proofs.Fronts.{rule-size, rule-nodes, rule-logs-long}
-use Rattle.sums.proofs.Grids.{grid_of, logs-room, logs-of, count_few, count_in_lem, power_room}
+use Rattle.sums.proofs.Fronts.{rule_size, rule_nodes, rule_logs_long}
+use Rattle.sums.proofs.Grids.{grid_of, logs_room, logs_of, count_few, count_in_lem, power_room}
 use Rattle.joint.proofs.JointSummed.{joint_made}
 use Rattle.joint.proofs.steps.joint_sums.Goals as goal
 
@@ -16,7 +16,7 @@ pub mark_row-mark-requires : goal.mark_row-mark-requires
 mark_row-mark-requires c = c.requires.roomy.lent.sizes.n_few
 
 pub mark_all-requires : goal.mark_all-requires
-mark_all-requires c = mark-in c.requires.roomy.lent.sizes c.args.r.now c.mark_row-mark.ensures c.requires.roomy.lent.rows_long
+mark_all-requires c = mark_in c.requires.roomy.lent.sizes c.args.r.now c.mark_row-mark.ensures c.requires.roomy.lent.rows_long
 
 pub u_at-u-requires : goal.u_at-u-requires
 u_at-u-requires c = (c.requires.roomy.lent.sizes.p_few, c.requires.roomy.lent.sizes.q_few)
@@ -31,7 +31,7 @@ pub xbeta_row-xbeta-requires : goal.xbeta_row-xbeta-requires
 xbeta_row-xbeta-requires c = c.requires.roomy.lent.sizes.n_few
 
 pub log_weights-requires : goal.log_weights-requires
-log_weights-requires c = logs-room _ _ (replicate 11 zero_f) c.gh_rule-rule.ensures refl
+log_weights-requires c = logs_room _ _ (replicate 11 zero_f) c.gh_rule-rule.ensures refl
 
 pub power-count-requires : goal.power-count-requires
 power-count-requires c = power_room _ _ c.args.q c.gh_rule-rule.ensures c.requires.q_bound
@@ -42,7 +42,7 @@ joint_terms-requires c = record {
       grid = grid_of _ _ 0 c.args.q _ _ _ _ c.gh_rule-rule.ensures c.requires.roomy.lent refl (omega arith) c.inverse_at-l.ensures
             c.u_at-u.ensures c.trial_u_at-trial.ensures;
       size_in_bounds = (
-          rule-logs-long _ _ c.gh_rule-rule.ensures (logs-of _ _ _ c.gh_rule-rule.ensures refl _ c.log_weights.ensures),
+          rule_logs_long _ _ c.gh_rule-rule.ensures (logs_of _ _ _ c.gh_rule-rule.ensures refl _ c.log_weights.ensures),
           count_in_lem c.args.order _ c.args.q 7000 _ c.args.t.now c.gh_rule-rule.ensures c.requires.q_bound
               c.power-count.ensures (omega arith) c.requires.roomy.lent.terms_long,
         );
@@ -71,6 +71,6 @@ returns c =
     _ _ c.requires.roomy.ready.effects c.requires.roomy.lent
     (count_few args.order _ args.q 7000 _ c.gh_rule-rule.ensures c.requires.q_bound c.power-count.ensures) c.mark_row-mark.ensures
     c.u_at-u.ensures c.trial_u_at-trial.ensures c.inverse_at-l.ensures c.xbeta_row-xbeta.ensures
-    c.inverse_phi-inv.ensures (rule-size _ _ c.gh_rule-rule.ensures) (rule-nodes _ _ c.gh_rule-rule.ensures)
-    (logs-of _ _ _ c.gh_rule-rule.ensures refl _ c.log_weights.ensures) c.log_sum.ensures c.power-count.ensures
+    c.inverse_phi-inv.ensures (rule_size _ _ c.gh_rule-rule.ensures) (rule_nodes _ _ c.gh_rule-rule.ensures)
+    (logs_of _ _ _ c.gh_rule-rule.ensures refl _ c.log_weights.ensures) c.log_sum.ensures c.power-count.ensures
     c.mark_all.ensures c.joint_terms.ensures

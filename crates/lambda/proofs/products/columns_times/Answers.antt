@@ -4,7 +4,7 @@ use Prim.Native.Nat.{◌-◌}
 use native.Mathlib.Omega.{arith}
 use Rattle.model.proofs.Shapes.{in_range_lem}
 use Rattle.lambda.proofs.ColumnPlaces.{column_rows, column_theta}
-use Rattle.lambda.proofs.Entries.{times_none, times-step, times_all}
+use Rattle.lambda.proofs.Entries.{times_none, times_step, times_all}
 use Rattle.base.proofs.Loops.{loops}
 use borrow.Author.Rules.{rules}
 use Rattle.lambda.proofs.products.columns_times.Goals as goal
@@ -43,7 +43,7 @@ loop-j-preserved c =
     let l = c.loop-j in
     let r = in_range_lem c.args.shape c.requires.shape_value.0 in
     let made = rw c.column_of-c.ensures at c.add_column.ensures in
-    (omega arith, search rules, made ∙ times-step c.args.shape c.args.theta.now c.args.u.now c.args.q l.j _ l.out r (omega arith) (omega arith) (omega (arith, l.invariant)) l.invariant.2)
+    (omega arith, search rules, made ∙ times_step c.args.shape c.args.theta.now c.args.u.now c.args.q l.j _ l.out r (omega arith) (omega arith) (omega (arith, l.invariant)) l.invariant.2)
 
 pub returns : goal.returns
 returns c = times_all _ _ _ _ _ c.args.out.now _ _ c.requires.shape_value.1 (omega arith) (omega arith) c.wipe.ensures c.loop-j.invariant.2

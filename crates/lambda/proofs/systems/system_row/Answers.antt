@@ -4,7 +4,7 @@ use native.Mathlib.Omega.{arith}
 use Rattle.model.specs.Shape.{effects_of, theta_length}
 use Rattle.model.proofs.Shapes.{in_range_lem}
 use Rattle.lambda.proofs.ColumnPlaces.{column_rows, column_theta}
-use Rattle.lambda.proofs.Entries.{system-end, system-end-one}
+use Rattle.lambda.proofs.Entries.{system_end, system_end_one}
 use Rattle.lambda.proofs.systems.system_row.Goals as goal
 
 pub offset_bounds-theta-first : goal.offset_bounds-theta-first
@@ -24,7 +24,7 @@ bounds-theta-first c =
 pub returns-then-column-eq1 : goal.returns-then-column-eq1
 returns-then-column-eq1 c =
     let r = in_range_lem c.args.shape c.requires.shape_value.0 in
-    system-end-one _ _ _ _ _ _ _ _ _ r c.column_of-column.ensures c.requires.shape_value.1 (omega arith) c.offset-o.ensures.0 c.if-column-eq1.true c.system_single.ensures
+    system_end_one _ _ _ _ _ _ _ _ _ r c.column_of-column.ensures c.requires.shape_value.1 (omega arith) c.offset-o.ensures.0 c.if-column-eq1.true c.system_single.ensures
 
 pub system_several-requires : goal.system_several-requires
 system_several-requires c =
@@ -37,4 +37,4 @@ system_several-requires c =
 pub returns : goal.returns
 returns c =
     let r = in_range_lem c.args.shape c.requires.shape_value.0 in
-    system-end _ _ _ _ _ _ _ _ _ r c.column_of-column.ensures c.requires.shape_value.1 (omega arith) c.offset-o.ensures.0 c.system_several.ensures
+    system_end _ _ _ _ _ _ _ _ _ r c.column_of-column.ensures c.requires.shape_value.1 (omega arith) c.offset-o.ensures.0 c.system_several.ensures

@@ -4,12 +4,12 @@ use Prim.Native.Nat.{◌-◌}
 use lib.ListN.{length}
 use Rattle.base.specs.List.{build}
 use Rattle.base.proofs.Fills.{build_length}
-use Rattle.linear.proofs.CrossSums.{cross-none, cross-step, cross-done}
+use Rattle.linear.proofs.CrossSums.{cross_none, cross_step, cross_done}
 use native.Mathlib.Omega.{arith}
 use Rattle.linear.proofs.crosses.crosses.Goals as goal
 
 pub loop-i-init : goal.loop-i-init
-loop-i-init c = (omega arith, omega arith, ap length c.requires.4 ∙ build_length _ _, c.requires.4 ∙ cross-none _ _ _ _ _ _ _)
+loop-i-init c = (omega arith, omega arith, ap length c.requires.4 ∙ build_length _ _, c.requires.4 ∙ cross_none _ _ _ _ _ _ _)
 
 pub offset-o-requires : goal.offset-o-requires
 offset-o-requires c = omega arith
@@ -45,7 +45,7 @@ pub loop-i-preserved : goal.loop-i-preserved
 loop-i-preserved c =
     let loop = c.loop-i in
     let added = c.add_products in
-    let turn = cross-step c.args.x.now c.args.p c.args.n c.args.w.now c.args.a c.args.b c.args.count loop.i _ _ _ loop.sums c.loop-i-test.true c.offset-o.ensures.0 refl refl loop.invariant.3 in (
+    let turn = cross_step c.args.x.now c.args.p c.args.n c.args.w.now c.args.a c.args.b c.args.count loop.i _ _ _ loop.sums c.loop-i-test.true c.offset-o.ensures.0 refl refl loop.invariant.3 in (
       omega arith,
       omega arith,
       omega arith,
@@ -56,4 +56,4 @@ pub shape_of-sums : goal.shape_of-sums
 shape_of-sums c = omega arith
 
 pub returns : goal.returns
-returns c = cross-done _ _ _ _ _ _ _ _ _ c.loop-i.invariant.3 (omega arith) (omega arith)
+returns c = cross_done _ _ _ _ _ _ _ _ _ c.loop-i.invariant.3 (omega arith) (omega arith)

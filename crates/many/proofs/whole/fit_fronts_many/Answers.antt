@@ -3,7 +3,7 @@ use Rattle.model.specs.Inputs.{inputs}
 use Rattle.jobcall.specs.Told.{buffers}
 use Rattle.many.specs.Room.{many_fronts}
 use Rattle.many.proofs.Asked.{few_few, roomy_by}
-use Rattle.many.proofs.Telling.{verdict-is, refused_told, fitted-told}
+use Rattle.many.proofs.Telling.{verdict_is, refused_told, fitted_told}
 use Rattle.many.proofs.whole.fit_fronts_many.Goals as goal
 
 pub lengths_for-lent-requires : goal.lengths_for-lent-requires
@@ -21,7 +21,7 @@ fit_each-requires c =
     roomy_by a.responses a.header a.shape
     (inputs a.theta.now a.y.now a.weights.now a.offset.now a.x.now a.starts.now a.columns.now a.values.now)
     (buffers a.rows.now a.matrices.now a.terms.now a.results.now a.counts.now) _ _
-    (verdict-is a.responses a.header.settings a.shape
+    (verdict_is a.responses a.header.settings a.shape
     (many_fronts a.header
     (inputs a.theta.now a.y.now a.weights.now a.offset.now a.x.now a.starts.now a.columns.now a.values.now)) a.rows.now
     a.matrices.now a.terms.now a.results.now a.counts.now _ _ _ c.few_of-few.ensures c.lengths_for-lent.ensures
@@ -58,7 +58,7 @@ shape_of-counts-in-Accepted c = c.fit_each.auto.counts
 pub returns-in-Accepted : goal.returns-in-Accepted
 returns-in-Accepted c =
     let a = c.args in
-    fitted-told a.responses a.header.settings a.shape
+    fitted_told a.responses a.header.settings a.shape
     (many_fronts a.header
     (inputs a.theta.now a.y.now a.weights.now a.offset.now a.x.now a.starts.now a.columns.now a.values.now)) a.rows.now
     a.matrices.now a.terms.now a.results.now a.counts.now _ _ _ c.few_of-few.ensures c.lengths_for-lent.ensures

@@ -1,5 +1,5 @@
 -- `many::read_many` meets its contract: what reading leaves in the fronts of the slices is the job, whose own y is not looked at. Assumes nothing.
-use Rattle.jobfit.proofs.Reading.{read-refused, fronts_fit, theta_fits, read_job}
+use Rattle.jobfit.proofs.Reading.{read_refused, fronts_fit, theta_fits, read_job}
 use Rattle.many.proofs.Telling.{faulty_told, design_fronts, read_told}
 use Rattle.many.proofs.whole.read_many.Goals as goal
 
@@ -46,7 +46,7 @@ shape_of-counts-in-Refused c = c.put_refusal.auto.counts
 pub returns-in-Refused : goal.returns-in-Refused
 returns-in-Refused c =
     faulty_told _ c.args.count c.args.responses.now _ _ _ _ _ _ _ _
-    (read-refused _ _ _ _ c.requires.1 c.read_job-found.ensures _ _ c.in-Refused.is) c.put_refusal.ensures
+    (read_refused _ _ _ _ c.requires.1 c.read_job-found.ensures _ _ c.in-Refused.is) c.put_refusal.ensures
 
 pub shape_of-theta-in-Accepted : goal.shape_of-theta-in-Accepted
 shape_of-theta-in-Accepted c = c.read_job-found.auto.theta

@@ -6,7 +6,7 @@ use native.Mathlib.Omega.{arith}
 use borrow.Author.Tests.{ltb-true}
 use Rattle.base.specs.Rows.{row}
 use Rattle.layout.specs.WorkRows.{mu_row}
-use Rattle.layout.proofs.Inside.{first-eta-in, mu_in}
+use Rattle.layout.proofs.Inside.{first_eta_in, mu_in}
 use Rattle.layout.proofs.LaidOut.{lent_kept}
 use Rattle.iteration.specs.Iterated.{tries_made}
 use Rattle.pirls.proofs.Fitted.{asked_kept, begun, end_spent, end-unsolved, end-stuck, counted_fits, turn_on, end-stopped}
@@ -20,7 +20,7 @@ start_eta-requires c = (
       c.requires.asked.offset_fits,
       inr (omega (arith, c.mu_row.ensures)),
       mu_in c.requires.asked.lent.sizes c.args.r.now c.mu_row.ensures c.requires.asked.lent.rows_long,
-      first-eta-in c.requires.asked.lent.sizes c.args.r.now refl c.requires.asked.lent.rows_long,
+      first_eta_in c.requires.asked.lent.sizes c.args.r.now refl c.requires.asked.lent.rows_long,
     )
 
 pub loop-k-init : goal.loop-k-init

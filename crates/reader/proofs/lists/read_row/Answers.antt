@@ -6,15 +6,15 @@ use lib.ListN.{length, length-set}
 use Rattle.base.specs.List.{build}
 use Rattle.job.specs.Lists.{counts}
 use Rattle.job.specs.Format.{column_read, value_read}
-use Rattle.job.proofs.ListLaws.{behind-none}
-use Rattle.reader.proofs.Laying.{counts_behind, build-behind}
+use Rattle.job.proofs.ListLaws.{behind_none}
+use Rattle.reader.proofs.Laying.{counts_behind, build_behind}
 use Rattle.reader.proofs.lists.read_row.Goals as goal
 
 pub loop-j-init : goal.loop-j-init
 unfolding counts build
 loop-j-init c =
     let a = c.args in
-    (omega arith, refl, refl, behind-none a.e a.columns.now (omega arith), behind-none a.e a.values.now (omega arith))
+    (omega arith, refl, refl, behind_none a.e a.columns.now (omega arith), behind_none a.e a.values.now (omega arith))
 
 pub loop-j-preserved : goal.loop-j-preserved
 loop-j-preserved c =
@@ -23,7 +23,7 @@ loop-j-preserved c =
       simp length-set (omega arith),
       simp length-set (omega arith),
       counts_behind c.args.e (column_read c.args.s.now c.args.p) c.args.columns.now _ _ _ c.field_at-c.ensures.0 (omega arith) l.3,
-      build-behind c.args.e (value_read c.args.s.now c.args.p) c.args.values.now _ _ _ c.double_at-v.ensures (omega arith) l.4,
+      build_behind c.args.e (value_read c.args.s.now c.args.p) c.args.values.now _ _ _ c.double_at-v.ensures (omega arith) l.4,
     )
 
 pub returns : goal.returns

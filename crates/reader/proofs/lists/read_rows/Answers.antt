@@ -11,7 +11,7 @@ use Rattle.base.proofs.Fills.{build_length}
 use Rattle.job.specs.Lists.{counts, join_to, laid}
 use Rattle.job.specs.Format.{short, row_at, start_of, column_read, value_read}
 use Rattle.job.specs.Job.{columns_of, values_of}
-use Rattle.job.proofs.ListLaws.{counts_none, counts_step, counts_length_lem, behind-length}
+use Rattle.job.proofs.ListLaws.{counts_none, counts_step, counts_length_lem, behind_length}
 use Rattle.reader.proofs.RowReads.{row_fits, at_step, e_step, columns_step, values_step, join_none}
 use Rattle.reader.proofs.lists.read_rows.Goals.{In-loop-r}
 use Rattle.reader.proofs.lists.read_rows.Goals as goal
@@ -69,10 +69,10 @@ loop-r-preserved c =
       e_step a.s.now _ _ _ _ l.1 n l.2,
       simp length-set (omega arith),
       rw w.0
-          (behind-length at.e k (counts (column_read a.s.now at.at) k) at.columns (counts_length_lem (column_read a.s.now at.at) k)
+          (behind_length at.e k (counts (column_read a.s.now at.at) k) at.columns (counts_length_lem (column_read a.s.now at.at) k)
           (omega (arith, fits.1, n, l.4)) ∙ l.4),
       rw w.1
-          (behind-length at.e k (build (value_read a.s.now at.at) k) at.values (build_length (value_read a.s.now at.at) k)
+          (behind_length at.e k (build (value_read a.s.now at.at) k) at.values (build_length (value_read a.s.now at.at) k)
           (omega (arith, fits.1, n, l.5)) ∙ l.5),
       counts_step (start_of a.s.now) _ _ _ _ l.2 (omega arith) l.6,
       columns_step a.s.now _ _ _ _ _ _ _ l.1 n l.2 l.7 w.0,

@@ -1,7 +1,7 @@
 -- `respond::put_flat` meets its contract: the parts are the lists that stand there. Assumes nothing.
 use native.Mathlib.Omega.{arith}
 use Rattle.jobfit.proofs.Lent.{cells_few}
-use Rattle.respond.proofs.Found.{lists-few, flat_written}
+use Rattle.respond.proofs.Found.{lists_few, flat_written}
 use Rattle.respond.proofs.flat.put_flat.Goals as goal
 
 pub overflow_mul-cells : goal.overflow_mul-cells
@@ -212,7 +212,7 @@ slice_bounds-put_answer-end-9 c = omega (arith, c.requires.2)
 pub put_answer-requires : goal.put_answer-requires
 put_answer-requires c = (
       c.requires.0,
-      lists-few c.args.settings.n c.args.settings.p c.args.settings.rows c.args.results.now c.requires.1.n
+      lists_few c.args.settings.n c.args.settings.p c.args.settings.rows c.args.results.now c.requires.1.n
           c.requires.1.p c.requires.1.q c.requires.2,
     )
 

@@ -1,6 +1,6 @@
 -- `respond::respond_with` meets its contract: what reading leaves in the fronts of the slices is the job. Assumes nothing.
 use native.Mathlib.Omega.{arith}
-use Rattle.jobfit.proofs.Reading.{read-refused, fronts_fit, theta_fits, read_job}
+use Rattle.jobfit.proofs.Reading.{read_refused, fronts_fit, theta_fits, read_job}
 use Rattle.respond.proofs.Telling.{refused_response, called_response}
 use Rattle.respond.proofs.whole.respond_with.Goals as goal
 
@@ -15,7 +15,7 @@ answer_read-requires c = (c.requires.0, fronts_fit _ _ _ _ c.requires.1 c.read_j
 
 pub returns-in-Refused : goal.returns-in-Refused
 returns-in-Refused c =
-    refused_response _ _ _ _ _ _ _ (read-refused _ _ _ _ c.requires.1 c.read_job-found.ensures _ _ c.in-Refused.is)
+    refused_response _ _ _ _ _ _ _ (read_refused _ _ _ _ c.requires.1 c.read_job-found.ensures _ _ c.in-Refused.is)
     c.refused_line.ensures
 
 pub shape_of-theta-in-Accepted : goal.shape_of-theta-in-Accepted

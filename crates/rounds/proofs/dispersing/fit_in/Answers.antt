@@ -3,7 +3,7 @@ use mathlib.Core.Path.{sym, ◌∙◌}
 use Rattle.stored.specs.Stored.{sparse}
 use Rattle.rule.specs.Given.{design_of, given_of}
 use Rattle.rule.specs.Run.{start_means}
-use Rattle.rounds.proofs.Ends.{free-left, fixed_left}
+use Rattle.rounds.proofs.Ends.{free_left, fixed_left}
 use Rattle.rounds.proofs.dispersing.fit_in.Goals as goal
 
 pub returns-then-uses_dispersion : goal.returns-then-uses_dispersion
@@ -13,7 +13,7 @@ returns-then-uses_dispersion c =
     given_of args.family args.link args.y.now args.weights.now
     (design_of args.n args.p args.shape args.theta.now args.offset.now args.x.now
     (sparse args.starts.now args.columns.now args.values.now)) in
-    free-left given (start_means args.start given) args.wish args.limit _ _ _ _ _ _ _
+    free_left given (start_means args.start given) args.wish args.limit _ _ _ _ _ _ _
     (sym c.uses_dispersion.ensures ∙ c.if-uses_dispersion.true) c.dispersed_fit.ensures
 
 pub returns : goal.returns

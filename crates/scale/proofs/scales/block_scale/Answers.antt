@@ -2,7 +2,7 @@
 use mathlib.Core.Path.{refl}
 use Rattle.layout.proofs.Bounds.{square_few}
 use Rattle.scale.proofs.SectionCopied.{square_within}
-use Rattle.scale.proofs.ScaleFound.{no-inverse, no_factor, scale_found}
+use Rattle.scale.proofs.ScaleFound.{no_inverse, no_factor, scale_found}
 use native.Mathlib.Omega.{arith}
 use Rattle.scale.proofs.scales.block_scale.Goals as goal
 
@@ -41,7 +41,7 @@ slice_bounds-ldl-end-2 c = omega (arith, c.requires.terms, square_within c.args.
 pub returns-in-Bad : goal.returns-in-Bad
 returns-in-Bad c =
     let args = c.args in
-    no-inverse args.q args.s args.k _ _ args.m.now _ args.t.now _ _ c.inverse_at-place.ensures refl
+    no_inverse args.q args.s args.k _ _ args.m.now _ args.t.now _ _ c.inverse_at-place.ensures refl
     (omega (arith, c.requires.matrices, square_within args.q args.s args.k c.requires.within, c.inverse_at-place.ensures))
     (omega (arith, c.requires.terms, square_within args.q args.s args.k c.requires.within)) c.section_into.ensures
     c.ldl-factored.auto.out c.ldl-factored.ensures _ c.in-Bad.is

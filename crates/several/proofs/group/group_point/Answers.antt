@@ -5,7 +5,7 @@ use native.Mathlib.Omega.{arith}
 use Rattle.base.proofs.Rows.{part_is}
 use Rattle.stored.specs.Stored.{sparse}
 use Rattle.agq.specs.Gained.{gain_in}
-use Rattle.several.proofs.Terms.{group-made}
+use Rattle.several.proofs.Terms.{group_made}
 use Rattle.several.proofs.group.group_point.Goals as goal
 
 pub overflow_add-at : goal.overflow_add-at
@@ -59,7 +59,7 @@ log_weight-weight-requires c = (c.requires.grid.some, c.requires.size_in_bounds)
 pub returns : goal.returns
 returns c =
     let a = c.args in
-    group-made
+    group_made
     (gain_in a.family a.link a.shape a.theta.now (sparse a.starts.now a.columns.now a.values.now) a.y.now a.weights.now
     a.offset.now a.n a.q a.xbeta a.r.now) a.n a.q a.xbeta a.s a.k a.size a.l a.u a.trial a.point a.nodes.now
     a.node-logs.now a.inv-phi a.r.now _ a.m.now _ c.requires.grid _ c.trial_gain-dd.ensures _ _ _ _ _

@@ -2,7 +2,7 @@
 use mathlib.Core.Path.{refl, ◌∙◌}
 use native.Mathlib.Omega.{arith}
 use Rattle.stored.specs.Stored.{sparse}
-use Rattle.several.proofs.Trials.{room_kept, move_asked, trial-made}
+use Rattle.several.proofs.Trials.{room_kept, move_asked, trial_made}
 use Rattle.several.proofs.trial.trial_gain.Goals as goal
 
 pub overflow_add-z : goal.overflow_add-z
@@ -29,7 +29,7 @@ point_gain-requires c =
 pub returns : goal.returns
 returns c =
     let a = c.args in
-    trial-made a.q a.s a.k a.size a.l a.u a.trial a.point a.nodes.now a.m.now _ _ c.requires.grid
+    trial_made a.q a.s a.k a.size a.l a.u a.trial a.point a.nodes.now a.m.now _ _ c.requires.grid
     c.point_nodes.ensures c.move_effects.ensures a.family a.link a.shape a.theta.now
     (sparse a.starts.now a.columns.now a.values.now) a.y.now a.weights.now a.offset.now a.n a.xbeta a.r.now _ _ _
     c.point_gain.ensures

@@ -2,7 +2,7 @@
 use mathlib.Core.Path.{refl}
 use native.Mathlib.Omega.{arith}
 use Rattle.base.proofs.Rows.{part_is, front_is}
-use Rattle.solve.proofs.FactoredSystem.{system-made}
+use Rattle.solve.proofs.FactoredSystem.{system_made}
 use borrow.Author.Rules.{rules}
 use Rattle.solve.proofs.systems.factor_system.Goals as goal
 
@@ -15,4 +15,4 @@ system-requires c = record {
 pub returns : goal.returns
 returns c =
     rw (← part_is c.args.w c.args.n _ c.args.t.now refl)
-    (system-made c.args.n c.args.q c.args.shape c.args.theta.now _ _ _ _ _ _ _ _ _ _ _ _ c.requires.ready.effects (omega (arith, c.requires.q_bound)) c.requires.q_bound.2 c.ztwz.ensures (front_is _ _) c.right_columns.ensures (front_is _ _) c.system.ensures (front_is _ _) c.ldl.ensures)
+    (system_made c.args.n c.args.q c.args.shape c.args.theta.now _ _ _ _ _ _ _ _ _ _ _ _ c.requires.ready.effects (omega (arith, c.requires.q_bound)) c.requires.q_bound.2 c.ztwz.ensures (front_is _ _) c.right_columns.ensures (front_is _ _) c.system.ensures (front_is _ _) c.ldl.ensures)

@@ -4,7 +4,7 @@ use Prim.Native.Nat.{◌-◌}
 use native.Mathlib.Omega.{arith}
 use lib.ListN.{length, length-set}
 use Rattle.stored.specs.Marks.{lowered}
-use Rattle.stored.proofs.Apart.{lowered_none, lowered-step}
+use Rattle.stored.proofs.Apart.{lowered_none, lowered_step}
 use Rattle.stored.proofs.marks.lower_marks.Goals as goal
 
 pub loop-k-init : goal.loop-k-init
@@ -31,7 +31,7 @@ loop-k-smaller c = omega arith
 pub loop-k-preserved : goal.loop-k-preserved
 loop-k-preserved c =
     let inv = c.loop-k.invariant in
-    (omega arith, omega arith, inv.2, simp length-set (omega arith), simp length-set (omega arith), rw c.lesser_mark-mark.ensures (lowered-step _ _ _ _ _ _ inv.0 inv.5))
+    (omega arith, omega arith, inv.2, simp length-set (omega arith), simp length-set (omega arith), rw c.lesser_mark-mark.ensures (lowered_step _ _ _ _ _ _ inv.0 inv.5))
 
 pub shape_of-marks : goal.shape_of-marks
 shape_of-marks c = omega arith

@@ -2,13 +2,13 @@
 use mathlib.Core.Path.{refl, ◌∙◌}
 use Prim.Native.Nat.{◌-◌}
 use Rattle.stored.specs.Stored.{sparse}
-use Rattle.stored.proofs.Symmetry.{leading-none, leading_step, leading_end}
+use Rattle.stored.proofs.Symmetry.{leading_none, leading_step, leading_end}
 use Rattle.stored.proofs.Apart.{itself, others, lesser_below, marked_none, marked_step, marked_apart}
 use native.Mathlib.Omega.{arith}
 use Rattle.stored.proofs.weighted.ztwz.Goals as goal
 
 pub loop-a-init : goal.loop-a-init
-loop-a-init c = (omega arith, omega arith, leading-none _ _ _, marked_none _ _ _ refl, marked_none _ _ _ refl)
+loop-a-init c = (omega arith, omega arith, leading_none _ _ _, marked_none _ _ _ refl, marked_none _ _ _ refl)
 
 pub offset_bounds-starts-a : goal.offset_bounds-starts-a
 offset_bounds-starts-a c = omega arith

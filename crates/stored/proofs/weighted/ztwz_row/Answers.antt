@@ -2,7 +2,7 @@
 use Prim.Native.Nat.{◌-◌}
 use lib.ListN.{length, length-set}
 use Rattle.stored.specs.Stored.{sparse}
-use Rattle.stored.proofs.Symmetry.{ztwz_symmetric, border-none, border-step, border-end}
+use Rattle.stored.proofs.Symmetry.{ztwz_symmetric, border_none, border_step, border_end}
 use native.Mathlib.Omega.{arith}
 use Rattle.stored.proofs.weighted.ztwz_row.Goals as goal
 
@@ -10,7 +10,7 @@ pub offset-ao-requires : goal.offset-ao-requires
 offset-ao-requires c = omega arith
 
 pub loop-b-init : goal.loop-b-init
-loop-b-init c = (omega arith, omega arith, border-none _ _ _ _)
+loop-b-init c = (omega arith, omega arith, border_none _ _ _ _)
 
 pub offset-bo-requires : goal.offset-bo-requires
 offset-bo-requires c = omega arith
@@ -47,10 +47,10 @@ pub loop-b-smaller : goal.loop-b-smaller
 loop-b-smaller c = omega arith
 
 pub loop-b-preserved : goal.loop-b-preserved
-loop-b-preserved c = (omega arith, simp length-set (omega arith), border-step _ _ _ _ _ _ _ _ _ c.offset-ao.ensures.0 c.offset-bo.ensures.0 c.ztwz_entry-sum.ensures c.requires.a_lt_rows.0 c.loop-b-test.true c.requires.a_lt_rows.2 (ztwz_symmetric (sparse c.args.starts.now c.args.columns.now c.args.values.now) c.args.n c.args.w.now _ _) c.loop-b.invariant.2)
+loop-b-preserved c = (omega arith, simp length-set (omega arith), border_step _ _ _ _ _ _ _ _ _ c.offset-ao.ensures.0 c.offset-bo.ensures.0 c.ztwz_entry-sum.ensures c.requires.a_lt_rows.0 c.loop-b-test.true c.requires.a_lt_rows.2 (ztwz_symmetric (sparse c.args.starts.now c.args.columns.now c.args.values.now) c.args.n c.args.w.now _ _) c.loop-b.invariant.2)
 
 pub shape_of-out : goal.shape_of-out
 shape_of-out c = omega arith
 
 pub returns : goal.returns
-returns c = border-end _ _ _ _ _ _ c.loop-b.invariant.0 c.loop-b-test.false c.loop-b.invariant.2
+returns c = border_end _ _ _ _ _ _ c.loop-b.invariant.0 c.loop-b-test.false c.loop-b.invariant.2

@@ -1,7 +1,7 @@
 -- `sums::one_group` meets its contract: the test of the diagonal entry is the rule's, and so is the sum.
 use Rattle.stored.specs.Stored.{sparse}
 use Rattle.sums.proofs.Framed.{square_in}
-use Rattle.sums.proofs.OneSummed.{group-declined, group-summed}
+use Rattle.sums.proofs.OneSummed.{group_declined, group_summed}
 use Rattle.sums.proofs.one.one_group.Goals as goal
 
 pub one_sigma-requires : goal.one_sigma-requires
@@ -16,7 +16,7 @@ one_sums-requires c = record {
 pub returns-in-NoSigma : goal.returns-in-NoSigma
 returns-in-NoSigma c =
     let args = c.args in
-    group-declined args.family args.link args.shape args.theta.now (sparse args.starts.now args.columns.now args.values.now)
+    group_declined args.family args.link args.shape args.theta.now (sparse args.starts.now args.columns.now args.values.now)
     args.y.now args.weights.now args.offset.now args.n args.p args.q args.order args.g args.phi _ _ _ _
     c.requires.roomy.ready.effects c.one_sigma.ensures _ c.in-NoSigma.is
 
@@ -32,6 +32,6 @@ shape_of-t c = c.one_sums.ensures.frame.terms_only.len
 pub returns-in-Sigma : goal.returns-in-Sigma
 returns-in-Sigma c =
     let args = c.args in
-    group-summed args.family args.link args.shape args.theta.now (sparse args.starts.now args.columns.now args.values.now)
+    group_summed args.family args.link args.shape args.theta.now (sparse args.starts.now args.columns.now args.values.now)
     args.y.now args.weights.now args.offset.now args.n args.p args.q args.order args.g args.phi _ _ _ _
     c.requires.roomy.ready.effects c.one_sigma.ensures _ _ _ _ _ c.in-Sigma.is c.one_sums.ensures

@@ -3,11 +3,11 @@ use mathlib.Core.Path.{◌∙◌, ap}
 use native.Mathlib.Omega.{arith}
 use lib.ListN.{length}
 use Rattle.base.proofs.Fills.{length_fillat, length_fill}
-use Rattle.layout.proofs.Inside.{mark-in, trial-u-in}
+use Rattle.layout.proofs.Inside.{mark_in, trial_u_in}
 use Rattle.stored.specs.Stored.{sparse}
 use Rattle.sums.proofs.Framed.{hats_before, room_of}
-use Rattle.sums.proofs.Fronts.{rule-size, rule-nodes, rule-nodes-long, rule-logs-long, rule-in}
-use Rattle.sums.proofs.OneSummed.{one-made}
+use Rattle.sums.proofs.Fronts.{rule_size, rule_nodes, rule_nodes_long, rule_logs_long, rule_in}
+use Rattle.sums.proofs.OneSummed.{one_made}
 use Rattle.sums.proofs.one.one_sums.Goals as goal
 
 pub mark_row-mark-requires : goal.mark_row-mark-requires
@@ -18,7 +18,7 @@ mark_group-requires c = record {
       rows = c.requires.roomy.ready.rows;
       k_bound = (
         omega (arith, c.requires.g_lt_q.0),
-        mark-in c.requires.roomy.lent.sizes c.args.r.now c.mark_row-mark.ensures c.requires.roomy.lent.rows_long,
+        mark_in c.requires.roomy.lent.sizes c.args.r.now c.mark_row-mark.ensures c.requires.roomy.lent.rows_long,
       );
     }
 
@@ -31,7 +31,7 @@ trial_u_at-trial-requires c = (c.requires.roomy.lent.sizes.p_few, c.requires.roo
 pub copy_row-requires : goal.copy_row-requires
 copy_row-requires c = (
       hats_before c.args.p c.args.q _ _ c.u_at-u.ensures c.trial_u_at-trial.ensures,
-      trial-u-in c.requires.roomy.lent.sizes c.args.m.now c.trial_u_at-trial.ensures c.requires.roomy.lent.matrices_long,
+      trial_u_in c.requires.roomy.lent.sizes c.args.m.now c.trial_u_at-trial.ensures c.requires.roomy.lent.matrices_long,
     )
 
 pub xbeta_row-xbeta-requires : goal.xbeta_row-xbeta-requires
@@ -44,16 +44,16 @@ one_terms-requires c = record {
       g_lt_q = (
         c.requires.g_lt_q.0,
         hats_before c.args.p c.args.q _ _ c.u_at-u.ensures c.trial_u_at-trial.ensures,
-        rule-nodes-long _ _ c.gh_rule-rule.ensures,
-        rule-logs-long _ _ c.gh_rule-rule.ensures c.requires.g_lt_q.1,
-        rule-in _ _ c.gh_rule-rule.ensures c.args.t.now c.requires.roomy.lent.terms_long,
+        rule_nodes_long _ _ c.gh_rule-rule.ensures,
+        rule_logs_long _ _ c.gh_rule-rule.ensures c.requires.g_lt_q.1,
+        rule_in _ _ c.gh_rule-rule.ensures c.args.t.now c.requires.roomy.lent.terms_long,
       );
     }
 
 pub log_sum-requires : goal.log_sum-requires
 log_sum-requires c =
     rw (ap length c.one_terms.ensures.terms ∙ length_fill _ _ _)
-    (rule-in _ _ c.gh_rule-rule.ensures c.args.t.now c.requires.roomy.lent.terms_long)
+    (rule_in _ _ c.gh_rule-rule.ensures c.args.t.now c.requires.roomy.lent.terms_long)
 
 pub shape_of-r : goal.shape_of-r
 shape_of-r c = c.one_terms.ensures.in_r.len ∙ c.mark_group.ensures.only.len
@@ -67,9 +67,9 @@ shape_of-t c = ap length c.one_terms.ensures.terms ∙ length_fill _ _ _
 pub returns : goal.returns
 returns c =
     let args = c.args in
-    one-made args.family args.link args.shape args.theta.now (sparse args.starts.now args.columns.now args.values.now) args.y.now
+    one_made args.family args.link args.shape args.theta.now (sparse args.starts.now args.columns.now args.values.now) args.y.now
     args.weights.now args.offset.now args.n args.p args.q args.order args.g args.sigma args.phi _ _ _ _ _ _ _ _ _ _ _ _ _ _ _ _ _
     c.requires.roomy.ready.effects c.requires.roomy.lent c.requires.g_lt_q.0 c.mark_row-mark.ensures c.mark_group.ensures
     c.u_at-u.ensures c.trial_u_at-trial.ensures c.copy_row.ensures c.xbeta_row-xbeta.ensures c.inverse_phi-inv.ensures
-    (rule-size _ _ c.gh_rule-rule.ensures) (rule-nodes _ _ c.gh_rule-rule.ensures) c.requires.g_lt_q.1 c.one_terms.ensures
+    (rule_size _ _ c.gh_rule-rule.ensures) (rule_nodes _ _ c.gh_rule-rule.ensures) c.requires.g_lt_q.1 c.one_terms.ensures
     c.log_sum.ensures

@@ -4,14 +4,14 @@ use native.Mathlib.Omega.{arith}
 use Rattle.model.proofs.Sized.{sized}
 use Rattle.table.specs.Tests.{all_in_range, start_fits}
 use Rattle.table.proofs.Meant.{count_fits, inputs_fit}
-use Rattle.table.proofs.Accepting.{line-1, line_8, line-2-inputs, line-2-results, line-7, line-6, line-3, line-4, line-9, line-27, past-lines}
+use Rattle.table.proofs.Accepting.{line_1, line_8, line-2-inputs, line-2-results, line-7, line-6, line-3, line-4, line-9, line-27, past-lines}
 use Rattle.table.proofs.verdicts.verdict_of.Goals as goal
 
 pub sizes_ok-requires : goal.sizes_ok-requires
 sizes_ok-requires c = omega arith
 
 pub returns-then-not-sizes_ok : goal.returns-then-not-sizes_ok
-returns-then-not-sizes_ok c = sym (line-1 _ _ _ _ _ (sym c.sizes_ok.ensures ∙ c.if-not-sizes_ok.true))
+returns-then-not-sizes_ok c = sym (line_1 _ _ _ _ _ (sym c.sizes_ok.ensures ∙ c.if-not-sizes_ok.true))
 
 pub count_ok-requires : goal.count_ok-requires
 count_ok-requires c = omega arith

@@ -1,10 +1,10 @@
 -- `tries::one_try` meets its contract: the passes wrote the candidate and its means, and their answers are the rule's three tests.
-use Rattle.tries.proofs.Tried.{eta-refused, mean_refused, pwrss-refused, try-accepted}
+use Rattle.tries.proofs.Tried.{eta_refused_lem, mean_refused, pwrss-refused, try-accepted}
 use Rattle.tries.proofs.search.one_try.Goals as goal
 
 pub returns-then-not-fine_etas : goal.returns-then-not-fine_etas
 returns-then-not-fine_etas c =
-    eta-refused _ _ _ _ _ _ c.requires.next_mu c.requires.next_in c.requires.mu_in c.candidate.ensures _ c.fine_etas.ensures
+    eta_refused_lem _ _ _ _ _ _ c.requires.next_mu c.requires.next_in c.requires.mu_in c.candidate.ensures _ c.fine_etas.ensures
     c.if-not-fine_etas.true
 
 pub returns-then-not-finite_row : goal.returns-then-not-finite_row
