@@ -1,4 +1,3 @@
 -- The laws of the bits of a list. Assumes nothing.
 pub mod BitLaws
 pub mod ByteLaws
-pub mod Fields

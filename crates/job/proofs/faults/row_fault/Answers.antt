@@ -11,7 +11,7 @@ use Rattle.job.proofs.faults.row_fault.Goals as goal
 -- what the test of the two bytes showed
 fine : (c : Else-not-ok) → is_sound (pair_fault c.args.s.now c.args.p 3) ≡ true
 fine c =
-    let e : is_sound c.pair_fault-f.result ≡ true = sym c.is_sound-ok.ensures ∙ not-false _ c.if-not-ok.false in
+    let e : is_sound c.pair_fault-f.result ≡ true = sym c.is_sound-ok.ensures ∙ c.if-not-ok.false in
     rw c.pair_fault-f.ensures at e
 
 pub returns-then-not-ok : goal.returns-then-not-ok
