@@ -5,13 +5,14 @@ ghost use Rattle.std.specs.Prelude.{◌≤◌, length};
 ghost use Rattle.fitjob.specs.Input.{held_of, Printed};
 
 use intake::{Input, Step};
+use std::io::Read;
 
 // After a full space: whether the input ends there.
-fn read_past(room: usize) -> Input
+fn read_past<R: Read>(from: &mut R, room: usize) -> Input
     ensures { held_of result ≤ room }
 {
     let mut one = [0u8; 1];
-    let got = libc::read(0, &mut one);
+    let got = intake::read_some(from, &mut one);
     match intake::after_read(room, room, got) {
         Step::More(_) => Input::TooLong,
         Step::Ended(input) => input,
@@ -19,19 +20,19 @@ fn read_past(room: usize) -> Input
 }
 
 // Reads until the input ends, fails, or goes on behind a full space.
-fn read_input(space: &mut [u8]) -> Input
+fn read_input<R: Read>(from: &mut R, space: &mut [u8]) -> Input
     ensures { held_of result ≤ length space.old }
 {
     let end = space.len();
     let mut at = 0;
     while at < end {
-        let got = libc::read(0, &mut space[at..end]);
+        let got = intake::read_some(from, &mut space[at..end]);
         match intake::after_read(end, at, got) {
             Step::More(n) => at = n,
             Step::Ended(input) => return input,
         }
     }
-    read_past(end)
+    read_past(from, end)
 }
 
 // What is to be printed of an input: it stands in the front of out, and its length is told.
@@ -64,11 +65,12 @@ fn put_fault(input: Input) {
     }
 }
 
-fn main() {
+fn main(rt: HostRuntime) {
     let mut space = [0u8; 65536];
     let mut terms = [0.0; 7000];
     let mut out = [0u8; 131072];
-    let input = read_input(&mut space);
+    let mut from = rt.stdin();
+    let input = read_input(&mut from, &mut space);
     put_fault(input);
     let n = answer(input, &space, &mut terms, &mut out);
     put(&out[0..n]);

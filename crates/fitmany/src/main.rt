@@ -9,15 +9,16 @@ ghost use Rattle.fitmany.specs.Held.{held_of};
 
 use intake::{Input, Step};
 use manytext::Pieces;
+use std::io::Read;
 
 // Reads until the input ends or fails, or the space is full: what stands behind it changes nothing (`manytext`'s law `room_enough`).
-fn read_input(space: &mut [u8]) -> Input
+fn read_input<R: Read>(from: &mut R, space: &mut [u8]) -> Input
     ensures { held_of result ≤ length space.old }
 {
     let end = space.len();
     let mut at = 0;
     while at < end {
-        let got = libc::read(0, &mut space[at..end]);
+        let got = intake::read_some(from, &mut space[at..end]);
         match intake::after_read(end, at, got) {
             Step::More(n) => at = n,
             Step::Ended(input) => return input,
@@ -76,8 +77,9 @@ fn answer_held(input: Input, space: &[u8])
     }
 }
 
-fn main() {
+fn main(rt: HostRuntime) {
     let mut space = [0u8; 331779];
-    let input = read_input(&mut space);
+    let mut from = rt.stdin();
+    let input = read_input(&mut from, &mut space);
     answer_held(input, &space);
 }

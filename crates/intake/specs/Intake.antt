@@ -1,5 +1,5 @@
 -- What one read of an input leads to. Document 01, "The job and the program": one job from standard input into an array of 65,536 bytes. Assumes nothing.
-use Rattle.std.specs.Prelude.{cond, ℕ, ◌+◌, eqb, leb, ℤ, pos, negsuc}
+use Rattle.std.specs.Prelude.{◌≡◌, cond, ℕ, ◌+◌, ◌≤◌, eqb, leb, ℤ, pos, negsuc}
 use Rattle.intake.specs.declared.Input.TheVariants.{Held, TooLong, Failed}
 use Rattle.intake.specs.declared.Step.{Step}
 use Rattle.intake.specs.declared.Step.TheVariants.{More, Ended}
@@ -12,3 +12,8 @@ after_bytes room held n = cond (eqb n 0) (Ended (Held held)) (cond (leb (held + 
 unfoldable pub after_read : (room held : ℕ) → ℤ → Step
 after_read room held (negsuc k) = Ended Failed
 after_read room held (pos n) = after_bytes room held n
+
+-- of a read into a space of so many bytes: -1, or no more bytes than these
+abbrev pub Brought : (room : ℕ) → ℤ → Type 0
+Brought room (pos n) = n ≤ room
+Brought room (negsuc k) = k ≡ 0

@@ -1,8 +1,10 @@
 // Reading an input of unknown length into a space: what one read leads to.
 #![tactic(auto)]
 
-ghost use Rattle.std.specs.Prelude.{◌≡◌, pos, ◌≤ℤ◌};
-ghost use Rattle.intake.specs.Intake.{after_bytes, after_read};
+ghost use Rattle.std.specs.Prelude.{◌≡◌, pos, ◌≤ℤ◌, length};
+ghost use Rattle.intake.specs.Intake.{after_bytes, after_read, Brought};
+
+use std::io::Read;
 
 // What an input came to: it ended behind so many bytes, it goes on behind a full space, or it could not be read.
 #[derive(Clone, Copy)]
@@ -54,4 +56,14 @@ pub fn after_read(room: usize, held: usize, got: isize) -> Step
     }
     let n = bytes_of(got);
     after_bytes(room, held, n)
+}
+
+// One read into a space, as `after_read` takes its answer: how many bytes it brought, or -1 where it failed.
+pub fn read_some<R: Read>(from: &mut R, space: &mut [u8]) -> isize
+    ensures { Brought (length space.old) result }
+{
+    match from.read(space) {
+        Ok(n) => n as isize,
+        Err(_) => -1,
+    }
 }
