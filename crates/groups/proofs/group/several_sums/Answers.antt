@@ -43,17 +43,17 @@ power-count-requires c = power_room _ _ c.args.k c.gh_rule-rule.ensures (omega (
 
 pub group_terms-requires : goal.group_terms-requires
 group_terms-requires c =
-    let pre = c.requires in
+    
     record {
-      room = room_of _ _ pre.0 c.xbeta_row-xbeta.ensures c.trial_u_at-trial.ensures c.mark_group.ensures.only.len
+      room = room_of _ _ c.requires.roomy c.xbeta_row-xbeta.ensures c.trial_u_at-trial.ensures c.mark_group.ensures.only.len
           (ap length c.copy_row.ensures ∙ length_fillat _ _ _ _);
-      grid = grid_of _ _ c.args.s c.args.k _ _ _ _ c.gh_rule-rule.ensures pre.0.lent
-            (ap length c.copy_row.ensures ∙ length_fillat _ _ _ _) pre.1.0 c.inverse_at-l.ensures c.u_at-u.ensures
+      grid = grid_of _ _ c.args.s c.args.k _ _ _ _ c.gh_rule-rule.ensures c.requires.roomy.lent
+            (ap length c.copy_row.ensures ∙ length_fillat _ _ _ _) c.requires.k_bound.0 c.inverse_at-l.ensures c.u_at-u.ensures
             c.trial_u_at-trial.ensures;
       size_in_bounds = (
-          rule_logs_long _ _ c.gh_rule-rule.ensures pre.1.2,
-          count_in_lem c.args.order _ c.args.k 400 _ c.args.t.now c.gh_rule-rule.ensures pre.1.1
-              c.power-count.ensures (omega arith) pre.0.lent.terms_long,
+          rule_logs_long _ _ c.gh_rule-rule.ensures c.requires.k_bound.2,
+          count_in_lem c.args.order _ c.args.k 400 _ c.args.t.now c.gh_rule-rule.ensures c.requires.k_bound.1
+              c.power-count.ensures (omega arith) c.requires.roomy.lent.terms_long,
         );
     }
 

@@ -30,21 +30,21 @@ solved_at-requires c = c.requires.work_room.sizes.q_few
 
 pub solve_u-requires : goal.solve_u-requires
 solve_u-requires c =
-    let pre = c.requires in (
-      wy_in pre.1.0.sizes c.args.m.now c.wy_at.ensures pre.1.0.matrices_long,
-      solved_in pre.1.0.sizes c.args.m.now c.solved_at.ensures pre.1.0.matrices_long,
-      beta_in pre.1.0.sizes c.args.m.now c.beta_at-beta.ensures pre.1.0.matrices_long,
-      omega (arith, spare_in pre.1.0.sizes c.args.t.now c.spare_at-spare.ensures pre.1.0.terms_long),
+    (
+      wy_in c.requires.work_room.sizes c.args.m.now c.wy_at.ensures c.requires.work_room.matrices_long,
+      solved_in c.requires.work_room.sizes c.args.m.now c.solved_at.ensures c.requires.work_room.matrices_long,
+      beta_in c.requires.work_room.sizes c.args.m.now c.beta_at-beta.ensures c.requires.work_room.matrices_long,
+      omega (arith, spare_in c.requires.work_room.sizes c.args.t.now c.spare_at-spare.ensures c.requires.work_room.terms_long),
     )
 
 pub effects_into-requires : goal.effects_into-requires
 effects_into-requires c =
-    let pre = c.requires in
+    
     record {
-      shape_value = (pre.0.good, pre.0.effects, pre.0.numbers);
+      shape_value = (c.requires.ready.good, c.requires.ready.effects, c.requires.ready.numbers);
       q_in_bounds = (
-        omega (arith, pre.1.0.terms_long, (laid_out pre.1.0.sizes).terms, c.spare_at-spare.ensures, TURN.solve_u.auto),
-        omega (arith, pre.1.0.matrices_long, (laid_out pre.1.0.sizes).matrices, c.u_at-u.ensures),
+        omega (arith, c.requires.work_room.terms_long, (laid_out c.requires.work_room.sizes).terms, c.spare_at-spare.ensures),
+        omega (arith, c.requires.work_room.matrices_long, (laid_out c.requires.work_room.sizes).matrices, c.u_at-u.ensures),
       );
     }
 
@@ -57,7 +57,6 @@ zb_into-requires c = record {
           c.requires.work_room.matrices_long,
           (laid_out c.requires.work_room.sizes).matrices,
           c.b_at-b.ensures,
-          TURN.effects_into.auto,
         ),
         omega (arith, c.requires.work_room.rows_long, (laid_out c.requires.work_room.sizes).rows, c.raw_row-raw.ensures),
       );
@@ -77,35 +76,33 @@ slice_bounds-raw_row-end c =
     omega (
       arith,
       beta_in c.requires.work_room.sizes c.args.m.now c.beta_at-beta.ensures c.requires.work_room.matrices_long,
-      TURN.effects_into.auto,
     )
 
 pub offset_bounds-r-raw : goal.offset_bounds-r-raw
 offset_bounds-r-raw c = omega (arith, row_few c.requires.work_room.sizes {k = c.raw_row-raw.result} (omega (arith, c.raw_row-raw.ensures)))
 
 pub slice_bounds-raw_row-end-2 : goal.slice_bounds-raw_row-end-2
-slice_bounds-raw_row-end-2 c = omega (arith, raw_in c.requires.work_room.sizes c.args.r.now c.raw_row-raw.ensures c.requires.work_room.rows_long, TURN.zb_into.auto)
+slice_bounds-raw_row-end-2 c = omega (arith, raw_in c.requires.work_room.sizes c.args.r.now c.raw_row-raw.ensures c.requires.work_room.rows_long)
 
 pub raw_row-requires : goal.raw_row-requires
 raw_row-requires c =
-    let pre = c.requires in (
-      pre.1.1.0,
-      pre.1.1.1,
+    (
+      c.requires.optional.0,
+      c.requires.optional.1,
       part_has _ _ _ _ refl
           (omega (
             arith,
-            beta_in pre.1.0.sizes c.args.m.now c.beta_at-beta.ensures pre.1.0.matrices_long,
-            TURN.effects_into.auto,
+            beta_in c.requires.work_room.sizes c.args.m.now c.beta_at-beta.ensures c.requires.work_room.matrices_long,
           )),
       part_has _ _ _ _ refl
-          (omega (arith, raw_in pre.1.0.sizes c.args.r.now c.raw_row-raw.ensures pre.1.0.rows_long, TURN.zb_into.auto)),
+          (omega (arith, raw_in c.requires.work_room.sizes c.args.r.now c.raw_row-raw.ensures c.requires.work_room.rows_long)),
     )
 
 pub shape_of-r : goal.shape_of-r
 shape_of-r c =
     let d = raw_row_wrote c.args.n c.args.p c.raw_row-raw.result _ c.beta_at-beta.result _ c.args.offset.now
     c.args.x.now _ _ _ refl
-    (omega (arith, raw_in c.requires.work_room.sizes c.args.r.now c.raw_row-raw.ensures c.requires.work_room.rows_long, TURN.zb_into.auto))
+    (omega (arith, raw_in c.requires.work_room.sizes c.args.r.now c.raw_row-raw.ensures c.requires.work_room.rows_long))
     refl c.raw_row.auto.out c.raw_row.ensures in
     d.only.len ∙ c.zb_into.ensures.only.len
 
@@ -119,7 +116,7 @@ pub returns : goal.returns
 returns c =
     let args = c.args in
     let d = raw_row_wrote args.n args.p c.raw_row-raw.result _ c.beta_at-beta.result _ args.offset.now args.x.now _ _ _ refl
-    (omega (arith, raw_in c.requires.work_room.sizes args.r.now c.raw_row-raw.ensures c.requires.work_room.rows_long, TURN.zb_into.auto)) refl
+    (omega (arith, raw_in c.requires.work_room.sizes args.r.now c.raw_row-raw.ensures c.requires.work_room.rows_long)) refl
     c.raw_row.auto.out c.raw_row.ensures in
     raw_laid args.n args.p args.q args.shape args.theta.now args.offset.now args.x.now _ _ _ _ _ _ _ _ c.requires.ready.effects
     c.requires.work_room _ _ _ _ _ _ _ c.wy_at.ensures c.solved_at.ensures c.beta_at-beta.ensures c.spare_at-spare.ensures

@@ -40,7 +40,6 @@ slice_bounds-solve_beta-end c =
       (laid_out c.requires.sizes).terms.normal,
       (laid_out c.requires.sizes).terms.spare,
       c.normal_at-normal.ensures,
-      TURN.factor_normal-found.auto,
     )
 
 pub solve_beta-requires : goal.solve_beta-requires

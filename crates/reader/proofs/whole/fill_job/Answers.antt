@@ -16,7 +16,7 @@ room :
     → Room
     (inputs c.args.theta.now c.args.y.now c.args.weights.now c.args.offset.now c.args.x.now c.args.starts.now
     c.args.columns.now c.args.values.now)
-room c = room_of _ c.requires.1.1
+room c = room_of _ c.requires.values_value
 
 pub read_numbers-requires : goal.read_numbers-requires
 read_numbers-requires c =

@@ -32,7 +32,6 @@ slice_bounds-ldl-end c =
       c.requires.matrices,
       square_within c.args.q c.args.s c.args.k c.requires.within,
       c.inverse_at-place.ensures,
-      TURN.section_into.auto,
     )
 
 pub slice_bounds-ldl-end-2 : goal.slice_bounds-ldl-end-2
@@ -56,7 +55,6 @@ slice_bounds-ldl_inverse-end-2 c =
       c.requires.matrices,
       square_within c.args.q c.args.s c.args.k c.requires.within,
       c.inverse_at-place.ensures,
-      TURN.section_into.auto,
     )
 
 pub slice_bounds-cholesky-end : goal.slice_bounds-cholesky-end
@@ -66,7 +64,6 @@ slice_bounds-cholesky-end c =
       c.requires.matrices,
       square_within c.args.q c.args.s c.args.k c.requires.within,
       c.inverse_at-place.ensures,
-      TURN.section_into.auto,
     )
 
 pub shape_of-m-in-Bad-rooted : goal.shape_of-m-in-Bad-rooted
