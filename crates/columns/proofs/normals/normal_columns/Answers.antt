@@ -1,32 +1,11 @@
 -- `columns::normal_columns` meets its contract: seven steps, each of which reads what earlier ones wrote and changes one piece.
-use mathlib.Core.Path.{refl, ◌∙◌}
+use mathlib.Core.Path.{◌≡◌, refl, ◌∙◌}
 use mathlib.Core.List.{List}
+use lib.ListN.{length}
 use lib.Ieee.{Float}
 use Rattle.columns.proofs.AllColumns.{Places, places_kept, placed, columns_made}
-use Rattle.columns.proofs.normals.normal_columns.Goals.{After-beta_at-beta, After-cross_into, After-cross_into-arg-1, After-dots_into, After-dots_into-arg-1, After-normal_into, After-normal_into-arg-1, After-rows_into, After-rows_into-arg-1, After-sides_into, After-solved_into, After-solved_into-arg-1, After-unsolved_into, After-unsolved_into-arg-1, After-wy_at-wy}
+use Rattle.columns.proofs.normals.normal_columns.Goals.{After-beta_at-beta}
 use Rattle.columns.proofs.normals.normal_columns.Goals as goal
-
--- ---- what each step leaves of the slice it writes
-abbrev m1 : After-cross_into → List Float
-m1 c = c.cross_into.new.m
-
-abbrev m2 : After-dots_into → List Float
-m2 c = c.dots_into.new.m
-
-abbrev m3 : After-rows_into → List Float
-m3 c = c.rows_into.new.m
-
-abbrev t1 : After-unsolved_into → List Float
-t1 c = c.unsolved_into.new.t
-
-abbrev m4 : After-solved_into → List Float
-m4 c = c.solved_into.new.m
-
-abbrev t2 : After-normal_into → List Float
-t2 c = c.normal_into.new.t
-
-abbrev m5 : After-sides_into → List Float
-m5 c = c.sides_into.new.m
 
 -- ---- the places, which no step changes
 abbrev PlacesAt : After-beta_at-beta → List Float → List Float → Type 0
@@ -41,13 +20,7 @@ PlacesAt c m t =
     c.wy_at-wy.result
     c.beta_at-beta.result
 
-abbrev m0 : After-beta_at-beta → List Float
-m0 c = c.args.m.now
-
-abbrev t0 : After-beta_at-beta → List Float
-t0 c = c.args.t.now
-
-at_places : After-beta_at-beta → PlacesAt c (m0 c) (t0 c)
+at_places : (c : After-beta_at-beta) → PlacesAt c c.args.m.now c.args.t.now
 at_places c = record {
       lent = c.requires.work_room;
       working_place = c.working_row-working.ensures;
@@ -60,37 +33,24 @@ at_places c = record {
       beta_place_lem = c.beta_at-beta.ensures;
     }
 
-at_cross : After-cross_into → PlacesAt (goal.at.HELPER c).After-beta_at-beta (m1 c) (t0 (goal.at.HELPER c).After-beta_at-beta)
-at_cross c = places_kept (at_places (goal.at.HELPER c).After-beta_at-beta) c.cross_into.auto.m refl
+-- in what a step finds, which is as long as what was lent
+kept_at : (c : After-beta_at-beta) (m t : List Float) → length m ≡ length c.args.m.now → length t ≡ length c.args.t.now → PlacesAt c m t
+kept_at c m t e e' = places_kept (at_places c) e e'
 
-at_dots : After-dots_into → PlacesAt (goal.at.HELPER c).After-beta_at-beta (m2 c) (t0 (goal.at.HELPER c).After-beta_at-beta)
-at_dots c = places_kept (at_cross (goal.at.HELPER c).After-cross_into) c.dots_into.auto.m refl
-
-at_rows : After-rows_into → PlacesAt (goal.at.HELPER c).After-beta_at-beta (m3 c) (t0 (goal.at.HELPER c).After-beta_at-beta)
-at_rows c = places_kept (at_dots (goal.at.HELPER c).After-dots_into) c.rows_into.auto.m refl
-
-at_unsolved : After-unsolved_into → PlacesAt (goal.at.HELPER c).After-beta_at-beta (m3 (goal.at.HELPER c).After-rows_into) (t1 c)
-at_unsolved c = places_kept (at_rows (goal.at.HELPER c).After-rows_into) refl c.unsolved_into.auto.t
-
-at_solved : After-solved_into → PlacesAt (goal.at.HELPER c).After-beta_at-beta (m4 c) (t1 (goal.at.HELPER c).After-unsolved_into)
-at_solved c = places_kept (at_unsolved (goal.at.HELPER c).After-unsolved_into) c.solved_into.auto.m refl
-
-at_normal : After-normal_into → PlacesAt (goal.at.HELPER c).After-beta_at-beta (m4 (goal.at.HELPER c).After-solved_into) (t2 c)
-at_normal c = places_kept (at_solved (goal.at.HELPER c).After-solved_into) refl c.normal_into.auto.t
-
+-- ---- the answers
 pub cross_into-requires : goal.cross_into-requires
 cross_into-requires c =
-    let f = placed (at_places (goal.at.cross_into-requires c).After-wy_at-wy) in
+    let f = placed (at_places (goal.at.cross_into-requires c).After-beta_at-beta) in
     (c.requires.p_in_bounds, f.w_in, f.crossed_in)
 
 pub dots_into-requires : goal.dots_into-requires
 dots_into-requires c =
-    let f = placed (at_cross (goal.at.dots_into-requires c).After-cross_into-arg-1) in
+    let f = placed (kept_at (goal.at.dots_into-requires c).After-beta_at-beta c.cross_into.new.m c.args.t.now c.cross_into.auto.m refl) in
     (c.requires.p_in_bounds, f.w_in, f.working_in, f.beta_in)
 
 pub rows_into-requires : goal.rows_into-requires
 rows_into-requires c =
-    let f = placed (at_dots (goal.at.rows_into-requires c).After-dots_into-arg-1) in
+    let f = placed (kept_at (goal.at.rows_into-requires c).After-beta_at-beta c.dots_into.new.m c.args.t.now (c.dots_into.auto.m ∙ c.cross_into.auto.m) refl) in
     record {
       rows = c.requires.ready.rows;
       p_in_bounds = (c.requires.p_in_bounds, f.w_in, f.rows_in);
@@ -98,7 +58,8 @@ rows_into-requires c =
 
 pub unsolved_into-requires : goal.unsolved_into-requires
 unsolved_into-requires c =
-    let f = placed (at_rows (goal.at.unsolved_into-requires c).After-rows_into-arg-1) in
+    let e = c.rows_into.auto.m ∙ c.dots_into.auto.m ∙ c.cross_into.auto.m in
+    let f = placed (kept_at (goal.at.unsolved_into-requires c).After-beta_at-beta c.rows_into.new.m c.args.t.now e refl) in
     record {
       shape_value = (c.requires.ready.good, c.requires.ready.effects, c.requires.ready.numbers);
       p_in_bounds = (f.rows_in, f.unsolved_in);
@@ -106,17 +67,21 @@ unsolved_into-requires c =
 
 pub solved_into-requires : goal.solved_into-requires
 solved_into-requires c =
-    let f = placed (at_unsolved (goal.at.solved_into-requires c).After-unsolved_into-arg-1) in
+    let e = c.rows_into.auto.m ∙ c.dots_into.auto.m ∙ c.cross_into.auto.m in
+    let f = placed (kept_at (goal.at.solved_into-requires c).After-beta_at-beta c.rows_into.new.m c.unsolved_into.new.t e c.unsolved_into.auto.t) in
     (f.factor_in, f.unsolved_in, f.solved_in)
 
 pub normal_into-requires : goal.normal_into-requires
 normal_into-requires c =
-    let f = placed (at_solved (goal.at.normal_into-requires c).After-solved_into-arg-1) in
+    let e = c.solved_into.auto.m ∙ c.rows_into.auto.m ∙ c.dots_into.auto.m ∙ c.cross_into.auto.m in
+    let f = placed (kept_at (goal.at.normal_into-requires c).After-beta_at-beta c.solved_into.new.m c.unsolved_into.new.t e c.unsolved_into.auto.t) in
     (f.crossed_in, f.solved_in, f.apart, f.normal_in)
 
 pub sides_into-requires : goal.sides_into-requires
 sides_into-requires c =
-    let f = placed (at_normal (goal.at.sides_into-requires c).After-normal_into-arg-1) in
+    let e = c.solved_into.auto.m ∙ c.rows_into.auto.m ∙ c.dots_into.auto.m ∙ c.cross_into.auto.m in
+    let e' = c.normal_into.auto.t ∙ c.unsolved_into.auto.t in
+    let f = placed (kept_at (goal.at.sides_into-requires c).After-beta_at-beta c.solved_into.new.m c.normal_into.new.t e e') in
     (f.unsolved_in, f.wy_before, f.beta_in)
 
 pub shape_of-m : goal.shape_of-m
@@ -129,7 +94,8 @@ shape_of-t c = c.normal_into.auto.t ∙ c.unsolved_into.auto.t
 
 pub returns : goal.returns
 returns c =
-    columns_made {m1 = m1 (goal.at.returns c).After-cross_into} {m2 = m2 (goal.at.returns c).After-dots_into} {m3 = m3 (goal.at.returns c).After-rows_into} {m4 = m4 (goal.at.returns c).After-solved_into} {m5 = m5 (goal.at.returns c).After-sides_into} {t1 = t1 (goal.at.returns c).After-unsolved_into} {t2 = t2 (goal.at.returns c).After-normal_into}
+    columns_made {m1 = c.cross_into.new.m} {m2 = c.dots_into.new.m} {m3 = c.rows_into.new.m} {m4 = c.solved_into.new.m} {m5 = c.sides_into.new.m}
+    {t1 = c.unsolved_into.new.t} {t2 = c.normal_into.new.t}
     c.requires.ready.effects (at_places (goal.at.returns c).After-beta_at-beta)
     (record {
       crosses = c.cross_into.ensures;

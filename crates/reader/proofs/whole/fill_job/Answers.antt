@@ -10,10 +10,7 @@ use Rattle.reader.proofs.whole.fill_job.Goals as goal
 fits : (c : Start) → Fits c.args.s.now
 fits c = sound_fits _ c.requires.s_value
 
--- TURN
-room :
-    (c : tie.Start)
-    → Room
+room : (c : Start) → Room
     (inputs c.args.theta.now c.args.y.now c.args.weights.now c.args.offset.now c.args.x.now c.args.starts.now
     c.args.columns.now c.args.values.now)
 room c = room_of _ c.requires.values_value
@@ -50,8 +47,10 @@ pub read_rows-requires : goal.read_rows-requires
 read_rows-requires c =
     let f = fits (goal.at.read_rows-requires c).Start in
     let r = room (goal.at.read_rows-requires c).Start in
-    rw (c.requires.c_value.1, c.requires.c_value.0)
-    ((f.fitting.0.0, refl, omega (arith, f.ends)), (omega (arith, f.small.effects, r.starts_room), r.columns_room, r.values_room))
+    record {
+      s_len_bound = rw (c.requires.c_value.1, c.requires.c_value.0) (f.fitting.0.0, refl, omega (arith, f.ends));
+      q_in_bounds = rw (c.requires.c_value.1, c.requires.c_value.0) (omega (arith, f.small.effects, r.starts_room), r.columns_room, r.values_room);
+    }
 
 pub shape_of-theta : goal.shape_of-theta
 shape_of-theta c = c.read_numbers.auto.out
