@@ -44,11 +44,11 @@ module _ (v : Version) (j : Job) (q : Sayable v j) where
   said : HeadSaid v j (job_bytes v j)
   said = head_said v j (job_bytes v j) (job_bytes_lem v j) placed.has_head q.settings ranged.few
 
-  blocks_at : blocks_at (job_bytes v j) ≡ head_length v
-  blocks_at = blocks_said v (job_bytes v j) said.versioned
+  blocks_at_lem : blocks_at (job_bytes v j) ≡ head_length v
+  blocks_at_lem = blocks_said v (job_bytes v j) said.versioned
 
   block : (i : ℕ) → i < j.shape.count → BlockSaid j.shape (job_bytes v j) (head_length v) i
-  block i l = block_said j.shape (job_bytes v j) (head_length v) blocks_at (job_bytes_lem v j) placed.has_blocks ranged i l
+  block i l = block_said j.shape (job_bytes v j) (head_length v) blocks_at_lem (job_bytes_lem v j) placed.has_blocks ranged i l
 
   shaped : shape_of (job_bytes v j) ≡ j.shape
   shaped = shape_said j.shape (job_bytes v j) (head_length v) said.count block q.shape.m_zero q.shape.k_zero
@@ -70,7 +70,7 @@ module _ (v : Version) (j : Job) (q : Sayable v j) where
 
   -- the reader looks for them where they are
   theta_at_lem : theta_at (job_bytes v j) ≡ head_length v + 2 * j.shape.count
-  theta_at_lem = omega (arith, blocks_at, said.count)
+  theta_at_lem = omega (arith, blocks_at_lem, said.count)
 
   y_at_lem : y_at (job_bytes v j) ≡ head_length v + 2 * j.shape.count + 8 * theta_length j.shape
   y_at_lem = omega (arith, theta_at_lem, thetas_are)
@@ -78,11 +78,11 @@ module _ (v : Version) (j : Job) (q : Sayable v j) where
   weights_at_lem : weights_at (job_bytes v j) ≡ head_length v + 2 * j.shape.count + 8 * theta_length j.shape + 8 * j.settings.n
   weights_at_lem = omega (arith, y_at_lem, said.n)
 
-  offset_at : offset_at (job_bytes v j) ≡ head_length v + 2 * j.shape.count + 8 * theta_length j.shape + 8 * j.settings.n + 8 * (present j.weights * j.settings.n)
-  offset_at = omega (arith, weights_at_lem, weights_are)
+  offset_at_lem : offset_at (job_bytes v j) ≡ head_length v + 2 * j.shape.count + 8 * theta_length j.shape + 8 * j.settings.n + 8 * (present j.weights * j.settings.n)
+  offset_at_lem = omega (arith, weights_at_lem, weights_are)
 
   x_at_lem : x_at (job_bytes v j) ≡ head_length v + 2 * j.shape.count + 8 * theta_length j.shape + 8 * j.settings.n + 8 * (present j.weights * j.settings.n) + 8 * (present j.offset * j.settings.n)
-  x_at_lem = omega (arith, offset_at, offset_is)
+  x_at_lem = omega (arith, offset_at_lem, offset_is)
 
   z_at_lem : z_at (job_bytes v j) ≡ head_length v + 2 * j.shape.count + 8 * theta_length j.shape + 8 * j.settings.n + 8 * (present j.weights * j.settings.n) + 8 * (present j.offset * j.settings.n) + 8 * (j.settings.n * j.settings.p)
   z_at_lem = omega (arith, x_at_lem, cells_are)
@@ -130,7 +130,7 @@ module _ (v : Version) (j : Job) (q : Sayable v j) where
       let theta = numbers_said s (theta_at s) (thetas s) j.theta (q.theta ∙ sym thetas_are) b (has_at s _ _ (numbers_bytes j.theta) theta_at_lem placed.has_theta) q.theta_doubles in
       let y = numbers_said s (y_at s) (obs s) j.y (q.y ∙ sym said.n) b (has_at s _ _ (numbers_bytes j.y) y_at_lem placed.has_y) q.y_doubles in
       let weights = numbers_said s (weights_at s) (weighted s * obs s) j.weights (q.weights ∙ sym weights_are) b (has_at s _ _ (numbers_bytes j.weights) weights_at_lem placed.has_weights) q.weights_doubles in
-      let offset = numbers_said s (offset_at s) (shifted s * obs s) j.offset (q.offset ∙ sym offset_is) b (has_at s _ _ (numbers_bytes j.offset) offset_at placed.has_offset) q.offset_doubles in
+      let offset = numbers_said s (offset_at s) (shifted s * obs s) j.offset (q.offset ∙ sym offset_is) b (has_at s _ _ (numbers_bytes j.offset) offset_at_lem placed.has_offset) q.offset_doubles in
       let x = numbers_said s (x_at s) (obs s * cols s) j.x (q.x ∙ sym cells_are) b (has_at s _ _ (numbers_bytes j.x) x_at_lem placed.has_x) q.x_doubles in
       λ i. record { settings = settings_said i; shape = shaped i; theta = theta i; y = y i; weights = weights i; offset = offset i; x = x i; z = sparse_said i }
 
@@ -145,7 +145,7 @@ module _ (v : Version) (j : Job) (q : Sayable v j) where
 
   blocks_ok : (n : ℕ) → n ≡ j.shape.count → blocks_fault (job_bytes v j) (blocks_at (job_bytes v j)) n ≡ Sound
   blocks_ok n e =
-      rw blocks_at
+      rw blocks_at_lem
       (blocks_sound (job_bytes v j) (head_length v) n (λ i l. pair_sound (job_bytes v j) (head_length v + 2 * i) 5 (omega (arith, ends, z_at_lem)) (block i (omega arith)).spare))
 
   row_ok : (r : ℕ) → r < j.settings.rows → row_fault (job_bytes v j) (row_at (job_bytes v j) r) ≡ Sound

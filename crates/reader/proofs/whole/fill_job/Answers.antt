@@ -49,7 +49,7 @@ read_rows-requires c =
     let r = room (goal.at.read_rows-requires c).Start in
     record {
       s_len_bound = rw (c.requires.c_value.1, c.requires.c_value.0) (f.fitting.0.0, refl, omega (arith, f.ends));
-      q_in_bounds = rw (c.requires.c_value.1, c.requires.c_value.0) (omega (arith, f.small.effects, r.starts_room), r.columns_room, r.values_room);
+      q_in_bounds = rw c.requires.c_value.0 (omega (arith, f.small.effects, r.starts_room), r.columns_room, r.values_room);
     }
 
 pub shape_of-theta : goal.shape_of-theta
