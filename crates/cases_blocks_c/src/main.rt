@@ -1,10 +1,10 @@
-// Calls `blocks_c::glmm_fit_blocks` with lists of none, one and two blocks. Prints the answer, and what stands in every array.
+// Calls `blocks_coded::fit_coded`, which `blocks_c` hands to C, with lists of none, one and two blocks. Prints the answer, and what stands in every array.
 // Every array holds 9.25 before a call, and a call is lent the beginnings of the arrays: what stands behind must stay. A call is fed as
 // tools/cases/blocks_c.py says.
 #![tactic(auto)]
 
 use blocks::Block;
-use blocks_c::{CodedSettings, PlainAnswer};
+use blocks_coded::{CodedSettings, PlainAnswer};
 
 // The pattern of 9.25.
 const LENT: u64 = 0x4022_8000_0000_0000;
@@ -39,7 +39,7 @@ fn call(
 ) -> PlainAnswer {
     let list = [one, two];
     let n = count % 3;
-    blocks_c::glmm_fit_blocks(
+    blocks_coded::fit_coded(
         coded,
         &list[..n],
         theta,

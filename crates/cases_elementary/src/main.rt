@@ -1,4 +1,4 @@
-// Runs the elementary functions, as elementary_c hands them to C, on special arguments, on drawn ones and on fed ones, and prints every bit: the argument, sqrt, exp, ln, ln_1p, exp_m1, ln_gamma, norm_cdf, norm_pdf, norm_quantile.
+// Runs the elementary functions that elementary_c hands to C on special arguments, on drawn ones and on fed ones, and prints every bit: the argument, sqrt, exp, ln, ln_1p, exp_m1, ln_gamma, norm_cdf, norm_pdf, norm_quantile.
 #![tactic(auto)]
 
 ghost use Rattle.std.specs.Prelude.{◌+◌, ◌<◌, ◌≤◌};
@@ -70,15 +70,15 @@ const BRANCHES: [u64; 60] = [
 fn line(x: f64) {
     text::put_word(b"at");
     text::put_double(x);
-    text::put_double(elementary_c::glmm_sqrt(x));
-    text::put_double(elementary_c::glmm_exp(x));
-    text::put_double(elementary_c::glmm_ln(x));
-    text::put_double(elementary_c::glmm_ln_1p(x));
-    text::put_double(elementary_c::glmm_exp_m1(x));
-    text::put_double(elementary_c::glmm_ln_gamma(x));
-    text::put_double(elementary_c::glmm_norm_cdf(x));
-    text::put_double(elementary_c::glmm_norm_pdf(x));
-    text::put_double(elementary_c::glmm_norm_quantile(x));
+    text::put_double(root::sqrt(x));
+    text::put_double(elementary::exp(x));
+    text::put_double(elementary::ln(x));
+    text::put_double(elementary::ln_1p(x));
+    text::put_double(elementary::exp_m1(x));
+    text::put_double(log_gamma::ln_gamma(x));
+    text::put_double(normal::norm_cdf(x));
+    text::put_double(normal::norm_pdf(x));
+    text::put_double(normal::norm_quantile(x));
     text::end_line();
 }
 

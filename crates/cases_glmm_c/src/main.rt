@@ -24,10 +24,10 @@ fn put_lengths() {
     let p = fed::count();
     let q = fed::count();
     text::put_word(b"lengths");
-    text::put_count(glmm_c::glmm_rows_length(n) as u64);
-    text::put_count(glmm_c::glmm_matrices_length(p, q) as u64);
-    text::put_count(glmm_c::glmm_terms_length() as u64);
-    text::put_count(glmm_c::glmm_results_length(n, p, q) as u64);
+    text::put_count(lengths::rows_asked(n) as u64);
+    text::put_count(lengths::matrices_asked(p, q) as u64);
+    text::put_count(layout::terms_length() as u64);
+    text::put_count(jobcall::results_asked(n, p, q) as u64);
     text::end_line();
 }
 
@@ -43,15 +43,15 @@ fn all_lengths() {
 fn put_values(x: f64) {
     text::put_word(b"at");
     text::put_double(x);
-    text::put_double(glmm_c::glmm_sqrt(x));
-    text::put_double(glmm_c::glmm_exp(x));
-    text::put_double(glmm_c::glmm_ln(x));
-    text::put_double(glmm_c::glmm_ln_1p(x));
-    text::put_double(glmm_c::glmm_exp_m1(x));
-    text::put_double(glmm_c::glmm_ln_gamma(x));
-    text::put_double(glmm_c::glmm_norm_cdf(x));
-    text::put_double(glmm_c::glmm_norm_pdf(x));
-    text::put_double(glmm_c::glmm_norm_quantile(x));
+    text::put_double(root::sqrt(x));
+    text::put_double(elementary::exp(x));
+    text::put_double(elementary::ln(x));
+    text::put_double(elementary::ln_1p(x));
+    text::put_double(elementary::exp_m1(x));
+    text::put_double(log_gamma::ln_gamma(x));
+    text::put_double(normal::norm_cdf(x));
+    text::put_double(normal::norm_pdf(x));
+    text::put_double(normal::norm_quantile(x));
     text::end_line();
 }
 
@@ -120,9 +120,9 @@ fn call(
     counts: &mut [u64],
 ) -> u64 {
     if beside {
-        return glmm_c::glmm_fit_job_theta(job, theta, rows, matrices, terms, results, counts);
+        return jobcall::fit_job_theta(job, theta, rows, matrices, terms, results, counts);
     }
-    glmm_c::glmm_fit_job(job, rows, matrices, terms, results, counts)
+    jobcall::fit_job(job, rows, matrices, terms, results, counts)
 }
 
 // Fills the arrays, calls and prints.

@@ -1,4 +1,4 @@
--- The functions of libblocks_c.a, with their parameters and the fields of its structs in the order of include/glmm.h. Assumes nothing.
+-- The functions of libblocks_c.a, with their parameters and the fields of its structs in the order of include/glmm.h: those that blocks_c's exports call, whose contracts are theirs (`blocks_c`'s proofs/Same). Assumes nothing.
 use mathlib.Core.Path.{◌≡◌, refl}
 use seplogic.Ra.Ura.{Ura}
 use base.Logic.{SProp}
@@ -12,15 +12,15 @@ use Rattle.layout.specs.WorkTerms.{terms_length}
 use Rattle.lengths.specs.Asked.{rows_asked, matrices_asked}
 use Rattle.blocks.specs.declared.Block.{Block}
 use Rattle.blocks.specs.contracts.Block as block
-use Rattle.blocks_c.specs.declared.CodedSettings.{CodedSettings}
-use Rattle.blocks_c.specs.declared.PlainAnswer.{PlainAnswer}
-use Rattle.blocks_c.specs.Plain.{shown, fit_blocks_of}
-use Rattle.blocks_c.specs.contracts.CodedSettings as settings
-use Rattle.blocks_c.specs.contracts.PlainAnswer as answer
-use Rattle.blocks_c.specs.contracts.glmm_fit_blocks as fit-blocks
-use Rattle.blocks_c.specs.contracts.glmm_rows_length as rows-length
-use Rattle.blocks_c.specs.contracts.glmm_matrices_length as matrices-length
-use Rattle.blocks_c.specs.contracts.glmm_terms_length as terms_length_lem
+use Rattle.blocks_coded.specs.declared.CodedSettings.{CodedSettings}
+use Rattle.blocks_coded.specs.declared.PlainAnswer.{PlainAnswer}
+use Rattle.blocks_coded.specs.Plain.{shown, fit_blocks_of}
+use Rattle.blocks_coded.specs.contracts.CodedSettings as settings
+use Rattle.blocks_coded.specs.contracts.PlainAnswer as answer
+use Rattle.blocks_coded.specs.contracts.fit_coded as fit-blocks
+use Rattle.lengths.specs.contracts.rows_asked as rows-length
+use Rattle.lengths.specs.contracts.matrices_asked as matrices-length
+use Rattle.layout.specs.contracts.terms_length as terms_length_lem
 use Rattle.promises.specs.Promise.{Fact, promise}
 
 -- what is returned and left of the twelve slices

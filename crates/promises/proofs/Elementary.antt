@@ -1,4 +1,4 @@
--- The functions of libelementary_c.a. Assumes nothing.
+-- The functions of libelementary_c.a: those that elementary_c's exports call, whose contracts are theirs (`elementary_c`'s proofs/Same). Assumes nothing.
 use mathlib.Core.Path.{◌≡◌, refl}
 use seplogic.Ra.Ura.{Ura}
 use base.Logic.{SProp}
@@ -14,15 +14,15 @@ use Rattle.log_gamma.specs.LogGamma.{ln_gamma_of}
 use Rattle.normal.specs.Normal.{norm_cdf, norm_pdf}
 use Rattle.normal.specs.Quantile.{norm_quantile}
 use Rattle.root.specs.Sqrt.{sqrt_of}
-use Rattle.elementary_c.specs.contracts.glmm_exp as exp
-use Rattle.elementary_c.specs.contracts.glmm_exp_m1 as exp-m1
-use Rattle.elementary_c.specs.contracts.glmm_ln as ln
-use Rattle.elementary_c.specs.contracts.glmm_ln_1p as ln-1p
-use Rattle.elementary_c.specs.contracts.glmm_ln_gamma as ln-gamma
-use Rattle.elementary_c.specs.contracts.glmm_norm_cdf as norm-cdf
-use Rattle.elementary_c.specs.contracts.glmm_norm_pdf as norm-pdf
-use Rattle.elementary_c.specs.contracts.glmm_norm_quantile as norm-quantile
-use Rattle.elementary_c.specs.contracts.glmm_sqrt as sqrt
+use Rattle.elementary.specs.contracts.exp as exp
+use Rattle.elementary.specs.contracts.exp_m1 as exp-m1
+use Rattle.elementary.specs.contracts.ln as ln
+use Rattle.elementary.specs.contracts.ln_1p as ln-1p
+use Rattle.log_gamma.specs.contracts.ln_gamma as ln-gamma
+use Rattle.normal.specs.contracts.norm_cdf as norm-cdf
+use Rattle.normal.specs.contracts.norm_pdf as norm-pdf
+use Rattle.normal.specs.contracts.norm_quantile as norm-quantile
+use Rattle.root.specs.contracts.sqrt as sqrt
 use Rattle.promises.specs.Promise.{promise}
 
 module _ {M : Type 1} {𝓤 : Ura M} (𝓛 : Logic 𝓤) (mem : Memory → SProp 𝓤) (run : Routine → Fun 𝓤) where

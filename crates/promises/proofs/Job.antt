@@ -1,4 +1,4 @@
--- The functions of libglmm_c.a, with their parameters in the order of include/glmm.h. Assumes nothing.
+-- The functions of libglmm_c.a, with their parameters in the order of include/glmm.h: those that glmm_c's exports call, whose contracts are theirs (`glmm_c`'s proofs/Same). Assumes nothing.
 use mathlib.Core.Path.{◌≡◌, refl}
 use seplogic.Ra.Ura.{Ura}
 use base.Logic.{SProp}
@@ -19,22 +19,22 @@ use Rattle.jobcall.specs.Told.{buffers, told, fit_job_of, fit_job_theta_of}
 use Rattle.many.specs.Many.{fit_many_of}
 use Rattle.lengths.specs.Asked.{rows_asked, matrices_asked}
 use Rattle.jobcall.specs.Results.{results_asked}
-use Rattle.glmm_c.specs.contracts.glmm_exp as exp
-use Rattle.glmm_c.specs.contracts.glmm_exp_m1 as exp-m1
-use Rattle.glmm_c.specs.contracts.glmm_ln as ln
-use Rattle.glmm_c.specs.contracts.glmm_ln_1p as ln-1p
-use Rattle.glmm_c.specs.contracts.glmm_ln_gamma as ln-gamma
-use Rattle.glmm_c.specs.contracts.glmm_norm_cdf as norm-cdf
-use Rattle.glmm_c.specs.contracts.glmm_norm_pdf as norm-pdf
-use Rattle.glmm_c.specs.contracts.glmm_norm_quantile as norm-quantile
-use Rattle.glmm_c.specs.contracts.glmm_sqrt as sqrt
-use Rattle.glmm_c.specs.contracts.glmm_rows_length as rows-length
-use Rattle.glmm_c.specs.contracts.glmm_matrices_length as matrices-length
-use Rattle.glmm_c.specs.contracts.glmm_terms_length as terms_length_lem
-use Rattle.glmm_c.specs.contracts.glmm_results_length as results-length
-use Rattle.glmm_c.specs.contracts.glmm_fit_job as fit-job
-use Rattle.glmm_c.specs.contracts.glmm_fit_job_theta as fit-job-theta
-use Rattle.glmm_c.specs.contracts.glmm_fit_many as fit-many
+use Rattle.elementary.specs.contracts.exp as exp
+use Rattle.elementary.specs.contracts.exp_m1 as exp-m1
+use Rattle.elementary.specs.contracts.ln as ln
+use Rattle.elementary.specs.contracts.ln_1p as ln-1p
+use Rattle.log_gamma.specs.contracts.ln_gamma as ln-gamma
+use Rattle.normal.specs.contracts.norm_cdf as norm-cdf
+use Rattle.normal.specs.contracts.norm_pdf as norm-pdf
+use Rattle.normal.specs.contracts.norm_quantile as norm-quantile
+use Rattle.root.specs.contracts.sqrt as sqrt
+use Rattle.lengths.specs.contracts.rows_asked as rows-length
+use Rattle.lengths.specs.contracts.matrices_asked as matrices-length
+use Rattle.layout.specs.contracts.terms_length as terms_length_lem
+use Rattle.jobcall.specs.contracts.results_asked as results-length
+use Rattle.jobcall.specs.contracts.fit_job as fit-job
+use Rattle.jobcall.specs.contracts.fit_job_theta as fit-job-theta
+use Rattle.many.specs.contracts.fit_many as fit-many
 use Rattle.promises.specs.Promise.{Fact, promise}
 
 -- what is returned and left of the five buffers, for a job with its own theta

@@ -28,9 +28,9 @@ use Rattle.call.specs.Call.{Lent, lengths_of}
 use Rattle.call.proofs.Leaves.{refused_left}
 use Rattle.blocks.specs.Blocks.{shape_of}
 use Rattle.blocks.specs.declared.Block.{Block}
-use Rattle.blocks_c.specs.Coded.{named, unnamed, with_start, with_link, with_family, settings_of}
-use Rattle.blocks_c.specs.Plain.{plain_of, shown, shown_by, fit_blocks_of}
-use Rattle.blocks_c.specs.declared.CodedSettings.{CodedSettings}
+use Rattle.blocks_coded.specs.Coded.{named, unnamed, with_start, with_link, with_family, settings_of}
+use Rattle.blocks_coded.specs.Plain.{plain_of, shown, shown_by, fit_blocks_of}
+use Rattle.blocks_coded.specs.declared.CodedSettings.{CodedSettings}
 
 -- the code of the family, that of the link or that of the start names nothing
 abbrev pub NamesNothing : CodedSettings → Type 0

@@ -14,7 +14,7 @@ use Rattle.model.specs.declared.names.StartFound.{StartFound}
 use Rattle.model.specs.declared.names.StartFound.TheVariants as startFound
 use Rattle.model.specs.declared.sizes.Settings.{Settings}
 use Rattle.job.specs.Job.{limit_from}
-use Rattle.blocks_c.specs.declared.CodedSettings.{CodedSettings}
+use Rattle.blocks_coded.specs.declared.CodedSettings.{CodedSettings}
 
 -- the settings of a family, a link and a start
 unfoldable pub named : CodedSettings → Family → Link → Start → Settings

@@ -1,4 +1,4 @@
--- A higher limit changes nothing of what `glmm_fit_blocks` shows and leaves where the number is not 13, and no count of its work shrinks. Document 02, P13. Assumes nothing.
+-- A higher limit changes nothing of what `fit_coded` shows and leaves where the number is not 13, and no count of its work shrinks. Document 02, P13. Assumes nothing.
 use mathlib.Core.Path.{◌≡◌, refl, ap, ◌∙◌}
 use mathlib.Core.List.{List}
 use Prim.Native.Nat.{ℕ, ◌≤◌}
@@ -22,10 +22,10 @@ use Rattle.call.specs.Call.{Lent, call_of}
 use Rattle.call.proofs.Higher.{limited, call_same, call_account_grows}
 use Rattle.blocks.specs.Blocks.{shape_of}
 use Rattle.blocks.specs.declared.Block.{Block}
-use Rattle.blocks_c.specs.Coded.{named, with_start, with_link, with_family, settings_of}
-use Rattle.blocks_c.specs.Plain.{plain_of, shown_by, fit_blocks_of}
-use Rattle.blocks_c.specs.declared.CodedSettings.{CodedSettings}
-use Rattle.blocks_c.specs.declared.PlainAnswer.{PlainAnswer}
+use Rattle.blocks_coded.specs.Coded.{named, with_start, with_link, with_family, settings_of}
+use Rattle.blocks_coded.specs.Plain.{plain_of, shown_by, fit_blocks_of}
+use Rattle.blocks_coded.specs.declared.CodedSettings.{CodedSettings}
+use Rattle.blocks_coded.specs.declared.PlainAnswer.{PlainAnswer}
 
 -- the settings with the limit M
 abbrev pub limited_code : ℕ → CodedSettings → CodedSettings

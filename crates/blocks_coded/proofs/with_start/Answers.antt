@@ -1,7 +1,7 @@
--- `blocks_c::with_start` meets its contract: its two arms are the definition's cases. Assumes nothing.
+-- `blocks_coded::with_start` meets its contract: its two arms are the definition's cases. Assumes nothing.
 use mathlib.Core.Path.{sym, ◌∙◌}
-use Rattle.blocks_c.specs.Coded.{with_start}
-use Rattle.blocks_c.proofs.with_start.Goals as goal
+use Rattle.blocks_coded.specs.Coded.{with_start}
+use Rattle.blocks_coded.proofs.with_start.Goals as goal
 
 pub returns-in-Found : goal.returns-in-Found
 unfolding with_start

@@ -19,9 +19,9 @@ use Rattle.call.specs.Call.{Lent, lengths_of, call_of}
 use Rattle.call.proofs.Leaves.{refused_left, asked_fit, unfitted_results, unfitted_answer_lem, fitted_number}
 use Rattle.blocks.specs.Blocks.{shape_of}
 use Rattle.blocks.specs.declared.Block.{Block}
-use Rattle.blocks_c.specs.Coded.{settings_of}
-use Rattle.blocks_c.specs.Plain.{plain_of, shown_by, fit_blocks_of}
-use Rattle.blocks_c.specs.declared.CodedSettings.{CodedSettings}
+use Rattle.blocks_coded.specs.Coded.{settings_of}
+use Rattle.blocks_coded.specs.Plain.{plain_of, shown_by, fit_blocks_of}
+use Rattle.blocks_coded.specs.declared.CodedSettings.{CodedSettings}
 
 module _ (t : Settings) (s : Shape) (I : Inputs) (L : Lent) where
   module _ (h : (call_of t s I L).answer.number ≡ 0 → ⊥) where
@@ -43,7 +43,7 @@ module _ (t : Settings) (s : Shape) (I : Inputs) (L : Lent) where
     by_refusal z (Refused r) e = rw (refused_left t s I L r e) refl
     by_refusal z (Accepted f l) e = absurd (not_accepted z f l e (asked_fit f l t s I).outcome refl)
 
--- `glmm_fit_blocks`
+-- `fit_coded`
 module _ (c : CodedSettings) (bs : List Block) (I : Inputs) (L : Lent) (h : (fit_blocks_of c bs I L).returned.number ≡ 0 → ⊥) where
   pub fit_blocks_results_kept : (fit_blocks_of c bs I L).lent.results ≡ L.results
   unfolding fit_blocks_of shown_by plain_of

@@ -1,7 +1,7 @@
--- `blocks_c::limit_in` meets its contract: its test is the definition's. Assumes nothing.
+-- `blocks_coded::limit_in` meets its contract: its test is the definition's. Assumes nothing.
 use borrow.Author.Tests.{eq-eqb, ne_eqb}
 use Rattle.job.specs.Job.{limit_from}
-use Rattle.blocks_c.proofs.limit_in.Goals as goal
+use Rattle.blocks_coded.proofs.limit_in.Goals as goal
 
 pub returns-then-code-eq1023 : goal.returns-then-code-eq1023
 unfolding limit_from

@@ -15,10 +15,10 @@ use Rattle.model.specs.declared.names.Start.{Start}
 use Rattle.model.specs.declared.names.Start.TheVariants.{Usual, Trials}
 use Rattle.model.specs.declared.sizes.Settings.{Settings}
 use Rattle.job.specs.Job.{limit_from}
-use Rattle.blocks_c.specs.Coded.{named, with_start, with_link, with_family, settings_of}
-use Rattle.blocks_c.specs.Plain.{plain_of}
-use Rattle.blocks_c.specs.declared.CodedSettings.{CodedSettings}
-use Rattle.blocks_c.specs.declared.PlainAnswer.{PlainAnswer}
+use Rattle.blocks_coded.specs.Coded.{named, with_start, with_link, with_family, settings_of}
+use Rattle.blocks_coded.specs.Plain.{plain_of}
+use Rattle.blocks_coded.specs.declared.CodedSettings.{CodedSettings}
+use Rattle.blocks_coded.specs.declared.PlainAnswer.{PlainAnswer}
 
 -- settings by their codes, and by their names
 abbrev coded : ℕ → ℕ → ℕ → ℕ → CodedSettings

@@ -1,11 +1,11 @@
--- One answer, and one content of every lent slice: the contract of `glmm_fit_blocks` is an equation with `fit_blocks_of`. Assumes nothing.
+-- One answer, and one content of every lent slice: the contract of `fit_coded` is an equation with `fit_blocks_of`. Assumes nothing.
 use mathlib.Core.Path.{◌≡◌, ap}
 use Rattle.base.proofs.Unique.{one_value}
 use Rattle.call.specs.Call.{Lent}
-use Rattle.blocks_c.specs.Plain.{Shown, shown}
-use Rattle.blocks_c.specs.declared.PlainAnswer.{PlainAnswer}
+use Rattle.blocks_coded.specs.Plain.{Shown, shown}
+use Rattle.blocks_coded.specs.declared.PlainAnswer.{PlainAnswer}
 
--- `glmm_fit_blocks` with fit_blocks_of for t
+-- `fit_coded` with fit_blocks_of for t
 pub shown_unique : (t : Shown) (a b : PlainAnswer) (A B : Lent) → shown a A ≡ t → shown b B ≡ t → (a ≡ b) × (A ≡ B)
 shown_unique t a b A B d e =
     let same : shown a A ≡ shown b B = one_value d e in

@@ -5,9 +5,9 @@ use Rattle.model.specs.Inputs.{Inputs}
 use Rattle.call.specs.Call.{Lent, Left, call_of}
 use Rattle.blocks.specs.Blocks.{shape_of}
 use Rattle.blocks.specs.declared.Block.{Block}
-use Rattle.blocks_c.specs.Coded.{settings_of}
-use Rattle.blocks_c.specs.declared.CodedSettings.{CodedSettings}
-use Rattle.blocks_c.specs.declared.PlainAnswer.{PlainAnswer}
+use Rattle.blocks_coded.specs.Coded.{settings_of}
+use Rattle.blocks_coded.specs.declared.CodedSettings.{CodedSettings}
+use Rattle.blocks_coded.specs.declared.PlainAnswer.{PlainAnswer}
 
 -- the numbers of an answer, of its account, why, and the parts of the tries
 unfoldable pub plain_of : Answer → PlainAnswer

@@ -1,7 +1,7 @@
--- `blocks_c::settings_of` meets its contract: its two arms are the definition's cases. Assumes nothing.
+-- `blocks_coded::settings_of` meets its contract: its two arms are the definition's cases. Assumes nothing.
 use mathlib.Core.Path.{sym, ◌∙◌}
-use Rattle.blocks_c.specs.Coded.{with_family, settings_of}
-use Rattle.blocks_c.proofs.settings_of.Goals as goal
+use Rattle.blocks_coded.specs.Coded.{with_family, settings_of}
+use Rattle.blocks_coded.proofs.settings_of.Goals as goal
 
 pub returns-in-Found : goal.returns-in-Found
 unfolding settings_of with_family

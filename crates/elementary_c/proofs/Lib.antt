@@ -1,0 +1,2 @@
+-- The contracts of what C calls. Assumes nothing.
+pub mod Same
