@@ -27,12 +27,13 @@ all_placed bs = refl
 pub loop-i-preserved : goal.loop-i-preserved
 loop-i-preserved c =
     let bs = c.args.blocks.now in
-    let i = c.loop-i.i in
-    (omega arith,
+    let i = c.loop-i.i in (
+      omega arith,
       c.put-shape.ensures
-      ∙ ap (λ (s : Shape). put_at s i c.block_or.result) c.loop-i.invariant.1
-      ∙ ap (put_at (placed_to bs i) i) c.block_or.ensures
-      ∙ sym (one_more bs i))
+          ∙ ap (λ (s : Shape). put_at s i c.block_or.result) c.loop-i.invariant.1
+          ∙ ap (put_at (placed_to bs i) i) c.block_or.ensures
+          ∙ sym (one_more bs i),
+    )
 
 pub returns : goal.returns
 returns c =

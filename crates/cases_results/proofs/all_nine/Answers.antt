@@ -32,6 +32,6 @@ slice_bounds-write_results-end-16 c = refl
 
 pub write_results-requires : goal.write_results-requires
 write_results-requires c = record {
-      readable = record { good = c.requires.0; effects = c.requires.1; numbers = omega (arith, c.requires.2); y_long = omega arith; columns_long = omega arith; beta_long = omega arith; u_long = omega arith; mu_long = omega arith; eta_long = omega arith };
-      writable = record { beta_long = refl; se_long = refl; z_long = refl; u_long = refl; b_long = refl; mu_long = refl; eta_long = refl; residual_long = refl; v_long = refl };
-    }
+  readable = record { good = c.requires.0; effects = c.requires.1; numbers = omega (arith, c.requires.2); y_long = omega arith; columns_long = omega arith; beta_long = omega arith; u_long = omega arith; mu_long = omega arith; eta_long = omega arith };
+  writable = record { beta_long = refl; se_long = refl; z_long = refl; u_long = refl; b_long = refl; mu_long = refl; eta_long = refl; residual_long = refl; v_long = refl };
+}

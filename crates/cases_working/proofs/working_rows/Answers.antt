@@ -6,6 +6,6 @@ use Rattle.cases_working.proofs.working_rows.Goals as goal
 
 pub working_rows-requires : goal.working_rows-requires
 working_rows-requires c = record {
-      n_in_bounds = search rules;
-      met = λ e. absurd (true≢false (sym e));
-    }
+  n_in_bounds = search rules;
+  met = λ e. absurd (true≢false (sym e));
+}

@@ -13,24 +13,24 @@ put_value-deviance_end-requires c = (search rules, omega (arith, c.end_line-ende
 
 pub put_value-phi_end-requires : goal.put_value-phi_end-requires
 put_value-phi_end-requires c = (
-      search rules,
-      omega (
-        arith,
-        c.put_value-deviance_end.ensures.few,
-        c.put_value-deviance_end.auto.out,
-        c.end_line-ended.ensures.0,
-        end_few c.args.answer,
-        c.end_line-ended.auto.out,
-        c.requires.0,
-      ),
-    )
+  search rules,
+  omega (
+    arith,
+    c.put_value-deviance_end.ensures.few,
+    c.put_value-deviance_end.auto.out,
+    c.end_line-ended.ensures.0,
+    end_few c.args.answer,
+    c.end_line-ended.auto.out,
+    c.requires.0,
+  ),
+)
 
 pub put_results-requires : goal.put_results-requires
 put_results-requires c = (
-      omega (arith, c.put_value-phi_end.ensures.few, c.put_value-deviance_end.ensures.few, c.end_line-ended.ensures.0, end_few c.args.answer),
-      omega (arith, c.put_value-phi_end.auto.out, c.put_value-deviance_end.auto.out, c.end_line-ended.auto.out, c.requires.0),
-      c.requires.1,
-    )
+  omega (arith, c.put_value-phi_end.ensures.few, c.put_value-deviance_end.ensures.few, c.end_line-ended.ensures.0, end_few c.args.answer),
+  omega (arith, c.put_value-phi_end.auto.out, c.put_value-deviance_end.auto.out, c.end_line-ended.auto.out, c.requires.0),
+  c.requires.1,
+)
 
 pub returns : goal.returns
 unfolding fitted_text

@@ -11,15 +11,15 @@ use Rattle.agq.proofs.gain.point_gain.Goals as goal
 
 pub lambda_within-requires : goal.lambda_within-requires
 lambda_within-requires c = record {
-      shape_value = (c.requires.good, c.requires.effects, c.requires.thetas);
-      q_in_bounds = (omega (arith, c.requires.in_m), omega (arith, c.requires.in_m), inl (omega arith));
-    }
+  shape_value = (c.requires.good, c.requires.effects, c.requires.thetas);
+  q_in_bounds = (omega (arith, c.requires.in_m), omega (arith, c.requires.in_m), inl (omega arith));
+}
 
 pub z_times-requires : goal.z_times-requires
 z_times-requires c = record {
-      rows = c.requires.rows;
-      rows_in_bounds = (search rules, search rules);
-    }
+  rows = c.requires.rows;
+  rows_in_bounds = (search rules, search rules);
+}
 
 pub point_means-requires : goal.point_means-requires
 point_means-requires c =

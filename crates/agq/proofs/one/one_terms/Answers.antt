@@ -57,7 +57,6 @@ loop-i-smaller c = omega arith
 
 pub loop-i-preserved : goal.loop-i-preserved
 loop-i-preserved c =
-    
     let a = c.args in
     let l = c.loop-i in
     let p = c.one_point-term.ensures in (

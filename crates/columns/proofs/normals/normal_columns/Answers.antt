@@ -22,16 +22,16 @@ PlacesAt c m t =
 
 at_places : (c : After-beta_at-beta) → PlacesAt c c.args.m.now c.args.t.now
 at_places c = record {
-      lent = c.requires.work_room;
-      working_place = c.working_row-working.ensures;
-      w_place_lem = c.w_at-w.ensures;
-      unsolved_place_lem = c.unsolved_at-unsolved.ensures;
-      normal_place_lem = c.normal_at-normal.ensures;
-      solved_place_lem = c.solved_at-solved.ensures;
-      crossed_place = c.root_inverse_at-crossed.ensures;
-      wy_place_lem = c.wy_at-wy.ensures;
-      beta_place_lem = c.beta_at-beta.ensures;
-    }
+  lent = c.requires.work_room;
+  working_place = c.working_row-working.ensures;
+  w_place_lem = c.w_at-w.ensures;
+  unsolved_place_lem = c.unsolved_at-unsolved.ensures;
+  normal_place_lem = c.normal_at-normal.ensures;
+  solved_place_lem = c.solved_at-solved.ensures;
+  crossed_place = c.root_inverse_at-crossed.ensures;
+  wy_place_lem = c.wy_at-wy.ensures;
+  beta_place_lem = c.beta_at-beta.ensures;
+}
 
 -- in what a step finds, which is as long as what was lent
 kept_at : (c : After-beta_at-beta) (m t : List Float) → length m ≡ length c.args.m.now → length t ≡ length c.args.t.now → PlacesAt c m t

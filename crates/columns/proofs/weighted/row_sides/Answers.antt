@@ -10,10 +10,10 @@ loop-b-init c = (omega arith, omega arith, fill_none _ _)
 
 pub sides_from-b-requires : goal.sides_from-b-requires
 sides_from-b-requires c = record {
-      rising = c.requires.rising;
-      columns_len = omega arith;
-      b_lt_p = omega arith;
-    }
+  rising = c.requires.rising;
+  columns_len = omega arith;
+  b_lt_p = omega arith;
+}
 
 pub loop-b-smaller : goal.loop-b-smaller
 loop-b-smaller c =

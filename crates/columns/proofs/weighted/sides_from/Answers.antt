@@ -7,10 +7,10 @@ use Rattle.columns.proofs.weighted.sides_from.Goals as goal
 
 pub one_side-requires : goal.one_side-requires
 one_side-requires c = record {
-      rising = c.requires.rising;
-      columns_len = omega arith;
-      b_bound = omega arith;
-    }
+  rising = c.requires.rising;
+  columns_len = omega arith;
+  b_bound = omega arith;
+}
 
 pub returns-then-p-lt2 : goal.returns-then-p-lt2
 returns-then-p-lt2 c =
@@ -19,10 +19,10 @@ returns-then-p-lt2 c =
 
 pub two_sides-requires : goal.two_sides-requires
 two_sides-requires c = record {
-      rising = c.requires.rising;
-      columns_len = omega arith;
-      b_bound = omega arith;
-    }
+  rising = c.requires.rising;
+  columns_len = omega arith;
+  b_bound = omega arith;
+}
 
 pub returns-then-p-lt6 : goal.returns-then-p-lt6
 returns-then-p-lt6 c =
@@ -32,10 +32,10 @@ returns-then-p-lt6 c =
 
 pub six_sides-requires : goal.six_sides-requires
 six_sides-requires c = record {
-      rising = c.requires.rising;
-      columns_len = omega arith;
-      b_bound = omega arith;
-    }
+  rising = c.requires.rising;
+  columns_len = omega arith;
+  b_bound = omega arith;
+}
 
 pub returns : goal.returns
 returns c =

@@ -7,9 +7,9 @@ use Rattle.elementary.proofs.parts.whole.Goals as goal
 pub truncating_f64_to_u64-requires : goal.truncating_f64_to_u64-requires
 unfolding of_bits neg
 truncating_f64_to_u64-requires c = record {
-      lower_bound = subst T (sym c.if-z.true) tt;
-      upper_bound = subst T (sym c.if-z-2.true) tt;
-    }
+  lower_bound = subst T (sym c.if-z.true) tt;
+  upper_bound = subst T (sym c.if-z-2.true) tt;
+}
 
 pub returns-then-z-2 : goal.returns-then-z-2
 unfolding whole_of

@@ -45,11 +45,11 @@ loop-i-smaller c = search (rules, loops)
 
 pub loop-i-preserved : goal.loop-i-preserved
 loop-i-preserved c = (
-      omega arith,
-      c.loop-i.invariant.1,
-      rw (c.ln_dgamma.ensures, c.loop-i.invariant.1, c.weight_at.ensures, c.max.ensures, c.mean_at.ensures)
-          (density_step c.args.y.now c.args.mu.now c.args.wt.now _ _ _ c.loop-i.invariant.2),
-    )
+  omega arith,
+  c.loop-i.invariant.1,
+  rw (c.ln_dgamma.ensures, c.loop-i.invariant.1, c.weight_at.ensures, c.max.ensures, c.mean_at.ensures)
+      (density_step c.args.y.now c.args.mu.now c.args.wt.now _ _ _ c.loop-i.invariant.2),
+)
 
 pub returns : goal.returns
 returns c = sum_end _ _ _ _ c.loop-i.invariant.2 (omega arith) (omega arith)

@@ -8,15 +8,15 @@ use Rattle.glmm.proofs.accepted.fit_accepted.Goals as goal
 
 pub fit_in-f-requires : goal.fit_in-f-requires
 fit_in-f-requires c = record {
-      asked = c.requires.asked;
-      limit_bound = c.requires.limit_bound;
-    }
+  asked = c.requires.asked;
+  limit_bound = c.requires.limit_bound;
+}
 
 pub write_fit-requires : goal.write_fit-requires
 write_fit-requires c = record {
-      standing = stands c.requires.asked _ _ c.fit_in-f.ensures.rows_only.len c.fit_in-f.ensures.matrices_only.len;
-      writable = c.requires.writable;
-    }
+  standing = stands c.requires.asked _ _ c.fit_in-f.ensures.rows_only.len c.fit_in-f.ensures.matrices_only.len;
+  writable = c.requires.writable;
+}
 
 pub wipe_work-requires : goal.wipe_work-requires
 wipe_work-requires c = to_wipe c.requires.asked c.fit_in-f.ensures.rows_only.len c.fit_in-f.ensures.matrices_only.len c.fit_in-f.ensures.terms_only.len

@@ -13,13 +13,13 @@ fit_accepted-requires c =
           args.mu.now args.eta.now args.residual.now args.v.now args.rows.now args.matrices.now args.terms.now _ _ _
           c.verdict_of-verdict.ensures c.in-Accepted.is;
       limit_bound = call_limit args.settings args.shape args.theta.now args.y.now args.weights.now args.offset.now args.x.now
-            args.starts.now args.columns.now args.values.now args.beta.now args.se.now args.z.now args.u.now args.b.now
-            args.mu.now args.eta.now args.residual.now args.v.now args.rows.now args.matrices.now args.terms.now _ _ _
-            c.verdict_of-verdict.ensures c.in-Accepted.is _ c.limit_of-limit.ensures;
+          args.starts.now args.columns.now args.values.now args.beta.now args.se.now args.z.now args.u.now args.b.now
+          args.mu.now args.eta.now args.residual.now args.v.now args.rows.now args.matrices.now args.terms.now _ _ _
+          c.verdict_of-verdict.ensures c.in-Accepted.is _ c.limit_of-limit.ensures;
       writable = call_writable args.settings args.shape args.theta.now args.y.now args.weights.now args.offset.now args.x.now
-            args.starts.now args.columns.now args.values.now args.beta.now args.se.now args.z.now args.u.now args.b.now
-            args.mu.now args.eta.now args.residual.now args.v.now args.rows.now args.matrices.now args.terms.now _ _ _
-            c.verdict_of-verdict.ensures c.in-Accepted.is;
+          args.starts.now args.columns.now args.values.now args.beta.now args.se.now args.z.now args.u.now args.b.now
+          args.mu.now args.eta.now args.residual.now args.v.now args.rows.now args.matrices.now args.terms.now _ _ _
+          c.verdict_of-verdict.ensures c.in-Accepted.is;
     }
 
 pub shape_of-beta : goal.shape_of-beta

@@ -10,9 +10,9 @@ block_scale-requires c = scale_room c.args.s c.args.k c.requires.roomy.lent c.re
 
 pub several_sums-requires : goal.several_sums-requires
 several_sums-requires c = record {
-      roomy = roomy_kept c.requires.roomy refl c.block_scale.ensures.matrices_only.len c.block_scale.ensures.terms_only.len;
-      k_bound = c.requires.k_bound;
-    }
+  roomy = roomy_kept c.requires.roomy refl c.block_scale.ensures.matrices_only.len c.block_scale.ensures.terms_only.len;
+  k_bound = c.requires.k_bound;
+}
 
 pub shape_of-m-in-Unscaled : goal.shape_of-m-in-Unscaled
 shape_of-m-in-Unscaled c = c.block_scale.ensures.matrices_only.len

@@ -16,9 +16,9 @@ mark_row-mark-requires c = c.requires.roomy.lent.sizes.n_few
 
 pub mark_group-requires : goal.mark_group-requires
 mark_group-requires c = record {
-      rows = c.requires.roomy.ready.rows;
-      k_bound = (c.requires.k_bound.0, mark_in c.requires.roomy.lent.sizes c.args.r.now c.mark_row-mark.ensures c.requires.roomy.lent.rows_long);
-    }
+  rows = c.requires.roomy.ready.rows;
+  k_bound = (c.requires.k_bound.0, mark_in c.requires.roomy.lent.sizes c.args.r.now c.mark_row-mark.ensures c.requires.roomy.lent.rows_long);
+}
 
 pub u_at-u-requires : goal.u_at-u-requires
 u_at-u-requires c = (c.requires.roomy.lent.sizes.p_few, c.requires.roomy.lent.sizes.q_few)
@@ -28,9 +28,9 @@ trial_u_at-trial-requires c = (c.requires.roomy.lent.sizes.p_few, c.requires.roo
 
 pub copy_row-requires : goal.copy_row-requires
 copy_row-requires c = (
-      hats_before c.args.p c.args.q _ _ c.u_at-u.ensures c.trial_u_at-trial.ensures,
-      trial_u_in c.requires.roomy.lent.sizes c.args.m.now c.trial_u_at-trial.ensures c.requires.roomy.lent.matrices_long,
-    )
+  hats_before c.args.p c.args.q _ _ c.u_at-u.ensures c.trial_u_at-trial.ensures,
+  trial_u_in c.requires.roomy.lent.sizes c.args.m.now c.trial_u_at-trial.ensures c.requires.roomy.lent.matrices_long,
+)
 
 pub inverse_at-l-requires : goal.inverse_at-l-requires
 inverse_at-l-requires c = c.requires.roomy.lent.sizes.q_few
@@ -43,18 +43,17 @@ power-count-requires c = power_room _ _ c.args.k c.gh_rule-rule.ensures (omega (
 
 pub group_terms-requires : goal.group_terms-requires
 group_terms-requires c =
-    
     record {
       room = room_of _ _ c.requires.roomy c.xbeta_row-xbeta.ensures c.trial_u_at-trial.ensures c.mark_group.ensures.only.len
           (ap length c.copy_row.ensures ∙ length_fillat _ _ _ _);
       grid = grid_of _ _ c.args.s c.args.k _ _ _ _ c.gh_rule-rule.ensures c.requires.roomy.lent
-            (ap length c.copy_row.ensures ∙ length_fillat _ _ _ _) c.requires.k_bound.0 c.inverse_at-l.ensures c.u_at-u.ensures
-            c.trial_u_at-trial.ensures;
+          (ap length c.copy_row.ensures ∙ length_fillat _ _ _ _) c.requires.k_bound.0 c.inverse_at-l.ensures c.u_at-u.ensures
+          c.trial_u_at-trial.ensures;
       size_in_bounds = (
-          rule_logs_long _ _ c.gh_rule-rule.ensures c.requires.k_bound.2,
-          count_in_lem c.args.order _ c.args.k 400 _ c.args.t.now c.gh_rule-rule.ensures c.requires.k_bound.1
-              c.power-count.ensures (omega arith) c.requires.roomy.lent.terms_long,
-        );
+        rule_logs_long _ _ c.gh_rule-rule.ensures c.requires.k_bound.2,
+        count_in_lem c.args.order _ c.args.k 400 _ c.args.t.now c.gh_rule-rule.ensures c.requires.k_bound.1
+            c.power-count.ensures (omega arith) c.requires.roomy.lent.terms_long,
+      );
     }
 
 pub log_sum-requires : goal.log_sum-requires

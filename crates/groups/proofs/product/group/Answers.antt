@@ -5,9 +5,9 @@ use Rattle.groups.proofs.product.group.Goals as goal
 
 pub one_group-requires : goal.one_group-requires
 one_group-requires c = record {
-      roomy = c.requires.roomy;
-      g_lt_q = (lone_within c.args.q c.args.k c.args.g c.if-k-eq1.true c.requires.k_bound.0, c.requires.k_bound.2);
-    }
+  roomy = c.requires.roomy;
+  g_lt_q = (lone_within c.args.q c.args.k c.args.g c.if-k-eq1.true c.requires.k_bound.0, c.requires.k_bound.2);
+}
 
 pub shape_of-r-then-k-eq1 : goal.shape_of-r-then-k-eq1
 shape_of-r-then-k-eq1 c = c.one_group.ensures.frame.rows_only.len
@@ -25,9 +25,9 @@ returns-then-k-eq1 c =
 
 pub several_group-requires : goal.several_group-requires
 several_group-requires c = record {
-      roomy = c.requires.roomy;
-      k_bound = (c.requires.k_bound.0, c.requires.k_bound.1 c.if-k-eq1.false, c.requires.k_bound.2);
-    }
+  roomy = c.requires.roomy;
+  k_bound = (c.requires.k_bound.0, c.requires.k_bound.1 c.if-k-eq1.false, c.requires.k_bound.2);
+}
 
 pub shape_of-r : goal.shape_of-r
 shape_of-r c = c.several_group.ensures.frame.rows_only.len

@@ -21,15 +21,15 @@ loop-g-init c =
 
 pub group-a-requires : goal.group-a-requires
 group-a-requires c = record {
-      roomy = roomy_kept c.requires.roomy c.loop-g.invariant.frame.rows_only.len c.loop-g.invariant.frame.matrices_only.len
-          c.loop-g.invariant.frame.terms_only.len;
-      k_bound = (
-        effects_within c.args.q c.args.groups c.args.k c.loop-g.g c.args.order c.requires.grouped
-            c.loop-g-test.true,
-        c.requires.grouped.capped,
-        logs_of _ _ _ c.gh_rule-rule.ensures refl _ c.log_weights.ensures,
-      );
-    }
+  roomy = roomy_kept c.requires.roomy c.loop-g.invariant.frame.rows_only.len c.loop-g.invariant.frame.matrices_only.len
+      c.loop-g.invariant.frame.terms_only.len;
+  k_bound = (
+    effects_within c.args.q c.args.groups c.args.k c.loop-g.g c.args.order c.requires.grouped
+        c.loop-g-test.true,
+    c.requires.grouped.capped,
+    logs_of _ _ _ c.gh_rule-rule.ensures refl _ c.log_weights.ensures,
+  );
+}
 
 pub overflow_add-points : goal.overflow_add-points
 overflow_add-points c =

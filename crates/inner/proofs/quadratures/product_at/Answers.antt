@@ -8,10 +8,10 @@ fixed_row-requires c = (c.requires.asked.lent.sizes, c.requires.asked.x_long, c.
 
 pub product_step-requires : goal.product_step-requires
 product_step-requires c = record {
-      roomy = roomy c.requires.asked c.fixed_row.ensures.only.len;
-      grouped = grouped c.args.wish c.args.q c.args.groups c.args.k _ c.requires.k_value
-          (sym c.resolve_gh_order_product-choice.ensures ∙ c.in-Use.is);
-    }
+  roomy = roomy c.requires.asked c.fixed_row.ensures.only.len;
+  grouped = grouped c.args.wish c.args.q c.args.groups c.args.k _ c.requires.k_value
+      (sym c.resolve_gh_order_product-choice.ensures ∙ c.in-Use.is);
+}
 
 pub returns-in-Without : goal.returns-in-Without
 returns-in-Without c =

@@ -5,9 +5,9 @@ use Rattle.inner.proofs.quadratures.quadrature_at.Goals as goal
 
 pub product_at-requires : goal.product_at-requires
 product_at-requires c = record {
-      asked = c.requires;
-      k_value = groups_all c.args.shape c.args.q (eq-eqb _ _ c.if-shape-eq1.true) c.requires.ready.effects;
-    }
+  asked = c.requires;
+  k_value = groups_all c.args.shape c.args.q (eq-eqb _ _ c.if-shape-eq1.true) c.requires.ready.effects;
+}
 
 pub shape_of-r-then-shape-eq1 : goal.shape_of-r-then-shape-eq1
 shape_of-r-then-shape-eq1 c = c.product_at.ensures.rows_only.len

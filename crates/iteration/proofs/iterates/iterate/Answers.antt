@@ -21,10 +21,10 @@ weigh-requires c =
 
 pub solve_into-solving-requires : goal.solve_into-solving-requires
 solve_into-solving-requires c = record {
-      ready = c.requires.asked.ready;
-      work_room = lent_kept c.requires.asked.lent c.weigh.auto.r refl c.weigh.auto.t;
-      optional = (c.requires.asked.offset_fits, c.requires.asked.x_long);
-    }
+  ready = c.requires.asked.ready;
+  work_room = lent_kept c.requires.asked.lent c.weigh.auto.r refl c.weigh.auto.t;
+  optional = (c.requires.asked.offset_fits, c.requires.asked.x_long);
+}
 
 pub returns-in-Unsolved : goal.returns-in-Unsolved
 returns-in-Unsolved c =

@@ -29,17 +29,15 @@ pub solved_at-requires : goal.solved_at-requires
 solved_at-requires c = c.requires.work_room.sizes.q_few
 
 pub solve_u-requires : goal.solve_u-requires
-solve_u-requires c =
-    (
-      wy_in c.requires.work_room.sizes c.args.m.now c.wy_at.ensures c.requires.work_room.matrices_long,
-      solved_in c.requires.work_room.sizes c.args.m.now c.solved_at.ensures c.requires.work_room.matrices_long,
-      beta_in c.requires.work_room.sizes c.args.m.now c.beta_at-beta.ensures c.requires.work_room.matrices_long,
-      omega (arith, spare_in c.requires.work_room.sizes c.args.t.now c.spare_at-spare.ensures c.requires.work_room.terms_long),
-    )
+solve_u-requires c = (
+  wy_in c.requires.work_room.sizes c.args.m.now c.wy_at.ensures c.requires.work_room.matrices_long,
+  solved_in c.requires.work_room.sizes c.args.m.now c.solved_at.ensures c.requires.work_room.matrices_long,
+  beta_in c.requires.work_room.sizes c.args.m.now c.beta_at-beta.ensures c.requires.work_room.matrices_long,
+  omega (arith, spare_in c.requires.work_room.sizes c.args.t.now c.spare_at-spare.ensures c.requires.work_room.terms_long),
+)
 
 pub effects_into-requires : goal.effects_into-requires
 effects_into-requires c =
-    
     record {
       shape_value = (c.requires.ready.good, c.requires.ready.effects, c.requires.ready.numbers);
       q_in_bounds = (
@@ -50,17 +48,17 @@ effects_into-requires c =
 
 pub zb_into-requires : goal.zb_into-requires
 zb_into-requires c = record {
-      rows = c.requires.ready.rows;
-      q_in_bounds = (
-        omega (
-          arith,
-          c.requires.work_room.matrices_long,
-          (laid_out c.requires.work_room.sizes).matrices,
-          c.b_at-b.ensures,
-        ),
-        omega (arith, c.requires.work_room.rows_long, (laid_out c.requires.work_room.sizes).rows, c.raw_row-raw.ensures),
-      );
-    }
+  rows = c.requires.ready.rows;
+  q_in_bounds = (
+    omega (
+      arith,
+      c.requires.work_room.matrices_long,
+      (laid_out c.requires.work_room.sizes).matrices,
+      c.b_at-b.ensures,
+    ),
+    omega (arith, c.requires.work_room.rows_long, (laid_out c.requires.work_room.sizes).rows, c.raw_row-raw.ensures),
+  );
+}
 
 pub overflow_add-be : goal.overflow_add-be
 overflow_add-be c = omega (arith, beta_few c.requires.work_room.sizes c.beta_at-beta.ensures)
@@ -85,18 +83,17 @@ pub slice_bounds-raw_row-end-2 : goal.slice_bounds-raw_row-end-2
 slice_bounds-raw_row-end-2 c = omega (arith, raw_in c.requires.work_room.sizes c.args.r.now c.raw_row-raw.ensures c.requires.work_room.rows_long)
 
 pub raw_row-requires : goal.raw_row-requires
-raw_row-requires c =
-    (
-      c.requires.optional.0,
-      c.requires.optional.1,
-      part_has _ _ _ _ refl
-          (omega (
-            arith,
-            beta_in c.requires.work_room.sizes c.args.m.now c.beta_at-beta.ensures c.requires.work_room.matrices_long,
-          )),
-      part_has _ _ _ _ refl
-          (omega (arith, raw_in c.requires.work_room.sizes c.args.r.now c.raw_row-raw.ensures c.requires.work_room.rows_long)),
-    )
+raw_row-requires c = (
+  c.requires.optional.0,
+  c.requires.optional.1,
+  part_has _ _ _ _ refl
+      (omega (
+        arith,
+        beta_in c.requires.work_room.sizes c.args.m.now c.beta_at-beta.ensures c.requires.work_room.matrices_long,
+      )),
+  part_has _ _ _ _ refl
+      (omega (arith, raw_in c.requires.work_room.sizes c.args.r.now c.raw_row-raw.ensures c.requires.work_room.rows_long)),
+)
 
 pub shape_of-r : goal.shape_of-r
 shape_of-r c =

@@ -20,10 +20,10 @@ slice_bounds-solve_side-end-2 c = omega (arith, factor_in c.requires.work_room.s
 
 pub normal_columns-requires : goal.normal_columns-requires
 normal_columns-requires c = record {
-      ready = c.requires.ready;
-      work_room = lent_kept c.requires.work_room refl c.solve_side.auto.m refl;
-      p_in_bounds = c.requires.p_in_bounds;
-    }
+  ready = c.requires.ready;
+  work_room = lent_kept c.requires.work_room refl c.solve_side.auto.m refl;
+  p_in_bounds = c.requires.p_in_bounds;
+}
 
 pub shape_of-m : goal.shape_of-m
 shape_of-m c = c.normal_columns.auto.m ∙ c.solve_side.auto.m

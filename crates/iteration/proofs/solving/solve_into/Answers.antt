@@ -11,13 +11,13 @@ w_at-requires c = c.requires.work_room.sizes.q_few
 
 pub factor_system-factored-requires : goal.factor_system-factored-requires
 factor_system-factored-requires c = record {
-      ready = c.requires.ready;
-      q_bound = (
-        omega (arith, c.w_at.ensures),
-        w_in c.requires.work_room.sizes c.args.t.now c.w_at.ensures c.requires.work_room.terms_long,
-        omega (arith, system_in c.requires.work_room.sizes {k = 0} c.args.m.now refl c.requires.work_room.matrices_long),
-      );
-    }
+  ready = c.requires.ready;
+  q_bound = (
+    omega (arith, c.w_at.ensures),
+    w_in c.requires.work_room.sizes c.args.t.now c.w_at.ensures c.requires.work_room.terms_long,
+    omega (arith, system_in c.requires.work_room.sizes {k = 0} c.args.m.now refl c.requires.work_room.matrices_long),
+  );
+}
 
 pub returns-in-Bad : goal.returns-in-Bad
 returns-in-Bad c =
@@ -27,22 +27,22 @@ returns-in-Bad c =
 
 pub right_sides-requires : goal.right_sides-requires
 right_sides-requires c = record {
-      ready = c.requires.ready;
-      work_room = lent_kept c.requires.work_room refl c.factor_system-factored.auto.m
-            c.factor_system-factored.auto.t;
-      p_in_bounds = c.requires.optional.1;
-    }
+  ready = c.requires.ready;
+  work_room = lent_kept c.requires.work_room refl c.factor_system-factored.auto.m
+      c.factor_system-factored.auto.t;
+  p_in_bounds = c.requires.optional.1;
+}
 
 pub solve_root-rooted-requires : goal.solve_root-rooted-requires
 solve_root-rooted-requires c = record {
-      sizes = c.requires.work_room.sizes;
-      q_in_bounds = (
-        rw (c.right_sides.auto.m ∙ c.factor_system-factored.auto.m)
-            c.requires.work_room.matrices_long,
-        rw (c.right_sides.auto.t ∙ c.factor_system-factored.auto.t)
-            c.requires.work_room.terms_long,
-      );
-    }
+  sizes = c.requires.work_room.sizes;
+  q_in_bounds = (
+    rw (c.right_sides.auto.m ∙ c.factor_system-factored.auto.m)
+        c.requires.work_room.matrices_long,
+    rw (c.right_sides.auto.t ∙ c.factor_system-factored.auto.t)
+        c.requires.work_room.terms_long,
+  );
+}
 
 pub returns-in-Bad-rooted : goal.returns-in-Bad-rooted
 returns-in-Bad-rooted c =
@@ -53,14 +53,14 @@ returns-in-Bad-rooted c =
 
 pub raw_into-requires : goal.raw_into-requires
 raw_into-requires c = record {
-      ready = c.requires.ready;
-      work_room = lent_kept c.requires.work_room refl
-            (c.solve_root-rooted.auto.m ∙ c.right_sides.auto.m
-            ∙ c.factor_system-factored.auto.m)
-            (c.solve_root-rooted.auto.t ∙ c.right_sides.auto.t
-            ∙ c.factor_system-factored.auto.t);
-      optional = c.requires.optional;
-    }
+  ready = c.requires.ready;
+  work_room = lent_kept c.requires.work_room refl
+      (c.solve_root-rooted.auto.m ∙ c.right_sides.auto.m
+      ∙ c.factor_system-factored.auto.m)
+      (c.solve_root-rooted.auto.t ∙ c.right_sides.auto.t
+      ∙ c.factor_system-factored.auto.t);
+  optional = c.requires.optional;
+}
 
 pub shape_of-r : goal.shape_of-r
 shape_of-r c = c.raw_into.auto.r

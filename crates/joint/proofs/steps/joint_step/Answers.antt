@@ -11,9 +11,9 @@ block_scale-requires c = scale_room 0 c.args.q c.requires.roomy.lent (omega arit
 
 pub joint_sums-a-requires : goal.joint_sums-a-requires
 joint_sums-a-requires c = record {
-      roomy = roomy_kept c.requires.roomy refl c.block_scale.ensures.matrices_only.len c.block_scale.ensures.terms_only.len;
-      q_bound = c.requires.q_bound;
-    }
+  roomy = roomy_kept c.requires.roomy refl c.block_scale.ensures.matrices_only.len c.block_scale.ensures.terms_only.len;
+  q_bound = c.requires.q_bound;
+}
 
 pub shape_of-m-in-Unscaled : goal.shape_of-m-in-Unscaled
 shape_of-m-in-Unscaled c = c.block_scale.ensures.matrices_only.len

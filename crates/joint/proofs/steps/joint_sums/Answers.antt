@@ -38,15 +38,15 @@ power-count-requires c = power_room _ _ c.args.q c.gh_rule-rule.ensures c.requir
 
 pub joint_terms-requires : goal.joint_terms-requires
 joint_terms-requires c = record {
-      room = room_of _ _ c.requires.roomy c.xbeta_row-xbeta.ensures c.trial_u_at-trial.ensures c.mark_all.ensures.only.len refl;
-      grid = grid_of _ _ 0 c.args.q _ _ _ _ c.gh_rule-rule.ensures c.requires.roomy.lent refl (omega arith) c.inverse_at-l.ensures
-            c.u_at-u.ensures c.trial_u_at-trial.ensures;
-      size_in_bounds = (
-          rule_logs_long _ _ c.gh_rule-rule.ensures (logs_of _ _ _ c.gh_rule-rule.ensures refl _ c.log_weights.ensures),
-          count_in_lem c.args.order _ c.args.q 7000 _ c.args.t.now c.gh_rule-rule.ensures c.requires.q_bound
-              c.power-count.ensures (omega arith) c.requires.roomy.lent.terms_long,
-        );
-    }
+  room = room_of _ _ c.requires.roomy c.xbeta_row-xbeta.ensures c.trial_u_at-trial.ensures c.mark_all.ensures.only.len refl;
+  grid = grid_of _ _ 0 c.args.q _ _ _ _ c.gh_rule-rule.ensures c.requires.roomy.lent refl (omega arith) c.inverse_at-l.ensures
+      c.u_at-u.ensures c.trial_u_at-trial.ensures;
+  size_in_bounds = (
+    rule_logs_long _ _ c.gh_rule-rule.ensures (logs_of _ _ _ c.gh_rule-rule.ensures refl _ c.log_weights.ensures),
+    count_in_lem c.args.order _ c.args.q 7000 _ c.args.t.now c.gh_rule-rule.ensures c.requires.q_bound
+        c.power-count.ensures (omega arith) c.requires.roomy.lent.terms_long,
+  );
+}
 
 pub log_sum-requires : goal.log_sum-requires
 log_sum-requires c =

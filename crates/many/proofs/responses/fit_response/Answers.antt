@@ -9,9 +9,9 @@ results_length-block-requires c = let f = c.requires.1.fronts.sizes in (f.n, f.p
 
 pub offset-from-requires : goal.offset-from-requires
 offset-from-requires c = (
-      omega (arith, c.requires.0),
-      omega (arith, rows_small c.args.responses c.args.header.settings.n c.requires.1.few c.requires.1.fronts.sizes.n),
-    )
+  omega (arith, c.requires.0),
+  omega (arith, rows_small c.args.responses c.args.header.settings.n c.requires.1.few c.requires.1.fronts.sizes.n),
+)
 
 pub overflow_add-to : goal.overflow_add-to
 overflow_add-to c =
@@ -23,13 +23,13 @@ overflow_add-to c =
 
 pub offset-first-requires : goal.offset-first-requires
 offset-first-requires c = (
-      c.requires.0,
-      omega (
-        arith,
-        block_small c.args.header.settings c.args.responses _ c.requires.1.fronts.sizes c.requires.1.few
-            c.results_length-block.ensures,
-      ),
-    )
+  c.requires.0,
+  omega (
+    arith,
+    block_small c.args.header.settings c.args.responses _ c.requires.1.fronts.sizes c.requires.1.few
+        c.results_length-block.ensures,
+  ),
+)
 
 pub overflow_add-end : goal.overflow_add-end
 overflow_add-end c =

@@ -17,11 +17,11 @@ mu_row-requires c = c.requires.asked.lent.sizes.n_few
 
 pub start_eta-requires : goal.start_eta-requires
 start_eta-requires c = (
-      c.requires.asked.offset_fits,
-      inr (omega (arith, c.mu_row.ensures)),
-      mu_in c.requires.asked.lent.sizes c.args.r.now c.mu_row.ensures c.requires.asked.lent.rows_long,
-      first_eta_in c.requires.asked.lent.sizes c.args.r.now refl c.requires.asked.lent.rows_long,
-    )
+  c.requires.asked.offset_fits,
+  inr (omega (arith, c.mu_row.ensures)),
+  mu_in c.requires.asked.lent.sizes c.args.r.now c.mu_row.ensures c.requires.asked.lent.rows_long,
+  first_eta_in c.requires.asked.lent.sizes c.args.r.now refl c.requires.asked.lent.rows_long,
+)
 
 pub loop-k-init : goal.loop-k-init
 loop-k-init c =
@@ -32,10 +32,10 @@ loop-k-init c =
 
 pub iterate-it-requires : goal.iterate-it-requires
 iterate-it-requires c = record {
-      asked = asked_kept c.requires.asked (c.loop-k.invariant.rows_only.len ∙ c.start_eta.ensures.only.len) c.loop-k.invariant.matrices_only.len
-          c.loop-k.invariant.terms_only.len;
-      met = λ e. c.loop-k.invariant.met (ltb-true _ _ e);
-    }
+  asked = asked_kept c.requires.asked (c.loop-k.invariant.rows_only.len ∙ c.start_eta.ensures.only.len) c.loop-k.invariant.matrices_only.len
+      c.loop-k.invariant.terms_only.len;
+  met = λ e. c.loop-k.invariant.met (ltb-true _ _ e);
+}
 
 pub shape_of-r-in-Unsolvable : goal.shape_of-r-in-Unsolvable
 shape_of-r-in-Unsolvable c = c.iterate-it.auto.r ∙ (c.loop-k.invariant.rows_only.len ∙ c.start_eta.ensures.only.len)
@@ -86,12 +86,12 @@ with_solve-account-requires c =
 
 pub stop-s-requires : goal.stop-s-requires
 stop-s-requires c = (
-      lent_kept c.requires.asked.lent
-          (c.iterate-it.auto.r ∙ (c.loop-k.invariant.rows_only.len ∙ c.start_eta.ensures.only.len))
-          (c.iterate-it.auto.m ∙ c.loop-k.invariant.matrices_only.len)
-          (c.iterate-it.auto.t ∙ c.loop-k.invariant.terms_only.len),
-      c.requires.asked.y_long,
-    )
+  lent_kept c.requires.asked.lent
+      (c.iterate-it.auto.r ∙ (c.loop-k.invariant.rows_only.len ∙ c.start_eta.ensures.only.len))
+      (c.iterate-it.auto.m ∙ c.loop-k.invariant.matrices_only.len)
+      (c.iterate-it.auto.t ∙ c.loop-k.invariant.terms_only.len),
+  c.requires.asked.y_long,
+)
 
 pub shape_of-r-then-stops : goal.shape_of-r-then-stops
 shape_of-r-then-stops c = c.stop-s.auto.r ∙ c.iterate-it.auto.r ∙ (c.loop-k.invariant.rows_only.len ∙ c.start_eta.ensures.only.len)

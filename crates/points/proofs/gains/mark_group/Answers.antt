@@ -36,9 +36,9 @@ overflow_add-a c = omega arith
 
 pub mark_one-requires : goal.mark_one-requires
 mark_one-requires c = record {
-      rows = c.requires.rows;
-      a_bound = (omega (arith, c.requires.k_bound.0, c.loop-i-test.true), omega arith);
-    }
+  rows = c.requires.rows;
+  a_bound = (omega (arith, c.requires.k_bound.0, c.loop-i-test.true), omega arith);
+}
 
 pub overflow_add-i : goal.overflow_add-i
 overflow_add-i c = omega arith

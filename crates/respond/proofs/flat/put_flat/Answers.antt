@@ -211,10 +211,10 @@ slice_bounds-put_answer-end-9 c = omega (arith, c.requires.2)
 
 pub put_answer-requires : goal.put_answer-requires
 put_answer-requires c = (
-      c.requires.0,
-      lists_few c.args.settings.n c.args.settings.p c.args.settings.rows c.args.results.now c.requires.1.n
-          c.requires.1.p c.requires.1.q c.requires.2,
-    )
+  c.requires.0,
+  lists_few c.args.settings.n c.args.settings.p c.args.settings.rows c.args.results.now c.requires.1.n
+      c.requires.1.p c.requires.1.q c.requires.2,
+)
 
 pub shape_of-out : goal.shape_of-out
 shape_of-out c = c.put_answer.auto.out

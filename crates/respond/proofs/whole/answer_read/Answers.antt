@@ -7,10 +7,10 @@ fit_fronts-answer-requires c = c.requires.1
 
 pub put_flat-requires : goal.put_flat-requires
 put_flat-requires c = (
-      c.requires.0,
-      c.requires.1.sizes,
-      results_room c.args.header.settings _ c.requires.1.sizes c.fit_fronts-answer.auto.results,
-    )
+  c.requires.0,
+  c.requires.1.sizes,
+  results_room c.args.header.settings _ c.requires.1.sizes c.fit_fronts-answer.auto.results,
+)
 
 pub returns : goal.returns
 returns c = read_response _ _ _ _ _ _ _ _ _ _ _ _ c.requires.1.sizes c.fit_fronts-answer.ensures c.put_flat.ensures

@@ -8,9 +8,9 @@ copy-requires-2 c = (omega (arith, c.requires.readable.u_long), omega (arith, c.
 
 pub lambda_times-requires : goal.lambda_times-requires
 lambda_times-requires c = record {
-      shape_value = (c.requires.readable.good, c.requires.readable.effects);
-      shape_in_bounds = (c.requires.readable.numbers, omega (arith, c.requires.readable.u_long), omega (arith, c.requires.writable.b_long));
-    }
+  shape_value = (c.requires.readable.good, c.requires.readable.effects);
+  shape_in_bounds = (c.requires.readable.numbers, omega (arith, c.requires.readable.u_long), omega (arith, c.requires.writable.b_long));
+}
 
 pub copy-requires-3 : goal.copy-requires-3
 copy-requires-3 c = (omega (arith, c.requires.readable.mu_long), omega (arith, c.requires.writable.mu_long))

@@ -20,9 +20,9 @@ loop-k-init c =
 
 pub inner_at-a-requires : goal.inner_at-a-requires
 inner_at-a-requires c = record {
-      asked = asked_kept c.requires.asked c.loop-k.invariant.rows_only.len c.loop-k.invariant.matrices_only.len c.loop-k.invariant.terms_only.len;
-      limit_bound = c.requires.limit_bound;
-    }
+  asked = asked_kept c.requires.asked c.loop-k.invariant.rows_only.len c.loop-k.invariant.matrices_only.len c.loop-k.invariant.terms_only.len;
+  limit_bound = c.requires.limit_bound;
+}
 
 pub plus-account-requires : goal.plus-account-requires
 plus-account-requires c =
@@ -74,9 +74,9 @@ loop-k-preserved c =
 
 pub inner_at-a-requires-2 : goal.inner_at-a-requires-2
 inner_at-a-requires-2 c = record {
-      asked = asked_kept c.requires.asked c.loop-k.invariant.rows_only.len c.loop-k.invariant.matrices_only.len c.loop-k.invariant.terms_only.len;
-      limit_bound = c.requires.limit_bound;
-    }
+  asked = asked_kept c.requires.asked c.loop-k.invariant.rows_only.len c.loop-k.invariant.matrices_only.len c.loop-k.invariant.terms_only.len;
+  limit_bound = c.requires.limit_bound;
+}
 
 pub plus-account-requires-2 : goal.plus-account-requires-2
 plus-account-requires-2 c =

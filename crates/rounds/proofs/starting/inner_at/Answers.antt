@@ -11,9 +11,9 @@ use Rattle.rounds.proofs.starting.inner_at.Goals as goal
 
 pub inner_answer-requires : goal.inner_answer-requires
 inner_answer-requires c = record {
-      asked = asked_kept c.requires.asked (search rules) refl refl;
-      limit_bound = c.requires.limit_bound;
-    }
+  asked = asked_kept c.requires.asked (search rules) refl refl;
+  limit_bound = c.requires.limit_bound;
+}
 
 pub returns : goal.returns
 returns c =

@@ -37,10 +37,10 @@ loop-j-smaller c = search (rules, loops)
 
 pub loop-j-preserved : goal.loop-j-preserved
 loop-j-preserved c = (
-      omega arith,
-      simp length-set (omega arith),
-      copy_step _ _ c.args.n _ c.args.m.now _ c.requires.0 (omega arith) c.loop-j.invariant.2,
-    )
+  omega arith,
+  simp length-set (omega arith),
+  copy_step _ _ c.args.n _ c.args.m.now _ c.requires.0 (omega arith) c.loop-j.invariant.2,
+)
 
 pub shape_of-m : goal.shape_of-m
 shape_of-m c = search (rules, loops)

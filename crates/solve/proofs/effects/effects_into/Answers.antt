@@ -10,9 +10,9 @@ use Rattle.solve.proofs.effects.effects_into.Goals as goal
 
 pub lambda_times-requires : goal.lambda_times-requires
 lambda_times-requires c = record {
-      shape_value = (c.requires.shape_value.0, c.requires.shape_value.1);
-      shape_in_bounds = (c.requires.shape_value.2, search rules, search rules);
-    }
+  shape_value = (c.requires.shape_value.0, c.requires.shape_value.1);
+  shape_in_bounds = (c.requires.shape_value.2, search rules, search rules);
+}
 
 pub returns : goal.returns
 returns c =

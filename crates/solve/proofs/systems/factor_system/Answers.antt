@@ -8,9 +8,9 @@ use Rattle.solve.proofs.systems.factor_system.Goals as goal
 
 pub system-requires : goal.system-requires
 system-requires c = record {
-      shape_value = (c.requires.ready.good, c.requires.ready.effects);
-      shape_in_bounds = (c.requires.ready.numbers, search rules, search rules);
-    }
+  shape_value = (c.requires.ready.good, c.requires.ready.effects);
+  shape_in_bounds = (c.requires.ready.numbers, search rules, search rules);
+}
 
 pub returns : goal.returns
 returns c =

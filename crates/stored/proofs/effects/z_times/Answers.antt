@@ -13,9 +13,9 @@ loop-a-init c = (omega arith, omega arith, rows_none (sparse c.args.starts.now c
 
 pub add_row-requires : goal.add_row-requires
 add_row-requires c = record {
-      rows = c.requires.rows;
-      a_lt_rows = omega arith;
-    }
+  rows = c.requires.rows;
+  a_lt_rows = omega arith;
+}
 
 pub overflow_add-a : goal.overflow_add-a
 overflow_add-a c = omega arith

@@ -10,9 +10,9 @@ loop-a-init c = (omega arith, omega arith, fill_none _ _)
 
 pub row_times-requires : goal.row_times-requires
 row_times-requires c = record {
-      rows = c.requires.rows;
-      a_lt_rows = omega arith;
-    }
+  rows = c.requires.rows;
+  a_lt_rows = omega arith;
+}
 
 pub offset_bounds-out-a : goal.offset_bounds-out-a
 offset_bounds-out-a c = omega arith

@@ -42,9 +42,9 @@ ztwz_row-requires c =
       rows = c.requires.rows;
       a_lt_rows = omega arith;
       between = record {
-          before = marked_apart Z itself c.loop-a.a c.loop-a.first _ c.loop-a.invariant.3 c.least_mark-low.ensures;
-          behind = marked_apart Z (others c.args.rows) c.loop-a.a c.loop-a.last _ c.loop-a.invariant.4 c.least_mark-far.ensures;
-        };
+        before = marked_apart Z itself c.loop-a.a c.loop-a.first _ c.loop-a.invariant.3 c.least_mark-low.ensures;
+        behind = marked_apart Z (others c.args.rows) c.loop-a.a c.loop-a.last _ c.loop-a.invariant.4 c.least_mark-far.ensures;
+      };
     }
 
 pub lower_marks-requires : goal.lower_marks-requires

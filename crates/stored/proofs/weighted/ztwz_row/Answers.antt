@@ -17,10 +17,10 @@ offset-bo-requires c = omega arith
 
 pub ztwz_entry-sum-requires : goal.ztwz_entry-sum-requires
 ztwz_entry-sum-requires c = record {
-      rows = c.requires.rows;
-      a_lt_rows = omega arith;
-      between = c.requires.between;
-    }
+  rows = c.requires.rows;
+  a_lt_rows = omega arith;
+  between = c.requires.between;
+}
 
 pub overflow_add-out : goal.overflow_add-out
 overflow_add-out c = omega arith

@@ -9,9 +9,9 @@ one_sigma-requires c = (c.requires.roomy.lent.sizes.q_few, c.requires.g_lt_q.0, 
 
 pub one_sums-requires : goal.one_sums-requires
 one_sums-requires c = record {
-      roomy = c.requires.roomy;
-      g_lt_q = c.requires.g_lt_q;
-    }
+  roomy = c.requires.roomy;
+  g_lt_q = c.requires.g_lt_q;
+}
 
 pub returns-in-NoSigma : goal.returns-in-NoSigma
 returns-in-NoSigma c =

@@ -15,12 +15,12 @@ mark_row-mark-requires c = c.requires.roomy.lent.sizes.n_few
 
 pub mark_group-requires : goal.mark_group-requires
 mark_group-requires c = record {
-      rows = c.requires.roomy.ready.rows;
-      k_bound = (
-        omega (arith, c.requires.g_lt_q.0),
-        mark_in c.requires.roomy.lent.sizes c.args.r.now c.mark_row-mark.ensures c.requires.roomy.lent.rows_long,
-      );
-    }
+  rows = c.requires.roomy.ready.rows;
+  k_bound = (
+    omega (arith, c.requires.g_lt_q.0),
+    mark_in c.requires.roomy.lent.sizes c.args.r.now c.mark_row-mark.ensures c.requires.roomy.lent.rows_long,
+  );
+}
 
 pub u_at-u-requires : goal.u_at-u-requires
 u_at-u-requires c = (c.requires.roomy.lent.sizes.p_few, c.requires.roomy.lent.sizes.q_few)
@@ -30,25 +30,25 @@ trial_u_at-trial-requires c = (c.requires.roomy.lent.sizes.p_few, c.requires.roo
 
 pub copy_row-requires : goal.copy_row-requires
 copy_row-requires c = (
-      hats_before c.args.p c.args.q _ _ c.u_at-u.ensures c.trial_u_at-trial.ensures,
-      trial_u_in c.requires.roomy.lent.sizes c.args.m.now c.trial_u_at-trial.ensures c.requires.roomy.lent.matrices_long,
-    )
+  hats_before c.args.p c.args.q _ _ c.u_at-u.ensures c.trial_u_at-trial.ensures,
+  trial_u_in c.requires.roomy.lent.sizes c.args.m.now c.trial_u_at-trial.ensures c.requires.roomy.lent.matrices_long,
+)
 
 pub xbeta_row-xbeta-requires : goal.xbeta_row-xbeta-requires
 xbeta_row-xbeta-requires c = c.requires.roomy.lent.sizes.n_few
 
 pub one_terms-requires : goal.one_terms-requires
 one_terms-requires c = record {
-      room = room_of _ _ c.requires.roomy c.xbeta_row-xbeta.ensures c.trial_u_at-trial.ensures c.mark_group.ensures.only.len
-          (ap length c.copy_row.ensures ∙ length_fillat _ _ _ _);
-      g_lt_q = (
-        c.requires.g_lt_q.0,
-        hats_before c.args.p c.args.q _ _ c.u_at-u.ensures c.trial_u_at-trial.ensures,
-        rule_nodes_long _ _ c.gh_rule-rule.ensures,
-        rule_logs_long _ _ c.gh_rule-rule.ensures c.requires.g_lt_q.1,
-        rule_in _ _ c.gh_rule-rule.ensures c.args.t.now c.requires.roomy.lent.terms_long,
-      );
-    }
+  room = room_of _ _ c.requires.roomy c.xbeta_row-xbeta.ensures c.trial_u_at-trial.ensures c.mark_group.ensures.only.len
+      (ap length c.copy_row.ensures ∙ length_fillat _ _ _ _);
+  g_lt_q = (
+    c.requires.g_lt_q.0,
+    hats_before c.args.p c.args.q _ _ c.u_at-u.ensures c.trial_u_at-trial.ensures,
+    rule_nodes_long _ _ c.gh_rule-rule.ensures,
+    rule_logs_long _ _ c.gh_rule-rule.ensures c.requires.g_lt_q.1,
+    rule_in _ _ c.gh_rule-rule.ensures c.args.t.now c.requires.roomy.lent.terms_long,
+  );
+}
 
 pub log_sum-requires : goal.log_sum-requires
 log_sum-requires c =

@@ -21,9 +21,9 @@ returns-then-not-count_ok c = sym (line_8 _ _ _ _ _ (sym c.sizes_ok.ensures ∙ 
 
 pub inputs_ok-requires : goal.inputs_ok-requires
 inputs_ok-requires c = (
-      sym c.sizes_ok.ensures ∙ c.if-not-sizes_ok.false,
-      (count_fits _ (sym c.count_ok.ensures ∙ c.if-not-count_ok.false)).1,
-    )
+  sym c.sizes_ok.ensures ∙ c.if-not-sizes_ok.false,
+  (count_fits _ (sym c.count_ok.ensures ∙ c.if-not-count_ok.false)).1,
+)
 
 pub returns-then-not-inputs_ok : goal.returns-then-not-inputs_ok
 returns-then-not-inputs_ok c =
@@ -33,9 +33,9 @@ returns-then-not-inputs_ok c =
 
 pub results_ok-requires : goal.results_ok-requires
 results_ok-requires c = (
-      (sized _ _ (sym c.sizes_ok.ensures ∙ c.if-not-sizes_ok.false)).sizes,
-      (count_fits _ (sym c.count_ok.ensures ∙ c.if-not-count_ok.false)).1,
-    )
+  (sized _ _ (sym c.sizes_ok.ensures ∙ c.if-not-sizes_ok.false)).sizes,
+  (count_fits _ (sym c.count_ok.ensures ∙ c.if-not-count_ok.false)).1,
+)
 
 pub returns-then-not-results_ok : goal.returns-then-not-results_ok
 returns-then-not-results_ok c =

@@ -47,11 +47,11 @@ loop-i-smaller c = search (rules, loops)
 
 pub loop-i-preserved : goal.loop-i-preserved
 loop-i-preserved c = (
-      omega arith,
-      simp length-set (omega arith),
-      candidate_step _ _ _ _ _ _ _ _ c.requires.0 c.requires.2 c.requires.3 c.requires.4 c.loop-i-test.true
-          c.loop-i.invariant.2,
-    )
+  omega arith,
+  simp length-set (omega arith),
+  candidate_step _ _ _ _ _ _ _ _ c.requires.0 c.requires.2 c.requires.3 c.requires.4 c.loop-i-test.true
+      c.loop-i.invariant.2,
+)
 
 pub shape_of-rows : goal.shape_of-rows
 shape_of-rows c = search (rules, loops)

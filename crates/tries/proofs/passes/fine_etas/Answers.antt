@@ -37,10 +37,10 @@ loop-i-smaller c = search (rules, loops)
 
 pub loop-i-preserved : goal.loop-i-preserved
 loop-i-preserved c = (
-      omega arith,
-      all_step _ _ c.loop-i.invariant.1
-          (fine_at _ _ _ _ _ _ _ c.requires c.loop-i-test.true c.fine_eta.ensures c.if-not-fine_eta.false),
-    )
+  omega arith,
+  all_step _ _ c.loop-i.invariant.1
+      (fine_at _ _ _ _ _ _ _ c.requires c.loop-i-test.true c.fine_eta.ensures c.if-not-fine_eta.false),
+)
 
 pub returns : goal.returns
 returns c = search (rules, loops)

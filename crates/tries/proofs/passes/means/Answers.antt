@@ -41,10 +41,10 @@ loop-i-smaller c = search (rules, loops)
 
 pub loop-i-preserved : goal.loop-i-preserved
 loop-i-preserved c = (
-      omega arith,
-      simp length-set (omega arith),
-      mean_step _ _ _ _ _ _ _ _ c.requires.0 c.requires.2 c.loop-i-test.true c.loop-i.invariant.2 c.link_inv.ensures,
-    )
+  omega arith,
+  simp length-set (omega arith),
+  mean_step _ _ _ _ _ _ _ _ c.requires.0 c.requires.2 c.loop-i-test.true c.loop-i.invariant.2 c.link_inv.ensures,
+)
 
 pub shape_of-rows : goal.shape_of-rows
 shape_of-rows c = search (rules, loops)
