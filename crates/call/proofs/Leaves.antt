@@ -1,6 +1,5 @@
 -- What a call leaves, by its verdict and by what its fit comes to. Assumes nothing.
 use mathlib.Core.Path.{◌≡◌, refl}
-use mathlib.Core.List.{List}
 use Prim.Native.Nat.{ℕ}
 use native.Mathlib.Omega.{arith}
 use Rattle.base.specs.List.{zero_at, fill_to}

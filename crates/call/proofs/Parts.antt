@@ -1,5 +1,5 @@
 -- What became of the tries of a call: the four parts add up to the tries, and there is one accepted try for each solve, but for the last solve of a call that ends with 12. Document 02, P9. Assumes nothing.
-use mathlib.Core.Path.{◌≡◌, refl, sym, ◌∙◌}
+use mathlib.Core.Path.{◌≡◌, refl, sym}
 use mathlib.Core.Bool.{Bool, true, false}
 use mathlib.Core.List.{List}
 use mathlib.Core.Logic.{inr}

@@ -18,7 +18,7 @@ use Rattle.family.proofs.InRange.{gaussian_range}
 use Rattle.table.specs.Facts.{AllInRange}
 use Rattle.table.specs.When.{GivenWhen}
 use Rattle.table.proofs.Exactly.{range_exactly, outside_exactly}
-use Rattle.call.specs.Call.{Lent, lengths_of, call_of, FitNumber}
+use Rattle.call.specs.Call.{Lent, call_of, FitNumber}
 use Rattle.call.proofs.When.{refused_exactly, accepted_exactly}
 
 module _ (t : Settings) (s : Shape) (I : Inputs) (L : Lent) where

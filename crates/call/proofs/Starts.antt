@@ -1,6 +1,5 @@
 -- The start with trial counts: with weights absent or all 1 it begins from the same means as the usual start, so the call is the same; a call that asks for it is refused with 27 exactly where it must be. Document 02, P10. Assumes nothing.
 use mathlib.Core.Path.{◌≡◌, refl, sym, ap, ◌∙◌}
-use mathlib.Core.List.{List}
 use mathlib.Core.Logic.{◌⊎◌}
 use Prim.Native.Nat.{ℕ, ◌<◌}
 use lib.Dec.{T}

@@ -1,7 +1,7 @@
 -- The reason that a call tells: under number 0 it is 0 exactly where an order from 3 to 11 is told, and 1, 2 and 3 exactly where the order choice has them, in this order; under every other number it is 0. Assumes nothing.
 use mathlib.Core.Path.{◌≡◌, refl, sym, ap, ◌∙◌}
 use mathlib.Core.Logic.{◌↔◌, ◌⊎◌}
-use Prim.Native.Nat.{ℕ, ◌≤◌, ◌<◌}
+use Prim.Native.Nat.{◌≤◌, ◌<◌}
 use native.Mathlib.Omega.{arith}
 use Rattle.base.specs.Sum.{◌!!◌}
 use Rattle.model.specs.Answer.{refused_answer, unfitted_answer, fitted_answer}

@@ -1,13 +1,12 @@
 -- The rule of Cholesky below, on and above the diagonal, and the two ways on from a row. Assumes nothing.
 use mathlib.Core.Path.{◌≡◌, refl, sym, ap, ◌∙◌}
 use mathlib.Core.List.{List}
-use mathlib.Core.Bool.{Bool, true, false, not}
+use mathlib.Core.Bool.{Bool, true, false}
 use Prim.Native.Nat.{ℕ, ◌+◌, ◌*◌, ◌<◌, ◌≤◌}
 use native.Mathlib.Omega.{arith}
 use lib.ListN.{length, set, take, drop}
 use Rattle.base.proofs.Rows.{part_at}
 use lib.Ieee.{Float}
-use borrow.Author.Tests.{not-true, not-false}
 use Rattle.base.specs.Number.{◌⊖◌, ◌⊘◌}
 use Rattle.base.specs.Sum.{◌!◌, sum_to, product_from}
 use Rattle.base.specs.List.{at}

@@ -1,12 +1,11 @@
 -- The rule of LDL' below, on and above the diagonal, and the two ways on from a row. Assumes nothing.
 use mathlib.Core.Path.{◌≡◌, refl, sym, ap, ◌∙◌}
 use mathlib.Core.List.{List}
-use mathlib.Core.Bool.{Bool, true, false, not}
+use mathlib.Core.Bool.{Bool, true, false}
 use Prim.Native.Nat.{ℕ, ◌+◌, ◌*◌, ◌<◌, ◌≤◌}
 use native.Mathlib.Omega.{arith}
 use lib.ListN.{length, set}
 use lib.Ieee.{Float}
-use borrow.Author.Tests.{not-true, not-false}
 use Rattle.base.specs.Number.{◌⊖◌, ◌⊘◌}
 use Rattle.base.specs.Sum.{◌!◌}
 use Rattle.base.specs.List.{at}

@@ -1,7 +1,7 @@
 -- Zeros at the head of a sum from +0.0 leave it at +0.0, so a sum may begin behind them; a zero times a finite number is one. Assumes nothing.
 use mathlib.Core.Path.{◌≡◌, refl, sym, ◌∙◌}
 use mathlib.Core.List.{List}
-use mathlib.Core.Bool.{Bool, true, false, not, ◌||◌, beq}
+use mathlib.Core.Bool.{Bool, true, false, ◌||◌, beq}
 use mathlib.Core.Logic.{⊎_elim}
 use Prim.Native.Nat.compare
 use Prim.Native.Nat.{ℕ, zero, suc, ◌+◌, ◌-◌, ◌*◌, ◌≤◌, ◌<◌}

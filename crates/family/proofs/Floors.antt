@@ -8,7 +8,6 @@ use lib.Ieee.Positive.{positive, above_of_le, mul_mono}
 use Rattle.base.specs.Number.{◌⊖◌, ◌⊗◌, bits, zero_f, one_f, eps_f, abs_f, max_f, clamp_f}
 use Rattle.elementary.specs.Exp.{exp_of}
 use Rattle.elementary.proofs.ExpFacts.{exp_nan, exp_minus_inf, exp_never_below_zero}
-use Rattle.normal.specs.Normal.{norm_pdf}
 use Rattle.normal.proofs.NormalFacts.{pdf_nan, pdf_far}
 use Rattle.family.specs.Link.{clamp_e, mu_eta}
 use Rattle.family.specs.Family.{variance_of, initialize_mu}

@@ -4,12 +4,11 @@ use mathlib.Core.Logic.{◌↔◌}
 use mathlib.Core.Bool.{Bool, true, false}
 use lib.Ieee.{Float, nan, is_nan, lt, le, eq, of_bits}
 use Rattle.base.specs.Number.{◌⊗◌, bits, zero_f, one_f, two_f, eps_f, max_f}
-use Rattle.base.proofs.Doubles.{ff, is_nan_lem, at_most, not_both}
+use Rattle.base.proofs.Doubles.{ff, is_nan_lem, at_most}
 use Rattle.base.proofs.Order.{below_not_from}
 use Rattle.model.proofs.Tests.{both, joined}
 use Rattle.family.specs.Link.{clamp_e}
 use Rattle.family.specs.Family.{proportion, binomial_term, poisson_term, gamma_term, in_range, dev_resid}
-use Rattle.family.specs.declared.carried.CarriedFamily.{CarriedFamily}
 use Rattle.family.specs.declared.carried.CarriedFamily.TheVariants.{Binomial, Poisson, Gaussian, Gamma}
 use Rattle.family.proofs.OutOfRange.{not_a_proportion, poisson_below_zero, poisson_of_nan, gamma_not_above_zero}
 

@@ -1,10 +1,8 @@
 -- What was read is within the space, and so is what is printed. Assumes nothing.
 use mathlib.Core.Path.{◌≡◌, sym, ◌∙◌}
-use mathlib.Core.List.{List}
 use Prim.Native.Nat.{ℕ, ◌≤◌, ◌<◌}
 use native.Mathlib.Omega.{arith}
 use lib.IntN.{ℤ}
-use lib.ListN.{length}
 use Rattle.intake.specs.declared.Input.{Input}
 use Rattle.intake.specs.declared.Input.TheVariants.{Held, TooLong, Failed}
 use Rattle.intake.specs.declared.Step.{Step}

@@ -1,5 +1,5 @@
 -- A higher limit changes nothing of what a call of a job tells and leaves where the number told is not 13, and no count of its work shrinks. Document 02, P13. Assumes nothing.
-use mathlib.Core.Path.{◌≡◌, refl, sym, ap, ◌∙◌}
+use mathlib.Core.Path.{◌≡◌, refl, ap}
 use mathlib.Core.Bool.{Bool, true, false}
 use mathlib.Core.List.{List}
 use Prim.Native.Nat.{ℕ, ◌≤◌}
@@ -17,7 +17,7 @@ use Rattle.model.specs.declared.sizes.Settings.{Settings}
 use Rattle.job.specs.declared.faults.Fault.TheVariants.{Sound}
 use Rattle.job.specs.Faults.{fault_of}
 use Rattle.job.specs.Lists.{laid}
-use Rattle.job.specs.Job.{Job, Read, sound, job_of, read_by, read_of}
+use Rattle.job.specs.Job.{Job, sound, job_of, read_by, read_of}
 use Rattle.job_back.proofs.Limits.{limited_job, limited_bytes, limited_read}
 use Rattle.call.specs.Call.{Left}
 use Rattle.call.proofs.Higher.{limited, call_same, call_account_grows}

@@ -11,7 +11,7 @@ use lib.Ieee.{Float}
 use Rattle.base.specs.Number.{◌⊗◌, ◌⊕◌}
 use Rattle.base.specs.Sum.{◌!◌, sum_to}
 use Rattle.base.specs.List.{at, build, fill_to, zero_at, entry_of}
-use Rattle.base.specs.Rows.{row, Wrote}
+use Rattle.base.specs.Rows.{Wrote}
 use Rattle.base.proofs.Sums.{lt_or_ge, sum_none, sum_step}
 use Rattle.base.proofs.Fills.{build_length, build_at, build_cong, length_fill, fill_step, fill_in, fill_past, fill_is, fill_build, row_fits}
 use Rattle.base.proofs.Rows.{row_at, part_wrote}

@@ -1,5 +1,5 @@
 -- ln_gamma, the logarithm of gamma, as ordered operations: fdlibm's algorithm, and from 8 on with the logarithm of x in two parts. Document 02, P2; docs/ELEMENTARY.md has method and bound. Assumes nothing.
-use Rattle.std.specs.Prelude.{ℕ, zero, suc, ◌+◌, ◌/◌, ◌%◌, true, false, cond, is_nan, to_bits, Float}
+use Rattle.std.specs.Prelude.{ℕ, zero, suc, ◌+◌, ◌/◌, ◌%◌, false, cond, is_nan, to_bits, Float}
 use Rattle.std.specs.Float.{nan, inf, binary64}
 use Rattle.std.specs.Float.Ieee.{neg, lt, le, eq}
 use Rattle.base.specs.Number.{◌⊕◌, ◌⊖◌, ◌⊗◌, ◌⊘◌, bits, zero_f, one_f, half_f, two_f, number_of}

@@ -14,8 +14,6 @@ use Rattle.model.specs.Names.{limit_of}
 use Rattle.model.specs.declared.ends.Refusal.{Refusal}
 use Rattle.model.specs.declared.sizes.Shape.{Shape}
 use Rattle.model.specs.declared.sizes.Settings.{Settings}
-use Rattle.family.specs.declared.carried.CarriedFamily.{CarriedFamily}
-use Rattle.family.specs.declared.carried.CarriedLink.{CarriedLink}
 use Rattle.table.specs.declared.verdicts.Verdict.{Verdict}
 use Rattle.table.specs.declared.verdicts.Verdict.TheVariants.{Accepted, Refused}
 use Rattle.job.specs.declared.faults.Fault.TheVariants.{Sound}

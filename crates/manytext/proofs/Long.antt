@@ -1,7 +1,7 @@
 -- What stands behind the program's room changes nothing: a job that does not fit is too long, and behind one that fits there are more responses than a call may have. Assumes nothing.
 use mathlib.Core.Path.{◌≡◌, refl, sym, ap, ◌∙◌}
 use mathlib.Core.Bool.{Bool, true, false}
-use mathlib.Core.List.{List, ◌++◌}
+use mathlib.Core.List.{List}
 use mathlib.Core.Logic.{⊎_elim}
 use Prim.Native.Nat.{ℕ, zero, suc, ◌+◌, ◌-◌, ◌*◌, ◌/◌, ◌≤◌, ◌<◌}
 use native.Mathlib.Nat.{le-div_iff_mul-le, mul-le-mul, le_of_suc-le}
@@ -10,7 +10,6 @@ use borrow.Author.Tests.{le-leb, lt-leb}
 use lib.Ieee.{Float}
 use lib.ListN.{length, take, drop, length-take, length-drop}
 use lib.Seq.{length-take-le, take_all, take-take, take-add, drop_at, get_or-take}
-use Rattle.base.specs.Sum.{◌!!◌}
 use Rattle.base.proofs.Sums.{lt_or_ge}
 use Rattle.bits.specs.Bits.{bits_of}
 use Rattle.model.specs.Settings.{good_sizes}
@@ -20,7 +19,7 @@ use Rattle.table.proofs.Accepting.{line_1, line_8}
 use Rattle.job.specs.Job.{Job, Read, faulty, sound, read_of}
 use Rattle.many.specs.Many.{verdict_for}
 use Rattle.output.proofs.Long.{long_read}
-use Rattle.manytext.specs.Input.{job_size, job_in, rest_in, numbers_in, input_room}
+use Rattle.manytext.specs.Input.{job_size, job_in, rest_in, input_room}
 use Rattle.manytext.specs.Output.{printed_by, printed_of, many_printed, many_output_of}
 
 -- ---- the bits of a front are those of the whole

@@ -1,8 +1,8 @@
 -- The parts of what was read: the job, the bytes behind it, and their numbers. Assumes nothing.
 use mathlib.Core.Path.{◌≡◌, refl, sym, ap, ◌∙◌}
-use mathlib.Core.List.{List, [], ◌++◌}
+use mathlib.Core.List.{List, ◌++◌}
 use mathlib.Core.Logic.{⊎_elim}
-use Prim.Native.Nat.{ℕ, ◌+◌, ◌-◌, ◌*◌, ◌/◌, ◌≤◌, ◌<◌, min}
+use Prim.Native.Nat.{ℕ, ◌+◌, ◌-◌, ◌/◌, ◌≤◌, min}
 use native.Mathlib.Omega.{arith}
 use lib.Ieee.{Float}
 use lib.ListN.{length, take, drop, replicate, length-drop, length-replicate, replicate-append-replicate, drop_of_length-le}
@@ -13,7 +13,7 @@ use Rattle.base.proofs.Fills.{build_length}
 use Rattle.base.proofs.Sums.{lt_or_ge}
 use Rattle.job.specs.Lists.{laid}
 use Rattle.jobfit.specs.Done.{zeros}
-use Rattle.manytext.specs.Input.{job_size, job_in, rest_in, word_at, numbers_in, input_room}
+use Rattle.manytext.specs.Input.{job_size, job_in, rest_in, word_at, numbers_in}
 
 -- ---- the job and what stands behind it
 -- no more than there is

@@ -1,6 +1,6 @@
 -- The pieces that the program prints, one behind another, are what is written: under its line each response has what `fitjob` prints for the job with that response. Assumes nothing.
 use Prim.{tt}
-use mathlib.Core.Path.{◌≡◌, refl, sym, ap, ◌∙◌}
+use mathlib.Core.Path.{◌≡◌, refl, ap, ◌∙◌}
 use mathlib.Core.Bool.{true}
 use mathlib.Core.List.{List, ◌++◌}
 use Prim.Native.Nat.{ℕ, zero, suc, ◌*◌, ◌/◌, ◌≤◌, ◌<◌}
@@ -26,7 +26,7 @@ use Rattle.lines.specs.Lines.{response_line}
 use Rattle.jobfit.specs.Done.{inputs_of, zeros, lent_for}
 use Rattle.jobfit.specs.Room.{SizesFew}
 use Rattle.jobfit.proofs.Lent.{beta_lent, refusal_some}
-use Rattle.jobcall.specs.Told.{Buffers, Told, counts_length}
+use Rattle.jobcall.specs.Told.{Buffers, counts_length}
 use Rattle.many.specs.Many.{part_of, response_at, job_with_y, block_length, after_to, verdict_for, refused_with, many_by, many_of, many_answered, fit_many_of}
 use Rattle.many.proofs.Parts.{part_length, block_fits}
 use Rattle.many.proofs.Single.{zeros_length}
@@ -35,7 +35,7 @@ use Rattle.output.specs.Output.{slices_for, output_by}
 use Rattle.manytext.specs.Input.{job_in, rest_in, numbers_in}
 use Rattle.manytext.specs.Text.{response_text}
 use Rattle.manytext.specs.declared.pieces.Pieces.{Pieces}
-use Rattle.manytext.specs.Pieces.{Fitted, fitted, pieces_by, fitted_by, fit_all_of, fit_read, fit_parts, fit_input_of, part_text, piece_text, joined, PartsFit, PiecesFit}
+use Rattle.manytext.specs.Pieces.{Fitted, fitted, pieces_by, fitted_by, fit_all_of, fit_read, fit_parts, fit_input_of, part_text, piece_text, joined, PiecesFit}
 use Rattle.manytext.specs.Output.{many_lent, response_printed, printed_by, printed_of, many_printed, many_output_of}
 use Rattle.manytext.proofs.Back.{single_text}
 use Rattle.manytext.proofs.Written.{blocks_few}

@@ -1,10 +1,10 @@
 -- The tries by what became of them: over any run the four parts add up to the tries, and so does every sum of such accounts; their caps follow. Document 02, P9. Assumes nothing.
 use mathlib.Core.Path.{◌≡◌, refl}
 use mathlib.Core.List.{List, [], ◌∷◌}
-use Prim.Native.Nat.{ℕ, ◌+◌, ◌≤◌}
+use Prim.Native.Nat.{◌+◌, ◌≤◌}
 use native.Mathlib.Omega.{arith}
 use Rattle.model.specs.Account.{◌⊞◌, AtMost, AddsUp, Accepts}
-use Rattle.model.specs.Items.{Item, a_fit, aSolve, a_try, a_point, eta_refused, meanRefused, pwrssRefused, accepted, is_solve, is_try, is_eta, is_mean, is_pwrss, is_ok, count_of, tally}
+use Rattle.model.specs.Items.{Item, a_fit, aSolve, a_try, a_point, eta_refused, meanRefused, pwrssRefused, accepted, is_try, is_eta, is_mean, is_pwrss, is_ok, count_of, tally}
 use Rattle.model.specs.declared.counts.Account.{Account}
 
 -- each try is in exactly one of the four

@@ -1,5 +1,5 @@
 -- A higher limit changes nothing in what is printed of a job whose number is not 13, and no count shrinks. Document 02, P13. Assumes nothing.
-use mathlib.Core.Path.{◌≡◌, refl, ap, ◌∙◌}
+use mathlib.Core.Path.{◌≡◌, ap, ◌∙◌}
 use mathlib.Core.List.{List}
 use Prim.Native.Nat.{ℕ, ◌≤◌}
 use Rattle.model.specs.Account.{AtMost}

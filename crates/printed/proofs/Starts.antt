@@ -1,6 +1,5 @@
 -- A job that asks for trial counts, with weights absent or all 1, is printed as the job of version 1 with the same numbers, bit for bit. Document 02, P10. Assumes nothing.
 use mathlib.Core.Path.{◌≡◌, refl, sym, ap, ◌∙◌}
-use mathlib.Core.Bool.{true}
 use mathlib.Core.List.{List}
 use Prim.Native.Nat.{ℕ, ◌≤◌, ◌<◌}
 use native.Mathlib.Omega.{arith}
@@ -14,7 +13,7 @@ use Rattle.table.specs.declared.verdicts.Verdict.TheVariants.{Accepted}
 use Rattle.job.specs.declared.faults.Fault.TheVariants.{Sound}
 use Rattle.job.specs.Faults.{is_sound, fault_of}
 use Rattle.job.specs.Job.{Job, job_of, read_by, read_of}
-use Rattle.job.specs.Write.{Version, version1, version2, version_of, head_length, body_bytes, job_bytes}
+use Rattle.job.specs.Write.{Version, version1, version2, version_of, head_length, job_bytes}
 use Rattle.job_back.specs.Sayable.{Sayable}
 use Rattle.job_back.proofs.Back.{read_back}
 use Rattle.job_back.proofs.Said.{read_sayable}

@@ -1,7 +1,7 @@
 -- Accepted tries: an iteration accepts one where it finds a move and none else, so a run accepts one for each solve, but for the last solve of a run that ends with 12. Document 02, P9. Assumes nothing.
 use mathlib.Core.Path.{◌≡◌, refl, ap}
 use mathlib.Core.Bool.{Bool, true, false}
-use mathlib.Core.List.{List, [], ◌∷◌}
+use mathlib.Core.List.{List}
 use Prim.Native.Nat.{ℕ, zero, suc, ◌+◌, ◌≤◌}
 use native.Mathlib.Omega.{arith}
 use lib.Ieee.{Float}
@@ -9,7 +9,7 @@ use Rattle.base.specs.Number.{◌⊗◌, one_f, half_f, finite}
 use Rattle.base.specs.Sum.{all_to, finite_at}
 use Rattle.model.specs.Account.{Accepts}
 use Rattle.model.specs.Caps.{tries_cap}
-use Rattle.model.specs.Items.{Item, a_fit, aSolve, a_try, Fate, eta_refused, meanRefused, pwrssRefused, is_solve, is_ok, count_of, tally}
+use Rattle.model.specs.Items.{Item, a_try, Fate, eta_refused, meanRefused, pwrssRefused, is_solve, is_ok, count_of, tally}
 use Rattle.model.specs.declared.ends.End.{End}
 use Rattle.model.specs.declared.ends.End.TheVariants.{SystemPivot, NormalPivot, NoStep, NoStop}
 use Rattle.model.proofs.Tallies.{count_append}

@@ -4,7 +4,7 @@ use mathlib.Core.Bool.{Bool, true, false}
 use Prim.Native.Nat.{◌*◌}
 use native.Mathlib.Nat.{one-mul}
 use lib.Dec.{T}
-use lib.Ieee.{Float, nan, inf, fin, binary64, up, down, unlike, round, add, mul, fits, of_bits}
+use lib.Ieee.{Float, nan, inf, fin, binary64, up, down, unlike, add, mul, fits, of_bits}
 use Rattle.base.specs.Number.{◌⊕◌, ◌⊗◌, one_f, two_f}
 use Rattle.spread.proofs.Same.{round_own}
 

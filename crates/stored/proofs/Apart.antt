@@ -1,9 +1,9 @@
 -- A row's mark is not above its number, so rows on the two sides of a least mark share no observation, and their entry of Z'WZ is +0.0. Assumes nothing.
-use mathlib.Core.Path.{◌≡◌, refl, sym, ap, ◌∙◌}
+use mathlib.Core.Path.{◌≡◌, refl, sym, ◌∙◌}
 use mathlib.Core.List.{List}
 use mathlib.Core.Logic.{⊎_elim}
 use mathlib.Core.Bool.{Bool, true, false, ◌&&◌, and-false}
-use Prim.Native.Nat.{ℕ, zero, suc, ◌+◌, ◌-◌, ◌%◌, ◌<◌, ◌≤◌}
+use Prim.Native.Nat.{ℕ, zero, suc, ◌+◌, ◌-◌, ◌<◌, ◌≤◌}
 use native.Mathlib.Nat.{sub_self, le_refl, mod-lt, not-suc-le-zero}
 use native.Mathlib.Numerals.{add-one}
 use native.Mathlib.Omega.{arith}
@@ -13,12 +13,12 @@ use lib.Seq.{get_or-set_same, get_or-set_other}
 use lib.Ieee.{Float}
 use Rattle.base.specs.Number.{zero_f}
 use Rattle.base.specs.Sum.{◌!!◌}
-use Rattle.base.specs.Sparse.{Rising, Rows, Sparse, stored, stored_in, both_sum}
+use Rattle.base.specs.Sparse.{Rows, Sparse, stored, stored_in, both_sum}
 use Rattle.base.proofs.Doubles.{ff}
 use Rattle.base.proofs.Sums.{lt_or_ge, last_or_before, where_none, where_gap}
 use Rattle.base.proofs.SparseRows.{stored_none}
 use Rattle.stored.specs.Stored.{weighted_term, ztwz_at}
-use Rattle.stored.specs.Marks.{lesser, place_of, least_mark, lowered, Disjoint, Between}
+use Rattle.stored.specs.Marks.{lesser, place_of, least_mark, lowered, Disjoint}
 use Rattle.stored.proofs.Symmetry.{same_or_not}
 
 -- ---- the lesser of two

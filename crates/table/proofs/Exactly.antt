@@ -28,7 +28,7 @@ use Rattle.family.specs.Family.{in_range}
 use Rattle.family.specs.declared.carried.CarriedFamily.{CarriedFamily}
 use Rattle.family.specs.declared.carried.CarriedFamily.TheVariants.{Binomial, Poisson, Gaussian, Gamma}
 use Rattle.table.specs.Tests.{good_count, good_inputs, good_results, good_work, all_finite, finite_numbers, good_numbers, in_range_at, all_in_range, not_below_at, none_below, start_fits}
-use Rattle.table.specs.Facts.{InputsFit, ResultsFit, WorkFits, RowsFit, AllFinite, AllInRange, NoneBelow, StartFits, NumbersFinite}
+use Rattle.table.specs.Facts.{InputsFit, ResultsFit, WorkFits, RowsFit, AllFinite, AllInRange, StartFits, NumbersFinite}
 use Rattle.table.specs.declared.verdicts.LentLengths.{LentLengths}
 use Rattle.table.proofs.Meant.{or_absent, count_fits, inputs_fit, inputs_when, results_fit, results_when, work_fits, work_when, numbers_finite, list_in_range, is_trials, is_binomial, start_fits_lem}
 

@@ -1,7 +1,7 @@
 -- `blocks::shape_of` meets its contract: before turn i the shape holds the numbers of the first i blocks, and eight turns are made.
 use mathlib.Core.Path.{◌≡◌, refl, sym, ap, ◌∙◌}
 use mathlib.Core.List.{List}
-use Prim.Native.Nat.{ℕ, suc, ◌+◌}
+use Prim.Native.Nat.{ℕ, ◌+◌}
 use Rattle.std.proofs.Common.{add-one}
 use native.Mathlib.Omega.{arith}
 use lib.ListN.{get_or}

@@ -1,6 +1,6 @@
 -- `intake::bytes_of` meets its contract: the cast is defined, and its result is the count's natural number. Assumes nothing.
 use mathlib.Core.Path.{sym, subst, ◌∙◌}
-use lib.IntN.{ℤ, pos, nat_abs}
+use lib.IntN.{ℤ, pos}
 use lib.Signed.{◌≤ℤ◌, yes_non_neg, pos-nat_abs}
 use mir.Syntax.{w64}
 use mir.Val.{to_z, of_z}

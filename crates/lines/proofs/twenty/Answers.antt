@@ -1,7 +1,7 @@
 -- `lines::twenty` meets its contract: the digits of what is left, and behind them those already stored, are always the whole. Assumes nothing.
 use mathlib.Core.Path.{◌≡◌}
 use native.Mathlib.Omega.{arith}
-use lib.ListN.{length, length-set}
+use lib.ListN.{length-set}
 use borrow.Author.Rules.{rules}
 use Rattle.lines.specs.Decimals.{decimals}
 use Rattle.lines.proofs.DigitLaws.{digit_stored}

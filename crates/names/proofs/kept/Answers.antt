@@ -1,7 +1,6 @@
 -- `names::kept` meets its contract: what stands from place e on is blank.
 use mathlib.Core.Path.{sym, ap, ◌∙◌}
 use native.Mathlib.Omega.{arith}
-use lib.ListN.{length, take}
 use lib.Seq.{take-length}
 use Rattle.names.specs.Names.{trim_end}
 use Rattle.names.proofs.Trims.{end_next, end_stop, end_all}

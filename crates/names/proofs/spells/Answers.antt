@@ -2,7 +2,6 @@
 use mathlib.Core.Path.{refl, sym, ◌∙◌}
 use Prim.Native.Nat.{◌-◌}
 use native.Mathlib.Omega.{arith}
-use lib.ListN.{length}
 use Rattle.names.specs.Names.{lower_of}
 use Rattle.names.proofs.Spelled.{other_lengths, entry_differs, entry_same, all_same}
 use Rattle.names.proofs.spells.Goals as goal

@@ -1,6 +1,5 @@
 -- `report::put_fitted` meets its contract: the values stand behind the end line, which leaves them room. Assumes nothing.
 use native.Mathlib.Omega.{arith}
-use Rattle.lines.specs.Lines.{end_line}
 use Rattle.report.specs.Report.{fitted_text}
 use Rattle.report.proofs.Lengths.{end_few}
 use Rattle.report.proofs.Growing.{grown_three, grown_front}

@@ -1,6 +1,5 @@
 -- `root::root_small` meets its contract: doubling t and lowering the exponent by one leave the number as it is; 53 digits are there before t is doubled 53 times.
 use Rattle.std.proofs.Common.{◌≡◌, ◌-◌, ◌*◌, ◌^◌, ◌<◌, ◌≤◌, arith}
-use Rattle.root.proofs.Place.{few}
 use Rattle.root.proofs.root_small.Given as goal
 
 abbrev pub invariant-loop-s : goal.invariant-loop-s

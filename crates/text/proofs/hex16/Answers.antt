@@ -2,7 +2,6 @@
 use lib.ListN.{length-set}
 use Rattle.text.proofs.Digits.{digit_stored}
 use mathlib.Core.Path.{◌≡◌}
-use lib.ListN.{length}
 use native.Mathlib.Omega.{arith}
 use Rattle.text.specs.Hex.{hex_digits}
 use borrow.Author.Rules.{rules}

@@ -1,6 +1,6 @@
 -- `agq::one_terms` meets its contract: before node i the first i terms are written, and what a point is made of has not changed.
 use Prim.Native.Nat.{◌-◌}
-use lib.ListN.{length, length-set}
+use lib.ListN.{length-set}
 use Rattle.base.specs.Rows.{row}
 use Rattle.base.proofs.Fills.{fill_none, fill_step, fill_end}
 use Rattle.base.proofs.Rows.{only_none}

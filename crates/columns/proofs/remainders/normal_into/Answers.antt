@@ -1,7 +1,6 @@
 -- `columns::normal_into` meets its contract: before turn a the rows below a are written, and the columns V are as they were lent.
 use mathlib.Core.Path.{refl}
 use Prim.Native.Nat.{◌-◌}
-use Rattle.base.specs.Rows.{row}
 use Rattle.columns.proofs.Laws.{lower_none, normal_more, lower_end}
 use native.Mathlib.Omega.{arith}
 use borrow.Author.Rules.{rules}

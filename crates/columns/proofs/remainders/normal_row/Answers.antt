@@ -1,7 +1,7 @@
 -- `columns::normal_row` meets its contract: before turn b the first b entries of the row are written, and the columns V are as they were lent.
 use mathlib.Core.Path.{refl}
 use Prim.Native.Nat.{◌-◌}
-use lib.ListN.{length, length-set}
+use lib.ListN.{length-set}
 use Rattle.base.proofs.Fills.{fillat_none}
 use Rattle.base.proofs.Rows.{fillat_wrote}
 use Rattle.columns.proofs.Laws.{mixed_step}

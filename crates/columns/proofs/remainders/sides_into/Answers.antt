@@ -1,7 +1,7 @@
 -- `columns::sides_into` meets its contract: before turn a the first a entries are less their products with wy; the others, wy and the columns V are as they were lent.
 use mathlib.Core.Path.{refl}
 use Prim.Native.Nat.{◌-◌}
-use lib.ListN.{length, length-set}
+use lib.ListN.{length-set}
 use Rattle.base.proofs.Fills.{fillat_none}
 use Rattle.base.proofs.Rows.{fillat_wrote}
 use Rattle.columns.proofs.Laws.{side_step}

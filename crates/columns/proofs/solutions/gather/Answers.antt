@@ -1,6 +1,6 @@
 -- `columns::gather` meets its contract: before turn g the first g entries of the column are written.
 use Prim.Native.Nat.{◌-◌}
-use lib.ListN.{length, length-set}
+use lib.ListN.{length-set}
 use Rattle.base.proofs.Fills.{fill_none, fill_step, fill_end}
 use native.Mathlib.Omega.{arith}
 use Rattle.columns.proofs.solutions.gather.Goals as goal

@@ -1,6 +1,6 @@
 -- `columns::add_weighted` meets its contract: before turn k the first k sums have what they get, and the others are as they were lent.
 use Prim.Native.Nat.{◌-◌}
-use lib.ListN.{length, length-set}
+use lib.ListN.{length-set}
 use Rattle.base.proofs.Fills.{fill_none, fill_end}
 use Rattle.columns.proofs.WeightedSums.{more_step}
 use native.Mathlib.Omega.{arith}

@@ -3,7 +3,7 @@ use mathlib.Core.Path.{refl}
 use Prim.Native.Nat.{◌-◌}
 use native.Mathlib.Nat.{zero-mul}
 use native.Mathlib.Omega.{arith}
-use lib.ListN.{length, length-set}
+use lib.ListN.{length-set}
 use Rattle.base.proofs.InPlace.{by_none}
 use Rattle.factor.proofs.PivotTests.{first_none}
 use Rattle.factor.proofs.CholeskyRows.{cholesky_stop, cholesky_go, cholesky_done}

@@ -1,7 +1,7 @@
 -- `factor::cholesky_row` meets its contract: before turn j the first j entries of row i are the rule's.
 use Prim.Native.Nat.{◌-◌}
 use native.Mathlib.Omega.{arith}
-use lib.ListN.{length, length-set}
+use lib.ListN.{length-set}
 use Rattle.factor.proofs.RowByRow.{rowwise}
 use Rattle.factor.proofs.CholeskyRows.{cholesky_row_step}
 use borrow.Author.Rules.{rules}

@@ -3,7 +3,7 @@ use mathlib.Core.Path.{refl}
 use Prim.Native.Nat.{◌-◌}
 use native.Mathlib.Nat.{not-suc-le-zero}
 use native.Mathlib.Omega.{arith}
-use lib.ListN.{length, length-set}
+use lib.ListN.{length-set}
 use Rattle.factor.specs.Factor.{ldl_rule}
 use Rattle.factor.proofs.RowByRow.{row_none, row_end, rowwise}
 use Rattle.factor.proofs.LdlRows.{ldl_row_step}

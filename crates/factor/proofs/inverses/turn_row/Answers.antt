@@ -1,7 +1,7 @@
 -- `factor::turn_row` meets its contract: before turn j the first j entries have changed places.
 use Prim.Native.Nat.{◌-◌}
 use native.Mathlib.Omega.{arith}
-use lib.ListN.{length, length-set}
+use lib.ListN.{length-set}
 use Rattle.factor.proofs.Transposed.{turn_none, turn_step, turn_end}
 use Rattle.base.proofs.Loops.{loops}
 use borrow.Author.Rules.{rules}

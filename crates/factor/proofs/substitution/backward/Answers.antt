@@ -2,7 +2,7 @@
 use Rattle.base.proofs.InPlace.{down_end}
 use Prim.Native.Nat.{◌-◌}
 use native.Mathlib.Omega.{arith}
-use lib.ListN.{length, length-set}
+use lib.ListN.{length-set}
 use Rattle.factor.specs.Substitution.{backward}
 use Rattle.factor.proofs.SubstitutionSteps.{backward_step}
 use Rattle.base.proofs.Loops.{inplace}

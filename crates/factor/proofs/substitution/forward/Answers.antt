@@ -1,7 +1,7 @@
 -- `factor::forward` meets its contract: before turn i the first i entries are the rule's.
 use Prim.Native.Nat.{◌-◌}
 use native.Mathlib.Omega.{arith}
-use lib.ListN.{length, length-set}
+use lib.ListN.{length-set}
 use Rattle.factor.specs.Substitution.{forward}
 use Rattle.factor.proofs.SubstitutionSteps.{forward_step}
 use Rattle.base.proofs.Loops.{inplace}

@@ -1,7 +1,7 @@
 -- `factor::over_d` meets its contract: before turn i the first i entries are divided.
 use Prim.Native.Nat.{◌-◌}
 use native.Mathlib.Omega.{arith}
-use lib.ListN.{length, length-set}
+use lib.ListN.{length-set}
 use Rattle.factor.specs.Substitution.{over_d}
 use Rattle.factor.proofs.SubstitutionSteps.{over_d_step}
 use Rattle.base.proofs.Loops.{inplace}

@@ -3,7 +3,7 @@ use mathlib.Core.Path.{◌≡◌}
 use Prim.Native.Nat.{◌≤◌, ◌-◌}
 use lib.ListN.{length}
 use Rattle.base.specs.InPlace.{fill_by}
-use Rattle.factor.specs.Substitution.{over_drule, over_d}
+use Rattle.factor.specs.Substitution.{over_drule}
 use Rattle.factor.proofs.substitution.over_d.Given as goal
 
 abbrev pub invariant-loop-i : goal.invariant-loop-i

@@ -3,7 +3,7 @@ use mathlib.Core.Path.{◌≡◌}
 use Prim.Native.Nat.{◌≤◌, ◌-◌}
 use lib.ListN.{length}
 use Rattle.base.specs.InPlace.{fill_down}
-use Rattle.factor.specs.Substitution.{unit_backward_rule, unit_backward}
+use Rattle.factor.specs.Substitution.{unit_backward_rule}
 use Rattle.factor.proofs.substitution.unit_backward.Given as goal
 
 abbrev pub invariant-loop-i : goal.invariant-loop-i

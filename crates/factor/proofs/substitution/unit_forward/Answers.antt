@@ -1,7 +1,7 @@
 -- `factor::unit_forward` meets its contract: before turn i the first i entries are the rule's.
 use Prim.Native.Nat.{◌-◌}
 use native.Mathlib.Omega.{arith}
-use lib.ListN.{length, length-set}
+use lib.ListN.{length-set}
 use Rattle.factor.specs.Substitution.{unit_forward}
 use Rattle.factor.proofs.SubstitutionSteps.{unit_forward_step}
 use Rattle.base.proofs.Loops.{inplace}

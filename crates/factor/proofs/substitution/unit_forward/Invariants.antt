@@ -3,7 +3,7 @@ use mathlib.Core.Path.{◌≡◌}
 use Prim.Native.Nat.{◌≤◌, ◌-◌}
 use lib.ListN.{length}
 use Rattle.base.specs.InPlace.{fill_by}
-use Rattle.factor.specs.Substitution.{unit_forward_rule, unit_forward}
+use Rattle.factor.specs.Substitution.{unit_forward_rule}
 use Rattle.factor.proofs.substitution.unit_forward.Given as goal
 
 abbrev pub invariant-loop-i : goal.invariant-loop-i

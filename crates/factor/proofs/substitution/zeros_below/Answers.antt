@@ -3,7 +3,6 @@ use mathlib.Core.Bool.{true}
 use Prim.Native.Nat.{◌-◌}
 use native.Mathlib.Nat.{lt_irrefl, not-le_of_lt}
 use native.Mathlib.Omega.{arith}
-use lib.Ieee.{eq}
 use Rattle.factor.proofs.ZeroTerms.{other, zeros_step, down_test}
 use Rattle.base.proofs.Loops.{loops}
 use borrow.Author.Rules.{rules}

@@ -1,5 +1,5 @@
 -- `family_lists::dev_resid_list` meets its contract: before turn i the first i deviances are written.
-use Rattle.std.proofs.Common.{◌-◌, length, sym, refl, ◌∙◌, arith, length-set, rules, eq-eqb, ne_eqb}
+use Rattle.std.proofs.Common.{◌-◌, sym, refl, ◌∙◌, arith, length-set, rules, eq-eqb, ne_eqb}
 use Rattle.base.proofs.Fills.{fill_none, fill_step, fill_end}
 use Rattle.family_lists.specs.Lists.{dev_resid_at}
 use Rattle.family_lists.proofs.Listing.{refused, written, agree_means}

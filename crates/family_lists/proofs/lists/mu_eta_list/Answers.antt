@@ -1,8 +1,6 @@
 -- `family_lists::mu_eta_list` meets its contract: before turn i the first i entries are written.
 use Rattle.std.proofs.Common.{◌-◌, arith, rules, eq-eqb, ne_eqb}
 use Rattle.base.proofs.Fills.{fill_end}
-use Rattle.family.specs.Link.{mu_eta}
-use Rattle.family_lists.specs.Lists.{each}
 use Rattle.family_lists.proofs.Listing.{each_step, refused, written}
 use Rattle.base.proofs.Loops.{loops}
 use Rattle.family_lists.proofs.lists.mu_eta_list.Goals as goal

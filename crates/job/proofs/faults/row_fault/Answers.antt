@@ -2,7 +2,6 @@
 use mathlib.Core.Bool.{true, false}
 use mathlib.Core.Path.{◌≡◌, sym, ◌∙◌}
 use native.Mathlib.Omega.{arith}
-use borrow.Author.Tests.{not-false}
 use Rattle.job.specs.Faults.{row_fault, pair_fault, is_sound}
 use Rattle.job.proofs.FaultLaws.{go, stop, pair_reached}
 use Rattle.job.proofs.faults.row_fault.Goals.{Else-not-ok}

@@ -2,11 +2,10 @@
 use mathlib.Core.Path.{refl, ap, ◌∙◌}
 use Prim.Native.Nat.{◌-◌}
 use native.Mathlib.Omega.{arith}
-use lib.ListN.{length, length-set}
+use lib.ListN.{length-set}
 use Rattle.job.specs.declared.head.Head.{Head}
 use Rattle.job.specs.declared.head.Piece.{Piece}
-use Rattle.job.specs.Lists.{counts}
-use Rattle.job.specs.Format.{blocks, blocks_at}
+use Rattle.job.specs.Format.{blocks}
 use Rattle.job.proofs.ListLaws.{counts_none, counts_step, counts_end}
 use Rattle.job.proofs.SizeLaws.{head_short, group_at, effect_at_lem}
 use Rattle.job.proofs.SurveyLaws.{shape_kept_lem, shape_none}

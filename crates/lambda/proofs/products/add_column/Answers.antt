@@ -1,6 +1,6 @@
 -- `lambda::add_column` meets its contract: before turn t the first t rows of the column are added, and those from t on are as they were.
 use Prim.Native.Nat.{◌-◌}
-use lib.ListN.{length, length-set}
+use lib.ListN.{length-set}
 use native.Mathlib.Omega.{arith}
 use Rattle.lambda.proofs.Entries.{added_step}
 use Rattle.base.proofs.Loops.{loops}

@@ -1,7 +1,7 @@
 -- `lambda::scale` meets its contract: before entry j the first j are multiplied, and the others still stand.
 use mathlib.Core.Path.{refl}
 use Prim.Native.Nat.{◌-◌}
-use lib.ListN.{length, length-set}
+use lib.ListN.{length-set}
 use native.Mathlib.Omega.{arith}
 use Rattle.base.proofs.Fills.{fill_none, fill_end}
 use Rattle.base.proofs.Loops.{loops}

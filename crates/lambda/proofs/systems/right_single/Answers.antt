@@ -1,7 +1,7 @@
 -- `lambda::right_single` meets its contract: before row a the first a entries are the products with the one number.
 use mathlib.Core.Path.{refl}
 use Prim.Native.Nat.{◌-◌}
-use lib.ListN.{length, length-set}
+use lib.ListN.{length-set}
 use native.Mathlib.Omega.{arith}
 use Rattle.base.proofs.Fills.{fillat_none, fillat_step, fillat_end}
 use Rattle.base.proofs.Loops.{loops}

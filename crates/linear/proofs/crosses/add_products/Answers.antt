@@ -1,6 +1,6 @@
 -- `linear::add_products` meets its contract: before turn k the first k sums have their products, and the others are as they were.
 use Prim.Native.Nat.{◌-◌}
-use lib.ListN.{length, length-set}
+use lib.ListN.{length-set}
 use Rattle.base.proofs.Fills.{fill_none, fill_end}
 use Rattle.linear.proofs.CrossSums.{added_step}
 use native.Mathlib.Omega.{arith}

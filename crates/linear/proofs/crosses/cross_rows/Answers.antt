@@ -1,7 +1,6 @@
 -- `linear::cross_rows` meets its contract: before turn a the rows before row a have their entries up to the diagonal.
 use mathlib.Core.Path.{refl, ◌∙◌}
 use Prim.Native.Nat.{◌-◌}
-use Rattle.base.specs.List.{at}
 use Rattle.linear.specs.Product.{cross_at}
 use Rattle.linear.proofs.CrossSums.{rows_long, rows_more}
 use native.Mathlib.Omega.{arith}

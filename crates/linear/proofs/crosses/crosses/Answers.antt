@@ -2,7 +2,6 @@
 use mathlib.Core.Path.{refl, ap, ◌∙◌}
 use Prim.Native.Nat.{◌-◌}
 use lib.ListN.{length}
-use Rattle.base.specs.List.{build}
 use Rattle.base.proofs.Fills.{build_length}
 use Rattle.linear.proofs.CrossSums.{cross_none, cross_step, cross_done}
 use native.Mathlib.Omega.{arith}

@@ -1,6 +1,6 @@
 -- `linear::effects_less` meets its contract: before turn i the first i places hold their entries of u.
 use Prim.Native.Nat.{◌-◌}
-use lib.ListN.{length, length-set}
+use lib.ListN.{length-set}
 use Rattle.base.proofs.Fills.{fill_none, fill_step, fill_end}
 use Rattle.linear.proofs.Columns.{effect_entry}
 use native.Mathlib.Omega.{arith}

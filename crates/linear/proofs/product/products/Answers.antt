@@ -1,5 +1,5 @@
 -- `linear::products` meets its contract: before turn i the first i places hold the products.
-use lib.ListN.{length, length-set}
+use lib.ListN.{length-set}
 use Rattle.base.proofs.Fills.{fill_none, fill_step, fill_end}
 use native.Mathlib.Omega.{arith}
 use Prim.Native.Nat.{◌-◌}

@@ -1,6 +1,6 @@
 -- `linear::x_beta` meets its contract: before turn i the first i places hold the rows' sums.
 use Prim.Native.Nat.{◌-◌}
-use lib.ListN.{length, length-set}
+use lib.ListN.{length-set}
 use Rattle.base.proofs.Fills.{fill_none, fill_step, fill_end}
 use native.Mathlib.Omega.{arith}
 use Rattle.linear.proofs.product.x_beta.Goals as goal

@@ -1,6 +1,6 @@
 -- `log_gamma::gamma::below_eight` meets its contract: the steps that are left, from v and z, give what all five give from x and 1.
 use Rattle.std.proofs.Common.{◌-◌, sym, refl, ◌∙◌, arith}
-use Rattle.log_gamma.specs.LogGamma.{lowered_of, below_eight}
+use Rattle.log_gamma.specs.LogGamma.{below_eight}
 use Rattle.log_gamma.proofs.Lowered.{lowered_on, lowered_off, lowered_end}
 use Rattle.log_gamma.proofs.gamma.below_eight.Goals as goal
 

@@ -2,8 +2,7 @@
 use mathlib.Core.Path.{refl}
 use Prim.Native.Nat.{◌-◌}
 use native.Mathlib.Omega.{arith}
-use lib.ListN.{length, length-set}
-use Rattle.base.specs.List.{build}
+use lib.ListN.{length-set}
 use Rattle.reader.proofs.Laying.{build_none, build_step, build_end}
 use Rattle.manytext.specs.Input.{word_at}
 use Rattle.manytext.proofs.input.read_doubles.Goals as goal

@@ -4,7 +4,6 @@ use mathlib.Core.Logic.{inr}
 use Prim.Native.Nat.{◌-◌}
 use native.Mathlib.Omega.{arith}
 use borrow.Author.Tests.{ltb-true}
-use Rattle.base.specs.Rows.{row}
 use Rattle.layout.specs.WorkRows.{mu_row}
 use Rattle.layout.proofs.Inside.{first_eta_in, mu_in}
 use Rattle.layout.proofs.LaidOut.{lent_kept}

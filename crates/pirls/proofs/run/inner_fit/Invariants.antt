@@ -1,5 +1,4 @@
 -- `pirls::inner_fit` meets its contract: what is left of the rule's run ends as the whole does, and what was counted is what was done.
-use mathlib.Core.Path.{ap}
 use Prim.Native.Nat.{◌-◌}
 use Rattle.base.specs.Rows.{row}
 use Rattle.layout.specs.WorkRows.{mu_row}

@@ -1,7 +1,7 @@
 -- `points::mark_all` meets its contract: before turn i the first i places of the row are written.
 use Prim.Native.Nat.{◌-◌}
 use native.Mathlib.Omega.{arith}
-use lib.ListN.{length, length-set}
+use lib.ListN.{length-set}
 use Rattle.base.proofs.Fills.{fillat_none, fillat_step}
 use Rattle.base.proofs.Rows.{fillat_wrote}
 use Rattle.points.specs.Gain.{one_at}

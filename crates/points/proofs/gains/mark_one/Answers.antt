@@ -1,7 +1,7 @@
 -- `points::mark_one` meets its contract: before entry k the observations of the row's entries before it are marked.
 use Prim.Native.Nat.{◌-◌}
 use native.Mathlib.Omega.{arith}
-use lib.ListN.{length, length-set}
+use lib.ListN.{length-set}
 use Rattle.stored.specs.Stored.{sparse}
 use Rattle.base.proofs.Rows.{only_none}
 use Rattle.points.proofs.Marks.{marked_none, marked_step, only_set, marked_end}

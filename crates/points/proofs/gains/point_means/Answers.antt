@@ -1,8 +1,7 @@
 -- `points::point_means` meets its contract: before turn i the first i entries of the row are formed, and the entry that is read next is as it was lent.
 use Prim.Native.Nat.{◌-◌}
-use lib.ListN.{length, length-set}
+use lib.ListN.{length-set}
 use Rattle.base.proofs.Rows.{fillat_wrote}
-use Rattle.points.specs.Gain.{mean_over}
 use Rattle.points.proofs.Entered.{means_step}
 use native.Mathlib.Omega.{arith}
 use Rattle.base.proofs.Loops.{loops}

@@ -1,7 +1,7 @@
 -- `points::log_weights` meets its contract: before turn i the first i logarithms are written.
 use Prim.Native.Nat.{◌-◌}
 use native.Mathlib.Omega.{arith}
-use lib.ListN.{length, length-set}
+use lib.ListN.{length-set}
 use Rattle.base.proofs.Fills.{fill_none, fill_step, fill_end}
 use Rattle.points.specs.Grid.{log_at}
 use Rattle.points.proofs.grid.log_weights.Goals as goal

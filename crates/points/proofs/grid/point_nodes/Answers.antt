@@ -2,7 +2,7 @@
 use Prim.Native.Nat.{◌<◌, ◌-◌}
 use native.Mathlib.Nat.{mod-lt}
 use native.Mathlib.Omega.{arith}
-use lib.ListN.{length, length-set}
+use lib.ListN.{length-set}
 use Rattle.base.proofs.Fills.{fillat_none}
 use Rattle.base.proofs.Rows.{fillat_wrote}
 use Rattle.points.proofs.Digits.{rest_all, rest_step, node_step}

@@ -6,7 +6,6 @@ use native.Mathlib.Omega.{arith}
 use lib.Ieee.{Float}
 use Rattle.base.specs.List.{build}
 use Rattle.lambda.specs.Product.{lambda_times_at}
-use Rattle.base.specs.Rows.{row}
 use Rattle.base.proofs.Rows.{only_none, only_row, only_trans, filled_part}
 use Rattle.model.proofs.Shapes.{in_range_lem}
 use Rattle.lambda.proofs.ColumnPlaces.{column_rows, column_theta}

@@ -1,5 +1,5 @@
 -- `points::lambda_within` meets its contract: before column j each place of the row at b holds what the first j columns make of it, and u is as it was lent.
-use mathlib.Core.Path.{◌≡◌, ap}
+use mathlib.Core.Path.{◌≡◌}
 use Prim.Native.Nat.{◌+◌, ◌≤◌, ◌-◌}
 use lib.ListN.{length}
 use Rattle.base.specs.List.{fill_to}

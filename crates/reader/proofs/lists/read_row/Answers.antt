@@ -2,7 +2,7 @@
 use mathlib.Core.Path.{◌≡◌, refl}
 use Prim.Native.Nat.{◌-◌}
 use native.Mathlib.Omega.{arith}
-use lib.ListN.{length, length-set}
+use lib.ListN.{length-set}
 use Rattle.base.specs.List.{build}
 use Rattle.job.specs.Lists.{counts}
 use Rattle.job.specs.Format.{column_read, value_read}

@@ -1,6 +1,6 @@
 -- `results::standard_errors` meets its contract: before turn a the first a places are written.
 use Prim.Native.Nat.{◌-◌}
-use lib.ListN.{length, length-set}
+use lib.ListN.{length-set}
 use Rattle.base.proofs.Fills.{fill_none, fill_step, fill_end}
 use Rattle.rule.specs.Results.{se_at}
 use native.Mathlib.Omega.{arith}

@@ -1,6 +1,6 @@
 -- `results::v_row` meets its contract: before turn b the first b entries of the row are v's.
 use Prim.Native.Nat.{◌-◌}
-use lib.ListN.{length, length-set}
+use lib.ListN.{length-set}
 use Rattle.base.proofs.Fills.{fillat_none, fillat_step, fillat_end}
 use Rattle.factor.specs.Inverse.{v_at}
 use native.Mathlib.Omega.{arith}

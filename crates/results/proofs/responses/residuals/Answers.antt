@@ -1,6 +1,6 @@
 -- `results::residuals` meets its contract: before turn i the first i places are written.
 use Prim.Native.Nat.{◌-◌}
-use lib.ListN.{length, length-set}
+use lib.ListN.{length-set}
 use Rattle.base.proofs.Fills.{fill_none, fill_step, fill_end}
 use Rattle.rule.specs.Results.{residual_at}
 use native.Mathlib.Omega.{arith}

@@ -2,7 +2,6 @@
 use lib.ListN.{length-set}
 use native.Mathlib.Omega.{arith}
 use Prim.Native.Nat.{◌-◌}
-use lib.ListN.{length}
 use Rattle.scale.proofs.SectionCopied.{copy_step}
 use Rattle.base.proofs.Loops.{loops}
 use borrow.Author.Rules.{rules}

@@ -1,7 +1,6 @@
 -- `scale::section_into` meets its contract: before turn i the first i rows of the block are copied, and A lies before them.
 use mathlib.Core.Path.{refl}
 use Prim.Native.Nat.{◌≤◌, ◌-◌}
-use Rattle.base.specs.Rows.{row}
 use Rattle.layout.proofs.Bounds.{square_few}
 use Rattle.scale.proofs.SectionCopied.{square_within, section_none, section_step, section_done}
 use native.Mathlib.Omega.{arith}

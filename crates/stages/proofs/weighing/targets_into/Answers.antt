@@ -1,7 +1,7 @@
 -- `stages::targets_into` meets its contract: before turn i the first i places of both rows are written, that of z - offset over the other.
 use mathlib.Core.Path.{refl}
 use Prim.Native.Nat.{◌-◌}
-use lib.ListN.{length, length-set}
+use lib.ListN.{length-set}
 use Rattle.base.specs.List.{build, fill_at}
 use Rattle.base.specs.Sum.{product_at}
 use Rattle.base.proofs.Fills.{build_at, fillat_both}

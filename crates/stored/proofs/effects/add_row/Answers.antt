@@ -1,6 +1,6 @@
 -- `stored::add_row` meets its contract: the places below a cut, which parts what the cursor has passed from the rest, have what the row adds to them.
 use Prim.Native.Nat.{◌-◌}
-use lib.ListN.{length, length-set}
+use lib.ListN.{length-set}
 use Rattle.stored.specs.Stored.{sparse}
 use Rattle.stored.proofs.Added.{added_none, added_step, added_end}
 use native.Mathlib.Omega.{arith}

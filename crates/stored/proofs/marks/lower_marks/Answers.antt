@@ -2,8 +2,7 @@
 use mathlib.Core.Path.{◌≡◌}
 use Prim.Native.Nat.{◌-◌}
 use native.Mathlib.Omega.{arith}
-use lib.ListN.{length, length-set}
-use Rattle.stored.specs.Marks.{lowered}
+use lib.ListN.{length-set}
 use Rattle.stored.proofs.Apart.{lowered_none, lowered_step}
 use Rattle.stored.proofs.marks.lower_marks.Goals as goal
 

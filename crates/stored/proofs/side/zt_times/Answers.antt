@@ -1,6 +1,6 @@
 -- `stored::zt_times` meets its contract: before row a the first a places hold the rows' sums.
 use Prim.Native.Nat.{◌-◌}
-use lib.ListN.{length, length-set}
+use lib.ListN.{length-set}
 use Rattle.base.proofs.Fills.{fill_none, fill_step, fill_end}
 use native.Mathlib.Omega.{arith}
 use Rattle.stored.proofs.side.zt_times.Goals as goal

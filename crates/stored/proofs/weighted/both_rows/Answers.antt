@@ -1,5 +1,5 @@
 -- `stored::both_rows` meets its contract: the sum is over the columns that both rows store below a cut, which parts what the cursors have passed from the rest.
-use borrow.Author.Tests.{ltb-true, ltb-false}
+use borrow.Author.Tests.{ltb-true}
 use mathlib.Core.Logic.{inl, inr}
 use mathlib.Core.Path.{◌≡◌}
 use Prim.Native.Nat.{◌-◌}

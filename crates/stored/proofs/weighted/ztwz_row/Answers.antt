@@ -1,6 +1,6 @@
 -- `stored::ztwz_row` meets its contract: before turn b the first b entries of row a and of column a are written, and Z'WZ is symmetric.
 use Prim.Native.Nat.{◌-◌}
-use lib.ListN.{length, length-set}
+use lib.ListN.{length-set}
 use Rattle.stored.specs.Stored.{sparse}
 use Rattle.stored.proofs.Symmetry.{ztwz_symmetric, border_none, border_step, border_end}
 use native.Mathlib.Omega.{arith}

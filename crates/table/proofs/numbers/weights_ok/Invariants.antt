@@ -1,6 +1,6 @@
 -- `table::weights_ok` meets its contract: before turn i the first i weights passed, and one that is below 0 settles it.
 use mathlib.Core.Path.{◌≡◌}
-use mathlib.Core.Bool.{true, not}
+use mathlib.Core.Bool.{true}
 use Prim.Native.Nat.{◌≤◌, ◌-◌}
 use Rattle.base.specs.Sum.{all_to}
 use Rattle.table.specs.Tests.{not_below_at}

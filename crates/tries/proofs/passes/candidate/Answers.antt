@@ -1,7 +1,6 @@
 -- `tries::candidate` meets its contract: before turn i the first i entries of the row are written, and the rows it reads are as they were.
 use Prim.Native.Nat.{◌-◌}
-use lib.ListN.{length, length-set}
-use Rattle.base.specs.Rows.{row}
+use lib.ListN.{length-set}
 use Rattle.base.proofs.Rows.{fillat_wrote}
 use Rattle.tries.proofs.Turns.{candidate_step}
 use native.Mathlib.Omega.{arith}

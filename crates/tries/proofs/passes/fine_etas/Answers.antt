@@ -1,7 +1,6 @@
 -- `tries::fine_etas` meets its contract: before turn i the first i etas passed, and one that fails settles it.
 use mathlib.Core.Bool.{true}
 use Prim.Native.Nat.{◌-◌}
-use Rattle.base.specs.Rows.{row}
 use Rattle.base.proofs.Sums.{all_fails, all_step}
 use Rattle.tries.proofs.Turns.{fine_at}
 use native.Mathlib.Omega.{arith}

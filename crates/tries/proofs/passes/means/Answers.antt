@@ -1,7 +1,6 @@
 -- `tries::means` meets its contract: before turn i the first i means are written, and the predictor is as it was.
 use Prim.Native.Nat.{◌-◌}
-use lib.ListN.{length, length-set}
-use Rattle.base.specs.Rows.{row}
+use lib.ListN.{length-set}
 use Rattle.base.proofs.Rows.{fillat_wrote}
 use Rattle.tries.proofs.Turns.{mean_step}
 use native.Mathlib.Omega.{arith}

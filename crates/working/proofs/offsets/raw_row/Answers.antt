@@ -1,7 +1,7 @@
 -- `working::raw_row` meets its contract: before turn i the first i places are written, and entry i of Zb is as it was lent.
 use Rattle.working.proofs.Entries.{raw_entry, optional_at}
 use Prim.Native.Nat.{◌-◌}
-use lib.ListN.{length, length-set}
+use lib.ListN.{length-set}
 use Rattle.base.proofs.Fills.{fill_none, fill_step, fill_end}
 use native.Mathlib.Omega.{arith}
 use Rattle.working.proofs.offsets.raw_row.Goals as goal

@@ -1,7 +1,6 @@
 -- `working::start_eta` meets its contract: before turn i the first i places of the row are written, and the means are as they were lent.
 use Prim.Native.Nat.{◌-◌}
-use lib.ListN.{length, length-set}
-use Rattle.base.specs.Rows.{row}
+use lib.ListN.{length-set}
 use Rattle.base.proofs.Fills.{fillat_none, fillat_step}
 use Rattle.base.proofs.Rows.{fillat_wrote}
 use Rattle.working.proofs.Entries.{optional_at, eta_entry}

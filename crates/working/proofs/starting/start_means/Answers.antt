@@ -1,6 +1,6 @@
 -- `working::start_means` meets its contract: before turn i the first i places are written.
 use Prim.Native.Nat.{◌-◌}
-use lib.ListN.{length, length-set}
+use lib.ListN.{length-set}
 use Rattle.base.proofs.Fills.{fill_none, fill_step, fill_end}
 use Rattle.rule.specs.Run.{start_mean_at}
 use native.Mathlib.Omega.{arith}

@@ -2,7 +2,7 @@
 use mathlib.Core.Path.{refl}
 use Rattle.working.proofs.Entries.{both_end}
 use Prim.Native.Nat.{◌-◌}
-use lib.ListN.{length, length-set}
+use lib.ListN.{length-set}
 use Rattle.base.specs.List.{fill_at}
 use Rattle.base.proofs.Fills.{fillat_both}
 use Rattle.rule.specs.Working.{working_weight_at, working_response_at}
