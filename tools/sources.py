@@ -21,22 +21,22 @@ def closed(text, at, opening, closing):
 
 
 def clauses(text, at):
-    """The contract behind a function's name: its clauses by kind."""
+    """The contract behind a function's name: its clauses by kind, each a list of their texts without the clauses' names."""
     at, found = closed(text, text.index("(", at), "(", ")"), {}
     while True:
-        clause = re.compile(r"[^{]*?\b(requires|ensures|ghost) \{").match(text, at)
+        clause = re.compile(r"[^{]*?\b(requires|ensures|ghost)(?: \w+)? \{").match(text, at)
         if not clause:
             return found
         end = closed(text, clause.end() - 1, "{", "}")
-        found[clause.group(1)] = found.get(clause.group(1), "") + text[clause.end():end - 1]
+        found.setdefault(clause.group(1), []).append(text[clause.end():end - 1])
         at = end
 
 
 def brought(text):
     """Definitions of our crates that a source file brings in: its name there, then (crate, file, name)."""
     names = {}
-    for crate, path, listed in re.findall(r"(?m)^ghost use Rattle·(\w+)(?:·specs\.specs|\.specs)\.(\w+)\.\{([^}]*)\};", text):
-        for item in (item.strip() for item in listed.split(",")):
+    for crate, path, listed in re.findall(r"(?m)^ *ghost use Rattle\.(\w+)\.specs\.(\w+)\.\{([^}]*)\};", text):
+        for item in (item.strip() for item in listed.split(",") if crate in CRATES):
             name, _, alias = item.partition(" as ")
             names[alias or name] = (crate, path, name)
     return names
@@ -57,7 +57,7 @@ def exported(crate):
     root = ROOT / "crates" / crate / "src" / "lib.rt"
     if not root.is_file():
         return []
-    passed = set(re.findall(r"(?m)^pub use (?:crate::)?(\w+)::(\w+);", root.read_text()))
+    passed = {(module, name.strip()) for module, listed in re.findall(r"(?m)^pub use (?:crate::)?(\w+)::(\{[^}]*\}|\w+);", root.read_text()) for name in listed.strip("{}").split(",")}
     return [f for f in functions(crate) if f[2] and (f[1] == "lib" or (f[1], f[0].split("::")[0]) in passed)]
 
 
@@ -72,7 +72,13 @@ def names_in(file):
 
 def declared(crate, folder):
     """File by file the names of a crate's specs/ or proofs/, a function's own proof left out."""
-    return {f.stem: names_in(f) for f in files(crate, folder, "antt") if f.name != "Proof.antt" and f.parent.name == folder}
+    return {f.stem: names_in(f) for f in files(crate, folder, "antt") if f.parent.name == folder}
+
+
+def own_laws():
+    """The laws that stand in a function's own proof, beside its invariants and answers."""
+    for file in (ROOT / "crates").glob("*/proofs/*/**/*.antt"):
+        yield from re.findall(r"(?m)^pub (\S+) :", file.read_text())
 
 
 def edits(crate):

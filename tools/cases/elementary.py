@@ -45,7 +45,7 @@ def sqrt(x):
 def numbers(path):
     """The hexadecimal numbers of a file's list."""
     with open(ROOT / path) as source:
-        entries = source.read().split("Table =\n" if path.endswith(".antt") else "= [", 1)[1].split("];", 1)[0]
+        entries = source.read().split("table =\n" if path.endswith(".antt") else "= [", 1)[1].split("];", 1)[0]
     return [int(n.replace("_", ""), 16) for n in re.findall(r"0x([0-9a-f_]+)", entries)]
 
 
