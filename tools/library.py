@@ -2,7 +2,7 @@
        python3 tools/library.py released FILE..
 The proved C library by its archives, for the tools and the Makefile: found, built, and linked into static x86-64 programs; natively on x86-64, elsewhere with a
 cross compiler and an emulator. A FILE is an archive (libglmm_c.a) or a program (fitjob).
-find prints where each is: in release/ where that is of these sources, else below target/ where it is newer than every source; else it says what to run, status 1.
+find prints where each is: in release/ where that is of these sources, else in its crate's out/ where it is newer than every source; else it says what to run, status 1.
 released prints those of release/ alone, or nothing."""
 import functools, os, platform, re, shutil, subprocess, sys
 from pathlib import Path
@@ -48,52 +48,48 @@ def released(file):
 
 
 def made(file):
-    """The file below target/ where it is newer than every source, else None."""
-    place = ROOT / "target" / ("staticlib" if file.endswith(".a") else "bin") / file
+    """The file in its crate's out/ where it is newer than every source, else None."""
+    place = programs.place(file)
     if not place.is_file():
         return None
-    last = max(os.stat(source).st_mtime for kind in ("rt", "antt") for source in (ROOT / "crates").rglob(f"*.{kind}"))
+    last = max(os.stat(ROOT / source).st_mtime for crate in programs.listed() for source in programs.files(crate))
     return place if place.stat().st_mtime >= last else None
-
-
-def command_for(file):
-    """The command that proves a file and builds it."""
-    crate = file.removeprefix("lib").removesuffix(".a")
-    return ["rt", "staticlib" if file.endswith(".a") else "check", crate]
 
 
 def found(file):
     place = released(file) or made(file)
     if place is None:
-        sys.exit(f"{file}: neither in release/ for these sources nor below target/ since they changed; to prove and build it: {' '.join(command_for(file))}")
+        crate = programs.crate_of(file)
+        sys.exit(f"{file}: neither in release/ for these sources nor in crates/{crate}/out/ since they changed; to prove and build it: (cd crates/{crate} && {' '.join(programs.building(file))})")
     return place
 
 
 @functools.cache
 def built(crate):
-    """The archive of a crate: the released one where it is of these sources, else the one below target/ where no source has changed since; else it is proved and built."""
+    """The archive of a crate: the released one where it is of these sources, else the one of its out/ where no source has changed since; else it is proved and built."""
     file = f"lib{crate}.a"
     place = released(file) or made(file)
     if place:
         say(f"{file}: that of {place.parent.relative_to(ROOT)}/")
         return place
     if not shutil.which("rt"):
-        sys.exit(f"{Path(sys.argv[0]).name}: the Rattle toolchain (rt) is missing, and {file} is neither in release/ for these sources nor below target/ since they changed")
+        sys.exit(f"{Path(sys.argv[0]).name}: the Rattle toolchain (rt) is missing, and {file} is neither in release/ for these sources nor in crates/{crate}/out/ since they changed")
     say(f"{file}: proving and building {crate} and what it stands on; a minute where that is proved, up to half an hour where nothing is (docs/TIMES.md)")
-    proving(command_for(file))
-    return ROOT / "target" / "staticlib" / file
+    proving(programs.building(file), ROOT / "crates" / crate)
+    return programs.place(file)
 
 
-def proving(words):
-    """Runs rt, and tells each crate that it has proved."""
-    with subprocess.Popen(words, cwd=ROOT, stdout=subprocess.PIPE, stderr=subprocess.STDOUT, text=True) as work:
+def proving(words, folder):
+    """Runs rt in a crate's folder, and tells each crate that it has proved."""
+    with subprocess.Popen(words, cwd=folder, stdin=subprocess.DEVNULL, stdout=subprocess.PIPE, stderr=subprocess.STDOUT, text=True) as work:
         lines = []
         for line in work.stdout:
             lines.append(line)
-            if re.match(r"rt: \w+ proved \((?!unchanged)", line):
-                say(line.removeprefix("rt: ").strip())
+            proved = programs.proved_in(line)
+            if proved:
+                say(f"{proved} proved")
     if work.returncode:
-        sys.exit(f"{' '.join(words)}\n{''.join(lines[-20:])}")
+        sys.exit(f"{' '.join(words)} in {folder.relative_to(ROOT)}\n{''.join(lines[-20:])}")
 
 
 # ---- what is made of them

@@ -11,11 +11,11 @@ TIMES = "| crate | seconds | under way | edits |\n|---|---|---|---|\n| base | 60
 
 # What rt does here: it proves two crates and builds the true program, whatever its name; where the file hold is, it waits for the file go, beside a process of its own; where the
 # file broken is, it fails.
-RT = """case $1 in doc) echo {top}/kit/docs/START-HERE.md; exit;; version) echo a stub; exit;; esac
+RT = """case $1 in doc) echo {top}/kit/START-HERE.md; exit;; version) echo a stub; exit;; esac
 echo $$ >> {top}/started
 if [ -e {top}/hold ]; then sleep 300 & echo $! >> {top}/started; while [ ! -e {top}/go ]; do sleep 0.05; done; kill $!; fi
 [ -e {top}/broken ] && echo 'rt: base is not proved' && exit 1
-echo 'rt: base proved (2 s)'; echo "rt: $2 proved (1 s)"; mkdir -p {top}/target/bin; cp {top}/true {top}/target/bin/$2
+crate=${PWD##*/}; echo 'crate base: modules loaded=1 checked=1'; echo "crate $crate: modules loaded=1 checked=1"; mkdir -p out; cp {top}/true out/$crate
 """
 # The loader keeps the job and prints the answer that is laid down for it, or runs the program where there is none; `fitmany` is the reading in Python here, which
 # keeps what it was handed one behind another, and takes its time where the file slow is.

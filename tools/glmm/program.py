@@ -23,9 +23,15 @@ def begins_as_job(data):
     return version in VERSIONS and NO_TEXT.search(data) is not None and (version == 1 or data[6:7] in (b"", b"\x00", b"\x80"))
 
 
+def crate_in(line):
+    """The crate of a line of crates.txt, without what it is built as; '' of a line that names none."""
+    head, colon, _ = line.split("#")[0].partition(":")
+    return head.split()[0] if colon else ""
+
+
 def listed():
     """The crates of crates.txt, each with those that it stands on; the kit's own libraries are left out."""
-    lines = dict(line.split(":", 1) for line in (ROOT / "crates.txt").read_text().splitlines() if ":" in line)
+    lines = {crate_in(line): line.split("#")[0].partition(":")[2] for line in (ROOT / "crates.txt").read_text().splitlines() if crate_in(line)}
     return {name: [below for below in line.split() if below in lines] for name, line in lines.items()}
 
 
@@ -48,8 +54,9 @@ def programs():
 
 
 def files(crate):
-    """The sources of a crate, by their paths from the root."""
-    for top, _, names in os.walk(ROOT / "crates" / crate):
+    """The sources of a crate, by their paths from the root; what rt keeps in out/ is none."""
+    for top, folders, names in os.walk(ROOT / "crates" / crate):
+        folders[:] = [folder for folder in folders if folder != "out"]
         yield from (os.path.relpath(os.path.join(top, name), ROOT) for name in names if name.endswith((".rt", ".antt")))
 
 
@@ -65,7 +72,7 @@ def sources(name="fitjob"):
     """The sum of everything that a crate's program or archive is proved and built from."""
     wanted = crates(name)
     paths = sorted(path for crate in wanted for path in files(crate))
-    lines = [line for line in (ROOT / "crates.txt").read_text().splitlines() if line.split(":")[0] in wanted]
+    lines = [line for line in (ROOT / "crates.txt").read_text().splitlines() if crate_in(line) in wanted]
     return sum_of("".join([*(f"{sha256(ROOT / path)}  {path}\n" for path in paths), *(f"{line}\n" for line in lines)]).encode())
 
 
@@ -104,9 +111,20 @@ def released(name):
     return None if release_fault(name) else RELEASE / name
 
 
-def place(name="fitjob"):
-    """Where a check leaves a program."""
-    return MADE / "bin" / name
+def place(file="fitjob"):
+    """Where rt leaves a program or an archive that it has built."""
+    return ROOT / "crates" / crate_of(file) / "out" / file
+
+
+def building(file="fitjob"):
+    """The command that proves and builds a program or an archive, in its crate's folder. A program is run then, on nothing."""
+    return ["rt", "lib" if file.endswith(".a") else "run"]
+
+
+def proved_in(line):
+    """The crate of which a line of rt says that its check has ended, or ''."""
+    found = re.match(r"crate (\w+): modules loaded=", line)
+    return found[1] if found else ""
 
 
 def note(name):
@@ -115,17 +133,18 @@ def note(name):
 
 
 def fresh(name="fitjob"):
-    """Whether the program in target/ was built from the sources as they are."""
+    """Whether the program in its crate's out/ was built from the sources as they are."""
     return place(name).is_file() and note(name).is_file() and note(name).read_text().split() == [sources(name), sha256(place(name))]
 
 
 def settled(made, name="fitjob"):
-    """Notes that the program in target/ was built from the sources of this sum."""
+    """Notes that the program in its crate's out/ was built from the sources of this sum."""
+    MADE.mkdir(exist_ok=True)
     note(name).write_text(f"{made} {sha256(place(name))}\n")
 
 
 def usable(name="fitjob"):
-    """The program to be run: the fresh one in target/, else the released one, else None."""
+    """The program to be run: the fresh one of its crate's out/, else the released one, else None."""
     return place(name) if fresh(name) else released(name)
 
 
@@ -134,7 +153,7 @@ def kit_words():
     said = subprocess.run(["rt", "doc"], capture_output=True, text=True).stdout.split() if shutil.which("rt") else []
     if not said:
         return None
-    kit = Path(said[-1]).parents[1]
+    kit = Path(said[-1]).parent
     homes = [home for home in (kit / "on" / platform.machine() / "toolchain" / "lib", kit / "toolchain" / "lib") if (home / LOADER).exists()]
     emulator = [] if platform.machine() == "x86_64" else [str(found) for found in kit.glob("**/bin/qemu-x86_64")][:1]
     if not homes or not emulator and platform.machine() != "x86_64":
@@ -158,6 +177,6 @@ def run_words(file):
 
 
 def command(name="fitjob"):
-    """The words that run a program: the fresh one of target/, else the released one, else what the last check left in target/; None where there is none."""
+    """The words that run a program: the fresh one of its crate's out/, else the released one, else what was last built there; None where there is none."""
     file = usable(name) or (place(name) if place(name).is_file() else None)
     return file and run_words(file)

@@ -3,7 +3,6 @@ import collections, contextlib, fcntl, os, re, shutil, signal, subprocess, sys, 
 import program
 
 TIMES = program.ROOT / "docs" / "TIMES.md"
-STAMPS = program.ROOT / "target" / "stamp"  # where rt notes what it has proved
 ENDINGS = [signal.SIGINT, signal.SIGTERM, signal.SIGHUP]
 UNKNOWN = 15  # seconds of a crate that docs/TIMES.md does not name
 SURE = 60  # seconds of expected work that must be done before its pace is believed
@@ -29,9 +28,15 @@ def expected():
     return {name: int(seconds) / max(int(beside), 1) for name, seconds, beside in rows}
 
 
+def stamp_of(crate):
+    """What rt leaves of a crate that is proved: of a library its stamp, of a program the program itself."""
+    folder = program.ROOT / "crates" / crate
+    return program.place(crate) if (folder / "src" / "main.rt").is_file() else folder / "out" / "rlib" / "stamp"
+
+
 def changed(crate):
     """Whether a crate is not proved yet, or has a source that is newer than its proof."""
-    stamp = STAMPS / crate
+    stamp = stamp_of(crate)
     return not stamp.is_file() or any((program.ROOT / file).stat().st_mtime > stamp.stat().st_mtime for file in program.files(crate))
 
 
@@ -48,9 +53,11 @@ class Progress:
     """The crates that are left, and what is told of them."""
 
     def __init__(self, name):
-        self.left, seconds = program.crates(name), expected()
-        self.total, self.began, self.done = len(self.left), time.monotonic(), 0
-        self.work = {crate: seconds.get(crate, UNKNOWN) for crate in unproved(self.left)}  # the seconds of what is to be proved
+        crates, seconds = program.crates(name), expected()
+        new = unproved(crates)
+        self.total, self.began, self.done = len(crates), time.monotonic(), 0
+        self.left = [crate for crate in crates if crate in new]
+        self.work = {crate: seconds.get(crate, UNKNOWN) for crate in self.left}  # the seconds of what is to be proved
 
     def rest(self):
         """The seconds that are left, at the pace so far where enough is done to know it."""
@@ -58,16 +65,14 @@ class Progress:
         return rest * gone / self.done if self.done >= SURE else rest
 
     def take(self, line):
-        """What a line of rt says of the work; a crate that was proved before is told on a terminal alone."""
-        found = re.match(r"rt: (\w+) proved \((unchanged)?(.*)\)", line)
-        if not found or found[1] not in self.left:
+        """What a line of rt says of the work."""
+        crate = program.proved_in(line)
+        if crate not in self.left:
             return
-        crate, before = found[1], found[2]
         self.left.remove(crate)
-        self.done += self.work.pop(crate, 0) * (not before)
+        self.done += self.work.pop(crate)
         then = f"; next {self.left[0]}, {about(self.rest())} left" if self.left else ""
-        if sys.stderr.isatty() or not before:
-            say(f"{self.total - len(self.left)} of {self.total} proved: {crate} ({before or found[3]}){then}", over=bool(self.left))
+        say(f"{self.total - len(self.left)} of {self.total} proved: {crate}{then}", over=bool(self.left))
 
     def close(self):
         """What comes next stands in a line of its own."""
@@ -94,11 +99,11 @@ def end_group(leader):
 
 
 @contextlib.contextmanager
-def running(words):
+def running(words, folder):
     """A command in a session of its own, of which nothing is left where this run ends before it. A signal that comes while it starts is kept until it can be ended."""
     kept = []
     before = {number: signal.signal(number, lambda number, _: kept.append(number)) for number in ENDINGS if callable(signal.getsignal(number))}
-    with subprocess.Popen(words, cwd=program.ROOT, stdin=subprocess.DEVNULL, stdout=subprocess.PIPE, stderr=subprocess.STDOUT, text=True, start_new_session=True) as work:
+    with subprocess.Popen(words, cwd=folder, stdin=subprocess.DEVNULL, stdout=subprocess.PIPE, stderr=subprocess.STDOUT, text=True, start_new_session=True) as work:
         try:
             for number, handler in before.items():
                 signal.signal(number, handler)
@@ -124,14 +129,14 @@ def alone():
 
 
 def prove(name, cause):
-    """`rt check` of a program, telling how far it is."""
+    """A program proved and built, telling how far it is."""
     if not shutil.which("rt"):
         raise Failed(f"{cause}, and the Rattle toolchain (rt), which proves and builds {name}, is missing")
     made, progress, last = program.sources(name), Progress(name), collections.deque(maxlen=12)
     say(f"{cause}: proving and building {name} and what it stands on, {progress.total} crates, {len(progress.work)} of them new: "
         f"{about(progress.rest())} on two free cores")
     try:
-        with running(["rt", "check", name]) as work:
+        with running(program.building(name), program.ROOT / "crates" / name) as work:
             for line in work.stdout:
                 last.append(line)
                 progress.take(line)
@@ -155,7 +160,7 @@ def ready(name="fitjob"):
 def differs(name):
     """What the page and this toolchain say of each other, where the bytes are not the release's."""
     here = subprocess.run(["rt", "version"], capture_output=True, text=True).stdout.strip()
-    return f"target/bin/{name} has other bytes than the release, from the same sources; docs/RELEASE.md was made with {program.page_says('toolchain')}, here is {here}"
+    return f"crates/{name}/out/{name} has other bytes than the release, from the same sources; docs/RELEASE.md was made with {program.page_says('toolchain')}, here is {here}"
 
 
 def compared(name="fitjob"):
@@ -165,11 +170,11 @@ def compared(name="fitjob"):
     _, sha, made = program.page_rows().get(name, (0, "", ""))
     found, fault, same = program.sha256(program.place(name)), program.release_fault(name), made == program.sources(name)
     if found == sha and not fault:
-        say(f"proved; target/bin/{name} and release/{name} have the same bytes, sha256 {sha}")
+        say(f"proved; crates/{name}/out/{name} and release/{name} have the same bytes, sha256 {sha}")
     elif not same:
         say(f"proved and built, sha256 {found}; not compared with the release: {fault}")
     elif found == sha:
-        say(f"proved; target/bin/{name} has the sha256 of docs/RELEASE.md, {sha}, but {fault}")
+        say(f"proved; crates/{name}/out/{name} has the sha256 of docs/RELEASE.md, {sha}, but {fault}")
     else:
         say(differs(name))
     return not same or found == sha and not fault
