@@ -5,7 +5,7 @@
 #   make uninstall   removes what install wrote, with the same PREFIX and DESTDIR
 #   make check       installs into a temporary folder, and compiles and runs the examples against it (tools/test_install)
 #
-# The archives that it is made of are those of release/ where they are of these sources, else those that `rt staticlib` left below target/ (tools/library.py):
+# The archives that it is made of are those of release/ where they are of these sources, else those that `rt lib` left in their crates' out/ (tools/library.py):
 # where release/ is whole, the Rattle toolchain is not wanted. Wanted are GNU make, gcc, binutils and Python 3; elsewhere than on x86-64 the cross tools of gcc.
 
 PREFIX ?= /usr/local
