@@ -9,7 +9,7 @@ sys.dont_write_bytecode = True
 from rule import COUNTS, CRATES, IEEE, ROOT, answer, definitions, given, number, record
 from form import from_groups
 
-TOLD = "reasonBy toldEnd toldInner toldWith".split()
+TOLD = "reason_by told_end told_inner told_with".split()
 OPENED = [*CRATES, "quadrature", "spread", "agq_rule"]
 NUMBERS = {None: 0, "Wish": 1, "Effects": 2, "Cap": 3, "Diagonal": 4, "Inverse": 5, "Factor": 5, "Sum": 6}
 JOBS = json.loads((ROOT / "crates" / "agq_cases" / "jobs.json").read_text())
@@ -17,8 +17,8 @@ JOBS = json.loads((ROOT / "crates" / "agq_cases" / "jobs.json").read_text())
 
 def told(end, vectors, why):
     account = record(**{name: end[name] for name in COUNTS})
-    reason = "noMode" if end["end"] else f"because reason.{why}" if why else "used"
-    return record(number=end["end"], order=end["order"], account=account, deviance=number(vectors["deviance"][0]) if vectors else "zeroF", reason=reason)
+    reason = "no_mode" if end["end"] else f"because reason.{why}" if why else "used"
+    return record(number=end["end"], order=end["order"], account=account, deviance=number(vectors["deviance"][0]) if vectors else "zero_f", reason=reason)
 
 
 def file_of(about):
@@ -30,20 +30,20 @@ def file_of(about):
     why = about.get("declines")
     if end["why"] != NUMBERS[why]:
         sys.exit(f"agq.py: '{about['says']}' declines for {why}, but the oracle tells why {end['why']}")
-    which = "noMode" if end["end"] else "because" if why else "used"
-    reasons = "use Rattle·quadrature.specs.declared.orders.Decline.the-variants as reason\n" if why else ""
+    which = "no_mode" if end["end"] else "because" if why else "used"
+    reasons = "use Rattle.quadrature.specs.declared.orders.Decline.TheVariants as reason\n" if why else ""
     uses = [f"use {module}.{{{', '.join(names)}}}" for module, names in opened]
     names = " ".join([*TOLD, *IEEE, *(n for _, names in opened for n in names)])
     return f"""-- {about['says']} Made by tools/cases/agq.py; the right side is the oracle's answer. Assumes nothing.
-use mathlib.Core.Path.{{_≡_, refl}}
-use mathlib.Core.List.{{[], _∷_}}
+use mathlib.Core.Path.{{◌≡◌, refl}}
+use mathlib.Core.List.{{[], ◌∷◌}}
 use lib.Ieee.{{{', '.join(IEEE)}}}
-use Rattle·base.specs.Number.{{bits{", zeroF" if end["end"] else ""}}}
+use Rattle.base.specs.Number.{{bits{", zero_f" if end["end"] else ""}}}
 {chr(10).join(uses)}
-use Rattle·rule.specs.Given.{{Given}}
-use Rattle·family.specs.declared.carried.CarriedFamily.the-variants as family
-use Rattle·family.specs.declared.carried.CarriedLink.the-variants as link
-{reasons}use Rattle·agq_cases·specs.specs.Told.{{{which}, Told, {', '.join(TOLD)}}}
+use Rattle.rule.specs.Given.{{Given}}
+use Rattle.family.specs.declared.carried.CarriedFamily.TheVariants as family
+use Rattle.family.specs.declared.carried.CarriedLink.TheVariants as link
+{reasons}use Rattle.agq_cases.specs.Told.{{{which}, Told, {', '.join(TOLD)}}}
 
 abbrev job : Given
 job = {given(job)}
@@ -51,7 +51,7 @@ job = {given(job)}
 abbrev answer : Told
 answer = {told(end, vectors, why)}
 
-pub holds : toldWith job {job.get("n_agq", 1)} {limit} ≡ answer
+pub holds : told_with job {job.get("n_agq", 1)} {limit} ≡ answer
 unfolding {names}
 holds = refl
 """

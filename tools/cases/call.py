@@ -19,7 +19,7 @@ def entries(job):
 
 def settings(job):
     limit = job.get("limit")
-    return record(family="family." + job["family"].capitalize(), link="link." + job["link"].capitalize(), **{"«n_agq»": job.get("n_agq", 1)},
+    return record(family="family." + job["family"].capitalize(), link="link." + job["link"].capitalize(), **{"n_agq": job.get("n_agq", 1)},
                   limit="limit.NotGiven" if limit is None else f"limit.Given {limit}", n=len(job["y"]), p=len(job["x"][0]), rows=len(job["zt"]),
                   entries=len(entries(job)), start="start." + job.get("start", "usual").capitalize())
 
@@ -45,9 +45,9 @@ def room(job):
 
 def told(end, vectors):
     account = record(**{name: end[name] for name in COUNTS})
-    of = record(number=end["end"], deviance=number(vectors["deviance"][0]) if vectors else "zeroF", phi=number(vectors["phi"][0]) if vectors else "zeroF",
+    of = record(number=end["end"], deviance=number(vectors["deviance"][0]) if vectors else "zero_f", phi=number(vectors["phi"][0]) if vectors else "zero_f",
                 order=end["order"], why=end["why"], converged="true" if end["disp"] else "false", iterations=end["iters"], account=account)
-    results = record(**{name: numbers(vectors[name]) for name in VECTORS}) if vectors else "L .results"
+    results = record(**{name: numbers(vectors[name]) for name in VECTORS}) if vectors else "L.results"
     return record(answer=of, results=results)
 
 
@@ -56,24 +56,24 @@ def file_of(about):
     end, vectors = answer(job)
     opened = [*definitions(OPENED)]
     uses = [f"use {module}.{{{', '.join(names)}}}" for module, names in opened]
-    names = " ".join(["toldOf", *IEEE, *(n for _, names in opened for n in names)])
+    names = " ".join(["told_of", *IEEE, *(n for _, names in opened for n in names)])
     return f"""-- {about['says']} Made by tools/cases/call.py; the right side is the oracle's answer. Assumes nothing.
-use mathlib.Core.Path.{{_≡_, refl}}
+use mathlib.Core.Path.{{◌≡◌, refl}}
 use mathlib.Core.Bool.{{{"true" if end["disp"] else "false"}}}
-use mathlib.Core.List.{{[], _∷_}}
+use mathlib.Core.List.{{[], ◌∷◌}}
 use lib.Ieee.{{{', '.join(IEEE)}}}
-use Rattle·base.specs.Number.{{bits{"" if vectors else ", zeroF"}}}
+use Rattle.base.specs.Number.{{bits{"" if vectors else ", zero_f"}}}
 {chr(10).join(uses)}
-use Rattle·model.specs.Inputs.{{Inputs}}
-use Rattle·model.specs.declared.sizes.Shape.{{Shape}}
-use Rattle·model.specs.declared.sizes.Settings.{{Settings}}
-use Rattle·model.specs.declared.names.Family.the-variants as family
-use Rattle·model.specs.declared.names.Link.the-variants as link
-use Rattle·model.specs.declared.names.Limit.the-variants as limit
-use Rattle·model.specs.declared.names.Start.the-variants as start
-use Rattle·table.specs.declared.verdicts.LentLengths.{{LentLengths}}
-use Rattle·call.specs.Call.{{Lent}}
-use Rattle·call_cases·specs.specs.Told.{{Told, toldOf}}
+use Rattle.model.specs.Inputs.{{Inputs}}
+use Rattle.model.specs.declared.sizes.Shape.{{Shape}}
+use Rattle.model.specs.declared.sizes.Settings.{{Settings}}
+use Rattle.model.specs.declared.names.Family.TheVariants as family
+use Rattle.model.specs.declared.names.Link.TheVariants as link
+use Rattle.model.specs.declared.names.Limit.TheVariants as limit
+use Rattle.model.specs.declared.names.Start.TheVariants as start
+use Rattle.table.specs.declared.verdicts.LentLengths.{{LentLengths}}
+use Rattle.call.specs.Call.{{Lent}}
+use Rattle.call_cases.specs.Told.{{Told, told_of}}
 
 abbrev settings : Settings
 settings = {settings(job)}
@@ -92,12 +92,12 @@ abbrev answer : Lent → Told
 answer L = {told(end, vectors)}
 
 -- in slices of these lengths
-computed : (L : Lent) → toldOf (callBy (tableOf 1 settings shape inputs room) settings shape inputs L) ≡ answer L
+computed : (L : Lent) → told_of (call_by (table_of 1 settings shape inputs room) settings shape inputs L) ≡ answer L
 unfolding {names}
 computed L = refl
 
-pub holds : (L : Lent) → lengthsOf L ≡ room → toldOf (callOf settings shape inputs L) ≡ answer L
-unfolding callOf
+pub holds : (L : Lent) → lengths_of L ≡ room → told_of (call_of settings shape inputs L) ≡ answer L
+unfolding call_of
 holds L r = rw r (computed L)
 """
 

@@ -11,7 +11,7 @@ sys.path.insert(0, str(ROOT / "tools" / "glmm"))
 from form import from_groups, job_bytes
 
 CRATES = ["base", "root", "tabulated", "elementary", "log_gamma", "normal", "model", "family", "family_lists", "factor", "lambda", "linear", "stored", "rule"]
-IEEE = "add sub mul div neg lt le eq ne isNan ofBits toBits ofInt toUnsigned round".split()
+IEEE = "add sub mul div neg lt le eq ne is_nan of_bits to_bits of_int to_unsigned round".split()
 COUNTS = "fits solves tries points eta mean pwrss ok".split()
 VECTORS = "beta se z u b mu eta residual v".split()
 JOBS = json.loads((ROOT / "crates" / "rule_cases" / "jobs.json").read_text())
@@ -23,7 +23,7 @@ def definitions(crates=CRATES):
         for path in sorted(glob.glob(str(ROOT / "crates" / crate / "specs" / "*.antt"))):
             names = re.findall(r"(?m)^ *unfoldable pub (\S+) :(?!.*Type 0$)", Path(path).read_text())
             if names:
-                yield f"Rattle·{crate}.specs.{Path(path).stem}", names
+                yield f"Rattle.{crate}.specs.{Path(path).stem}", names
 
 
 def number(value):
@@ -75,7 +75,7 @@ def answer(job):
 
 def told(end, vectors):
     account = record(**{name: end[name] for name in COUNTS})
-    return record(number=end["end"], iterations=end["iters"], account=account, deviance=number(vectors["deviance"][0]) if vectors else "zeroF",
+    return record(number=end["end"], iterations=end["iters"], account=account, deviance=number(vectors["deviance"][0]) if vectors else "zero_f",
                   **{name: numbers(vectors.get(name, [])) for name in VECTORS})
 
 
@@ -87,15 +87,15 @@ def file_of(name, about):
     uses = [f"use {module}.{{{', '.join(names)}}}" for module, names in definitions()]
     opened = " ".join([*IEEE, *(n for _, names in definitions() for n in names)])
     return f"""-- {about['says']} Made by tools/cases/rule.py; the right side is the oracle's answer. Assumes nothing.
-use mathlib.Core.Path.{{_≡_, refl}}
-use mathlib.Core.List.{{[], _∷_}}
+use mathlib.Core.Path.{{◌≡◌, refl}}
+use mathlib.Core.List.{{[], ◌∷◌}}
 use lib.Ieee.{{{', '.join(IEEE)}}}
-use Rattle·base.specs.Number.{{bits{", zeroF" if end["end"] else ""}}}
+use Rattle.base.specs.Number.{{bits{", zero_f" if end["end"] else ""}}}
 {chr(10).join(uses)}
-use Rattle·rule.specs.Given.{{Given}}
-use Rattle·family.specs.declared.carried.CarriedFamily.the-variants as family
-use Rattle·family.specs.declared.carried.CarriedLink.the-variants as link
-use Rattle·rule_cases·specs.specs.Told.{{Told, toldMode, toldV, toldEnding, toldOutcome, toldOf}}
+use Rattle.rule.specs.Given.{{Given}}
+use Rattle.family.specs.declared.carried.CarriedFamily.TheVariants as family
+use Rattle.family.specs.declared.carried.CarriedLink.TheVariants as link
+use Rattle.rule_cases.specs.Told.{{Told, told_mode, told_v, told_ending, told_outcome, told_of}}
 
 abbrev job : Given
 job = {given(job)}
@@ -103,8 +103,8 @@ job = {given(job)}
 abbrev answer : Told
 answer = {told(end, vectors)}
 
-pub holds : toldOf job {limit} ≡ answer
-unfolding toldMode toldV toldEnding toldOutcome toldOf {opened}
+pub holds : told_of job {limit} ≡ answer
+unfolding told_mode told_v told_ending told_outcome told_of {opened}
 holds = refl
 """
 
