@@ -5,7 +5,7 @@ use lib.ListN.{length}
 use Rattle.fitmany.proofs.read_input.Given as goal
 
 abbrev pub invariant-loop-at : goal.invariant-loop-at
-invariant-loop-at l = (l.at ≤ l.end) × (length l.space ≡ length l.initial.space) × (l.end ≡ length l.initial.space)
+invariant-loop-at g l = (l.at ≤ l.end) × (length l.space ≡ length l.initial.space) × (l.end ≡ length l.initial.space)
 
 abbrev pub decreases-loop-at : goal.decreases-loop-at
-decreases-loop-at l = l.end - l.at
+decreases-loop-at g l = l.end - l.at
