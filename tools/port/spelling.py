@@ -12,7 +12,7 @@ from pathlib import Path
 ROOT = Path(__file__).resolve().parent.parent.parent
 WORD = r"[^\W\d][\w'₀-₉]*(?:-[\w'₀-₉]+)*"
 DEFINED = re.compile(rf"^(?:(?:abbrev|unfoldable|pub) )*(?:ruleset )?({WORD})(?: [^:=]*)? (?::|=)")
-FIELD = re.compile(rf"^\s+(?:pub )?({WORD}) : ")
+FIELD = re.compile(rf"^\s+(?:pub )?({WORD}(?: {WORD})*) : ")
 
 
 def antt():
@@ -74,8 +74,8 @@ def defined():
                     names[found[1]].add(path)
             if inside:
                 field = FIELD.match(line)
-                if field:
-                    names[field[1]].add(path)
+                for name in field[1].split() if field else ():
+                    names[name].add(path)
     return names
 
 

@@ -4,7 +4,7 @@ use mathlib.Core.List.{List, [], ◌∷◌}
 use Prim.Native.Nat.{◌+◌, ◌≤◌}
 use native.Mathlib.Omega.{arith}
 use Rattle.model.specs.Account.{◌⊞◌, AtMost, AddsUp, Accepts}
-use Rattle.model.specs.Items.{Item, a_fit, aSolve, a_try, a_point, eta_refused, meanRefused, pwrssRefused, accepted, is_try, is_eta, is_mean, is_pwrss, is_ok, count_of, tally}
+use Rattle.model.specs.Items.{Item, a_fit, a_solve, a_try, a_point, eta_refused, mean_refused, pwrss_refused, accepted, is_try, is_eta, is_mean, is_pwrss, is_ok, count_of, tally}
 use Rattle.model.specs.declared.counts.Account.{Account}
 
 -- each try is in exactly one of the four
@@ -12,10 +12,10 @@ pub parts_add_up : (is : List Item) → count_of is_eta is + count_of is_mean is
 unfolding count_of
 parts_add_up [] = refl
 parts_add_up (a_fit ∷ is) = omega (arith, parts_add_up is)
-parts_add_up (aSolve ∷ is) = omega (arith, parts_add_up is)
+parts_add_up (a_solve ∷ is) = omega (arith, parts_add_up is)
 parts_add_up (a_try eta_refused ∷ is) = omega (arith, parts_add_up is)
-parts_add_up (a_try meanRefused ∷ is) = omega (arith, parts_add_up is)
-parts_add_up (a_try pwrssRefused ∷ is) = omega (arith, parts_add_up is)
+parts_add_up (a_try mean_refused ∷ is) = omega (arith, parts_add_up is)
+parts_add_up (a_try pwrss_refused ∷ is) = omega (arith, parts_add_up is)
 parts_add_up (a_try accepted ∷ is) = omega (arith, parts_add_up is)
 parts_add_up (a_point ∷ is) = omega (arith, parts_add_up is)
 

@@ -7,7 +7,7 @@ use native.Mathlib.Nat.{zero-mul, suc-mul}
 use native.Mathlib.Omega.{arith}
 use lib.ListN.{replicate}
 use Rattle.model.specs.Account.{no_counts, ◌⊞◌, one_fit, one_solve, points_of}
-use Rattle.model.specs.Items.{Item, a_fit, aSolve, a_point, is_fit, is_solve, is_try, is_point, is_eta, is_mean, is_pwrss, is_ok, tick, count_of, tally}
+use Rattle.model.specs.Items.{Item, a_fit, a_solve, a_point, is_fit, is_solve, is_try, is_point, is_eta, is_mean, is_pwrss, is_ok, tick, count_of, tally}
 use Rattle.model.proofs.Accounts.{same_counts}
 
 -- whatever is counted
@@ -30,7 +30,7 @@ pub tally_fit : tally (a_fit ∷ []) ≡ one_fit
 unfolding tally count_of
 tally_fit = refl
 
-pub tally_solve : tally (aSolve ∷ []) ≡ one_solve
+pub tally_solve : tally (a_solve ∷ []) ≡ one_solve
 unfolding tally count_of
 tally_solve = refl
 

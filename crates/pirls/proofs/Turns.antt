@@ -16,7 +16,7 @@ use Rattle.layout.specs.WorkMatrices.{system_place, root_inverse_place, u_place,
 use Rattle.layout.specs.WorkTerms.{terms_length}
 use Rattle.layout.proofs.LaidOut.{laid_out}
 use Rattle.model.specs.Account.{◌⊞◌, one_fit, one_solve, AtMost, SumFits}
-use Rattle.model.specs.Items.{Item, a_fit, aSolve, tally}
+use Rattle.model.specs.Items.{Item, a_fit, a_solve, tally}
 use Rattle.model.specs.declared.counts.Account.{Account}
 use Rattle.model.specs.declared.ends.End.{End}
 use Rattle.model.specs.declared.ends.End.TheVariants.{NoStep, NoStop}
@@ -70,8 +70,8 @@ unfolding turned
 turned_more k = let e : k + 1 ≡ suc k = omega arith in rw e refl
 
 -- a solve and its tries, by their items
-solve_counts : (is : List Item) (made : Account) → tally is ≡ made → tally (aSolve ∷ is) ≡ one_solve ⊞ made
-solve_counts is made e = tally_append (aSolve ∷ []) is ∙ rw (tally_solve, e) refl
+solve_counts : (is : List Item) (made : Account) → tally is ≡ made → tally (a_solve ∷ is) ≡ one_solve ⊞ made
+solve_counts is made e = tally_append (a_solve ∷ []) is ∙ rw (tally_solve, e) refl
 
 module _ (G : Given) (phi : Float) (L : ℕ) (mu₀ : List Float) where
   abbrev n : ℕ
@@ -146,12 +146,12 @@ module _ (G : Given) (phi : Float) (L : ℕ) (mu₀ : List Float) where
     unfolding after_solve
     turn_unsolved e h = turn ∙ rw h refl
 
-    turn_stuck : (v : Solved) (is : List Item) → solve_of G phi s.eta s.mu ≡ solved v → tries_of (trial_of G v s.eta) ≡ no_move is → rest_at k second rows old ≡ failed_after (aSolve ∷ is) NoStep
+    turn_stuck : (v : Solved) (is : List Item) → solve_of G phi s.eta s.mu ≡ solved v → tries_of (trial_of G v s.eta) ≡ no_move is → rest_at k second rows old ≡ failed_after (a_solve ∷ is) NoStep
     unfolding after_solve after_search
     turn_stuck v is h e = turn ∙ rw (h, e) refl
 
     turn_moved : (v : Solved) (mv : Move) (is : List Item) → solve_of G phi s.eta s.mu ≡ solved v → tries_of (trial_of G v s.eta) ≡ found_move mv is
-        → rest_at k second rows old ≡ items_before (aSolve ∷ is) (after_stop (stops old mv.pwrss) (mode_of G (k + 1) v mv) rest (moved s mv))
+        → rest_at k second rows old ≡ items_before (a_solve ∷ is) (after_stop (stops old mv.pwrss) (mode_of G (k + 1) v mv) rest (moved s mv))
     unfolding after_solve after_search
     turn_moved v mv is h e = turn ∙ rw (h, e) refl
 
@@ -193,7 +193,7 @@ module _ (G : Given) (phi : Float) (L : ℕ) (mu₀ : List Float) where
       → Only 0 (rows_length n) r₀ r' → Only 0 (rows_length n) r r'' → Only 0 (matrices_length p q) m m' → Only 0 terms_length t t' → InnerLeft G phi L mu₀ r₀ r'' m₀ m' t₀ t' (failed_fit NoStep (account ⊞ (one_solve ⊞ made)))
   unfolding failed_after
   stuck_end r₀ r r' r'' m₀ m m' t₀ t t' old second k account made g l x or or' om ot =
-      let d : rest_at k second r old ≡ failed_after (aSolve ∷ x.items) NoStep = turn_stuck k second r old l x.v x.items x.solve x.tries in
+      let d : rest_at k second r old ≡ failed_after (a_solve ∷ x.items) NoStep = turn_stuck k second r old l x.v x.items x.solve x.tries in
       let c : tally (rest_at k second r old).items ≡ one_solve ⊞ made = rw d (solve_counts x.items made x.count) in
       fit_failed (account ⊞ (one_solve ⊞ made)) NoStep r₀ r'' m₀ m' t₀ t' (g.ending ∙ rw d refl) (g.items ∙ rw c refl) (only_trans (only_trans or g.rows_only) or') (only_trans g.matrices_only om) (only_trans g.terms_only ot)
 
@@ -210,22 +210,22 @@ module _ (G : Given) (phi : Float) (L : ℕ) (mu₀ : List Float) where
     abbrev after : Bool → Outcome
     after b = after_stop b mode (run_from G phi (L - (k + 1))) (moved (state_in k second r old) mv)
 
-    went : rest_at k second r old ≡ items_before (aSolve ∷ x.items) (after (stops old pwrss))
+    went : rest_at k second r old ≡ items_before (a_solve ∷ x.items) (after (stops old pwrss))
     went = turn_moved k second r old l x.v mv x.items x.solve x.tries
 
     -- the account after it
     abbrev more : Account
     more = account ⊞ (one_solve ⊞ made)
 
-    went_items : (o : Outcome) → account ⊞ tally ((aSolve ∷ x.items) ++ o.items) ≡ more ⊞ tally o.items
+    went_items : (o : Outcome) → account ⊞ tally ((a_solve ∷ x.items) ++ o.items) ≡ more ⊞ tally o.items
     went_items o =
-        rw (tally_append (aSolve ∷ x.items) o.items, solve_counts x.items made x.count) (sym (plus_assoc account (one_solve ⊞ made) (tally o.items)))
+        rw (tally_append (a_solve ∷ x.items) o.items, solve_counts x.items made x.count) (sym (plus_assoc account (one_solve ⊞ made) (tally o.items)))
 
     -- the stop test fails: one more turn
     pub goes_on : AtMost iteration_cap made → stops old pwrss ≡ false → Going r' r'' m₀ m' t₀ t' pwrss (not second) (k + 1) more
     unfolding items_before after_stop moved
     goes_on few e =
-        let o : rest_at k second r old ≡ items_before (aSolve ∷ x.items) (rest_at (k + 1) (not second) r'' pwrss) = went ∙ rw e refl in
+        let o : rest_at k second r old ≡ items_before (a_solve ∷ x.items) (rest_at (k + 1) (not second) r'' pwrss) = went ∙ rw e refl in
         record {
           within = omega arith;
           place = ap not g.place ∙ sym (turned_more k);
@@ -240,7 +240,7 @@ module _ (G : Given) (phi : Float) (L : ℕ) (mu₀ : List Float) where
 
     -- it passes: the mode
     module _ (r''' m''' : List Float) (at : AtStop) (lent : WorkRoom n p q r'' m' t') (sl : StopLeft G p q x.v (row (mu_row n) n r'') r'' r''' m' m''' at) (e : stops old pwrss ≡ true) where
-      ended : rest_at k second r old ≡ items_before (aSolve ∷ x.items) (record { ending = stopped mode; items = [] })
+      ended : rest_at k second r old ≡ items_before (a_solve ∷ x.items) (record { ending = stopped mode; items = [] })
       unfolding after_stop
       ended = went ∙ rw e refl
 

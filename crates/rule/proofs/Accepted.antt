@@ -9,7 +9,7 @@ use Rattle.base.specs.Number.{◌⊗◌, one_f, half_f, finite}
 use Rattle.base.specs.Sum.{all_to, finite_at}
 use Rattle.model.specs.Account.{Accepts}
 use Rattle.model.specs.Caps.{tries_cap}
-use Rattle.model.specs.Items.{Item, a_try, Fate, eta_refused, meanRefused, pwrssRefused, is_solve, is_ok, count_of, tally}
+use Rattle.model.specs.Items.{Item, a_try, Fate, eta_refused, mean_refused, pwrss_refused, accepted, is_solve, is_ok, count_of, tally}
 use Rattle.model.specs.declared.ends.End.{End}
 use Rattle.model.specs.declared.ends.End.TheVariants.{SystemPivot, NormalPivot, NoStep, NoStop}
 use Rattle.model.proofs.Tallies.{count_append}
@@ -37,8 +37,8 @@ moves_in (no_move is) = 0
 -- ---- a try is refused by one of its three tests, or it moves
 data Tested : Tried → Type 0 where
   eta_failed : Tested (refused eta_refused)
-  mean_failed : Tested (refused meanRefused)
-  pwrss_failed : Tested (refused pwrssRefused)
+  mean_failed : Tested (refused mean_refused)
+  pwrss_failed : Tested (refused pwrss_refused)
   passed : (m : Move) → Tested (moves m)
 
 pwrss_tested : (b : Bool) (c m : List Float) (r : Float) → Tested (after_pwrss b c m r)
@@ -75,8 +75,9 @@ try_found : (x : Tried) → Tested x → (rest : Float → Search) (step : Float
 unfolding after_try count_of
 try_found (moves m) (passed _) rest step h = record { ok = refl; solves = refl }
 try_found (refused eta_refused) eta_failed rest step h = one_before eta_refused (rest (step ⊗ half_f)) refl (h (step ⊗ half_f))
-try_found (refused meanRefused) mean_failed rest step h = one_before meanRefused (rest (step ⊗ half_f)) refl (h (step ⊗ half_f))
-try_found (refused pwrssRefused) pwrss_failed rest step h = one_before pwrssRefused (rest (step ⊗ half_f)) refl (h (step ⊗ half_f))
+try_found (refused mean_refused) mean_failed rest step h = one_before mean_refused (rest (step ⊗ half_f)) refl (h (step ⊗ half_f))
+try_found (refused pwrss_refused) pwrss_failed rest step h = one_before pwrss_refused (rest (step ⊗ half_f)) refl (h (step ⊗ half_f))
+try_found (refused accepted) x rest step h = elim x [ ]
 
 from_found : (T : Trial) (f : ℕ) (step : Float) → Found (tries_from T f step)
 unfolding tries_from count_of

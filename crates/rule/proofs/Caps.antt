@@ -9,7 +9,7 @@ use lib.Ieee.{Float}
 use Rattle.base.specs.Number.{◌⊗◌, one_f, half_f}
 use Rattle.model.specs.Account.{AtMost}
 use Rattle.model.specs.Caps.{tries_cap, inner_cap_of}
-use Rattle.model.specs.Items.{Item, aSolve, a_try, is_fit, is_solve, is_try, is_point, count_of, tally}
+use Rattle.model.specs.Items.{Item, a_solve, a_try, is_fit, is_solve, is_try, is_point, count_of, tally}
 use Rattle.model.proofs.Parts.{tally_parts, parts_capped}
 use Rattle.model.proofs.Tallies.{count_append}
 use Rattle.family.specs.Carried.{link_of}
@@ -65,13 +65,13 @@ unfolding count_of
 nothing c f = record { fits = refl; solves = omega arith; tries = omega arith; points = refl }
 
 -- a solve with its tries
-solve_tries : (c f : ℕ) (is : List Item) → Tries c is → Runs c (suc f) (aSolve ∷ is)
+solve_tries : (c f : ℕ) (is : List Item) → Tries c is → Runs c (suc f) (a_solve ∷ is)
 unfolding count_of
 solve_tries c f is t =
     record { fits = omega (arith, t); solves = omega (arith, t); tries = omega (arith, t, mul-suc c f); points = omega (arith, t) }
 
 -- and what follows it
-then_runs : (c f : ℕ) (is js : List Item) → Tries c is → Runs c f js → Runs c (suc f) (aSolve ∷ is ++ js)
+then_runs : (c f : ℕ) (is js : List Item) → Tries c is → Runs c f js → Runs c (suc f) (a_solve ∷ is ++ js)
 unfolding count_of
 then_runs c f is js t r =
     record {

@@ -6,7 +6,7 @@ use mathlib.Core.Logic.{◌↔◌}
 use lib.Ieee.{Float}
 use Rattle.base.specs.Number.{finite}
 use Rattle.base.specs.Sum.{all_to, finite_at}
-use Rattle.model.specs.Items.{eta_refused, meanRefused, pwrssRefused}
+use Rattle.model.specs.Items.{eta_refused, mean_refused, pwrss_refused}
 use Rattle.rule.specs.Try.{Trial, candidate_of, fine_eta_at, means_of, pwrss_of, Move, Tried, refused, moves, after_pwrss, try_pwrss, after_means, try_means, after_eta, try_eta, try_of}
 
 module _ (T : Trial) (step : Float) where
@@ -38,11 +38,11 @@ module _ (T : Trial) (step : Float) where
   unfolding try_of try_eta after_eta
   eta_fails e = rw e refl
 
-  mean_fails : etas_fine ≡ true → means_fine ≡ false → try_of T step ≡ refused meanRefused
+  mean_fails : etas_fine ≡ true → means_fine ≡ false → try_of T step ≡ refused mean_refused
   unfolding try_of try_eta after_eta try_means after_means
   mean_fails e m = rw (e, m) refl
 
-  pwrss_fails : etas_fine ≡ true → means_fine ≡ true → pwrss_fine ≡ false → try_of T step ≡ refused pwrssRefused
+  pwrss_fails : etas_fine ≡ true → means_fine ≡ true → pwrss_fine ≡ false → try_of T step ≡ refused pwrss_refused
   unfolding try_of try_eta after_eta try_means after_means try_pwrss after_pwrss
   pwrss_fails e m p = rw (e, m, p) refl
 
@@ -53,8 +53,8 @@ module _ (T : Trial) (step : Float) where
   -- and back
   data Sorted : Tried → Type 0 where
     at_eta : etas_fine ≡ false → Sorted (refused eta_refused)
-    at_mean : etas_fine ≡ true → means_fine ≡ false → Sorted (refused meanRefused)
-    at_pwrss : etas_fine ≡ true → means_fine ≡ true → pwrss_fine ≡ false → Sorted (refused pwrssRefused)
+    at_mean : etas_fine ≡ true → means_fine ≡ false → Sorted (refused mean_refused)
+    at_pwrss : etas_fine ≡ true → means_fine ≡ true → pwrss_fine ≡ false → Sorted (refused pwrss_refused)
     at_none : etas_fine ≡ true → means_fine ≡ true → pwrss_fine ≡ true → Sorted (moves candidate)
 
   sorted : (x y z : Bool) → etas_fine ≡ x → means_fine ≡ y → pwrss_fine ≡ z → Sorted (try_of T step)
@@ -74,22 +74,25 @@ module _ (T : Trial) (step : Float) where
       by (at_eta e) = e
 
   -- for a mean exactly where all etas can be accepted and a mean is not finite
-  pub mean_exactly : (try_of T step ≡ refused meanRefused) ↔ ((etas_fine ≡ true) × (means_fine ≡ false))
+  pub mean_exactly : (try_of T step ≡ refused mean_refused) ↔ ((etas_fine ≡ true) × (means_fine ≡ false))
   mean_exactly = (λ h. by (rw h at whole), λ w. mean_fails w.0 w.1)
     where
-      by : Sorted (refused meanRefused) → (etas_fine ≡ true) × (means_fine ≡ false)
+      by : Sorted (refused mean_refused) → (etas_fine ≡ true) × (means_fine ≡ false)
       by (at_mean e m) = (e, m)
 
   -- for PWRSS exactly where etas and means can be accepted and it is not finite
-  pub pwrss_exactly : (try_of T step ≡ refused pwrssRefused) ↔ ((etas_fine ≡ true) × (means_fine ≡ true) × (pwrss_fine ≡ false))
+  pub pwrss_exactly : (try_of T step ≡ refused pwrss_refused) ↔ ((etas_fine ≡ true) × (means_fine ≡ true) × (pwrss_fine ≡ false))
   pwrss_exactly = (λ h. by (rw h at whole), λ w. pwrss_fails w.0 w.1 w.2)
     where
-      by : Sorted (refused pwrssRefused) → (etas_fine ≡ true) × (means_fine ≡ true) × (pwrss_fine ≡ false)
+      by : Sorted (refused pwrss_refused) → (etas_fine ≡ true) × (means_fine ≡ true) × (pwrss_fine ≡ false)
       by (at_pwrss e m p) = (e, m, p)
 
   -- and accepted exactly where it passes all three
   pub moves_exactly : (try_of T step ≡ moves candidate) ↔ ((etas_fine ≡ true) × (means_fine ≡ true) × (pwrss_fine ≡ true))
-  moves_exactly = (λ h. by (rw h at whole), λ w. none_fails w.0 w.1 w.2)
+  moves_exactly = (λ h. by (try_of T step) whole h, λ w. none_fails w.0 w.1 w.2)
     where
-      by : Sorted (moves candidate) → (etas_fine ≡ true) × (means_fine ≡ true) × (pwrss_fine ≡ true)
-      by (at_none e m p) = (e, m, p)
+      by : (x : Tried) → Sorted x → x ≡ moves candidate → (etas_fine ≡ true) × (means_fine ≡ true) × (pwrss_fine ≡ true)
+      by _ (at_eta e) q = absurd (cc)
+      by _ (at_mean e m) q = absurd (cc)
+      by _ (at_pwrss e m p) q = absurd (cc)
+      by _ (at_none e m p) q = (e, m, p)

@@ -7,7 +7,7 @@ use native.Mathlib.Nat.{not-suc-le-zero, le_of_suc-le-suc}
 use native.Mathlib.Omega.{arith}
 use lib.Ieee.{Float}
 use Rattle.model.specs.Account.{AtMost}
-use Rattle.model.specs.Items.{Item, a_fit, aSolve, is_fit, is_solve, is_try, is_point, is_eta, is_mean, is_pwrss, is_ok, count_of, tally}
+use Rattle.model.specs.Items.{Item, a_fit, a_solve, is_fit, is_solve, is_try, is_point, is_eta, is_mean, is_pwrss, is_ok, count_of, tally}
 use Rattle.model.specs.declared.ends.End.TheVariants.{NoStop}
 use Rattle.model.proofs.Tallies.{count_append}
 use Rattle.rule.specs.Given.{Given}
@@ -31,7 +31,7 @@ module _ (G : Given) (s : State) (rest more : State → Outcome) where
     search_same : (x : Search) (v : Solved) → Ended (after_search x G v s rest) → after_search x G v s more ≡ after_search x G v s rest
     unfolding after_search items_before
     search_same (no_move is) v h = refl
-    search_same (found_move m is) v h = ap (items_before (aSolve ∷ is)) (stop_same (stops s.old m.pwrss) (mode_of G (s.done + 1) v m) (moved s m) h)
+    search_same (found_move m is) v h = ap (items_before (a_solve ∷ is)) (stop_same (stops s.old m.pwrss) (mode_of G (s.done + 1) v m) (moved s m) h)
 
     solve_same : (x : Solve) → Ended (after_solve x G s rest) → after_solve x G s more ≡ after_solve x G s rest
     unfolding after_solve
@@ -48,7 +48,7 @@ module _ (G : Given) (s : State) (rest more : State → Outcome) where
     unfolding after_search items_before failed_after
     search_grows (no_move is) v = omega arith
     search_grows (found_move m is) v =
-        omega (arith, stop_grows (stops s.old m.pwrss) (mode_of G (s.done + 1) v m) (moved s m), count_append t (aSolve ∷ is) (after_stop (stops s.old m.pwrss) (mode_of G (s.done + 1) v m) rest (moved s m)).items, count_append t (aSolve ∷ is) (after_stop (stops s.old m.pwrss) (mode_of G (s.done + 1) v m) more (moved s m)).items)
+        omega (arith, stop_grows (stops s.old m.pwrss) (mode_of G (s.done + 1) v m) (moved s m), count_append t (a_solve ∷ is) (after_stop (stops s.old m.pwrss) (mode_of G (s.done + 1) v m) rest (moved s m)).items, count_append t (a_solve ∷ is) (after_stop (stops s.old m.pwrss) (mode_of G (s.done + 1) v m) more (moved s m)).items)
 
     solve_grows : (x : Solve) → count_of t (after_solve x G s rest).items ≤ count_of t (after_solve x G s more).items
     unfolding after_solve failed_after

@@ -3,7 +3,7 @@ use Rattle.std.specs.Prelude.{◌≡◌, List, [], ◌∷◌, ◌++◌, Bool, tr
 use Rattle.base.specs.Number.{huge_f}
 use Rattle.base.specs.Sum.{◌!◌}
 use Rattle.base.specs.List.{build}
-use Rattle.model.specs.Items.{Item, a_fit, aSolve}
+use Rattle.model.specs.Items.{Item, a_fit, a_solve}
 use Rattle.model.specs.declared.ends.End.{End}
 use Rattle.model.specs.declared.ends.End.TheVariants.{NoStep, NoStop}
 use Rattle.model.specs.declared.names.Start.{Start}
@@ -54,9 +54,9 @@ moved s m = record { done = s.done + 1; eta = m.eta; mu = m.mu; old = m.pwrss }
 
 -- by the tries of an iteration: end 12 where none was accepted
 unfoldable pub after_search : Search → Given → Solved → State → (State → Outcome) → Outcome
-after_search (no_move is) G v s rest = failed_after (aSolve ∷ is) NoStep
+after_search (no_move is) G v s rest = failed_after (a_solve ∷ is) NoStep
 after_search (found_move m is) G v s rest =
-    items_before (aSolve ∷ is) (after_stop (stops s.old m.pwrss) (mode_of G (s.done + 1) v m) rest (moved s m))
+    items_before (a_solve ∷ is) (after_stop (stops s.old m.pwrss) (mode_of G (s.done + 1) v m) rest (moved s m))
 
 -- by the solve of an iteration: ends 10 and 11 where there is none
 unfoldable pub after_solve : Solve → Given → State → (State → Outcome) → Outcome

@@ -6,7 +6,7 @@ use Rattle.base.specs.Sum.{◌!◌, all_to, finite_at, dot_of}
 use Rattle.base.specs.List.{build}
 use Rattle.model.specs.Names.{is_inverse}
 use Rattle.model.specs.Caps.{tries_cap}
-use Rattle.model.specs.Items.{Item, a_try, Fate, eta_refused, meanRefused, pwrssRefused, accepted}
+use Rattle.model.specs.Items.{Item, a_try, Fate, eta_refused, mean_refused, pwrss_refused, accepted}
 use Rattle.family.specs.Carried.{link_of}
 use Rattle.family.specs.Link.{link_inv}
 use Rattle.family.specs.declared.carried.CarriedLink.{CarriedLink}
@@ -78,7 +78,7 @@ pub data Tried : Type 0 where
 
 -- by the third test, of PWRSS
 unfoldable pub after_pwrss : Bool → List Float → List Float → Float → Tried
-after_pwrss false c m r = refused pwrssRefused
+after_pwrss false c m r = refused pwrss_refused
 after_pwrss true c m r = moves (record { eta = c; mu = m; pwrss = r })
 
 -- the third test
@@ -87,7 +87,7 @@ try_pwrss c m r = after_pwrss (finite r) c m r
 
 -- by the second test, of the means
 unfoldable pub after_means : Bool → Trial → List Float → List Float → Tried
-after_means false T c m = refused meanRefused
+after_means false T c m = refused mean_refused
 after_means true T c m = try_pwrss c m (pwrss_of T c)
 
 -- the second test

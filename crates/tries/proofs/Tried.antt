@@ -50,9 +50,9 @@ module _ (T : Trial) (next mu : ℕ) (step : Float) (v w : List Float) (apart : 
     finites r t e h = rw means' at (sym e ∙ h)
 
     -- refused by the second test
-    pub mean_refused : (r : Bool) → r ≡ all_to T.n (finite_at (row mu T.n x)) → r ≡ false → TryDone T next mu step v x MeanRefused
+    pub mean_refused_lem : (r : Bool) → r ≡ all_to T.n (finite_at (row mu T.n x)) → r ≡ false → TryDone T next mu step v x MeanRefused
     unfolding try_of try_eta after_eta try_means after_means
-    mean_refused r e h =
+    mean_refused_lem r e h =
         record {
           says = rw (fine f true told passed, finites r false e h);
           candidate = held';

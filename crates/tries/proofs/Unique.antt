@@ -14,7 +14,7 @@ use Rattle.base.specs.Rows.{row, Out, Wrote, OnlyTwo}
 use Rattle.base.proofs.Unique.{one_value}
 use Rattle.base.proofs.Sums.{lt_or_ge}
 use Rattle.base.proofs.Rows.{row_at, wrote_unique}
-use Rattle.model.specs.Items.{eta_refused, meanRefused, pwrssRefused, accepted, a_try, tally}
+use Rattle.model.specs.Items.{eta_refused, mean_refused, pwrss_refused, accepted, a_try, tally}
 use Rattle.model.specs.declared.counts.Account.{Account}
 use Rattle.family.specs.declared.carried.CarriedLink.{CarriedLink}
 use Rattle.rule.specs.Try.{Trial, candidate_at, fine_eta_at, mean_at, square_at, add_to, Tried, refused, moves}
@@ -75,8 +75,8 @@ both_unique b c n v x y hb hc p q eb ec =
 -- the answer that tells of a try
 abbrev answer : Tried → Try
 answer (refused eta_refused) = EtaRefused
-answer (refused meanRefused) = MeanRefused
-answer (refused pwrssRefused) = PwrssRefused
+answer (refused mean_refused) = MeanRefused
+answer (refused pwrss_refused) = PwrssRefused
 answer (refused accepted) = EtaRefused
 answer (moves m) = Accepted m.pwrss
 

@@ -3,7 +3,7 @@ use Rattle.std.specs.Prelude.{◌≡◌, List, cond, ℕ, ◌+◌, ◌≤◌, le
 use Rattle.base.specs.Sum.{all_to}
 use Rattle.base.specs.Rows.{row, Apart, OnlyTwo}
 use Rattle.model.specs.Account.{AtMost}
-use Rattle.model.specs.Items.{Fate, eta_refused, meanRefused, pwrssRefused, accepted, tally}
+use Rattle.model.specs.Items.{Fate, eta_refused, mean_refused, pwrss_refused, accepted, tally}
 use Rattle.model.specs.declared.counts.Account.{Account}
 use Rattle.family.specs.declared.carried.CarriedLink.{CarriedLink}
 use Rattle.rule.specs.Try.{Trial, fine_eta_at, candidate_of, means_of, Move, Tried, refused, moves, try_of, Search, found_move, no_move, tries_of}
@@ -38,15 +38,15 @@ trial_in link n q prev raw u w z rows = record { link = link; n = n; q = q; prev
 -- what became of the candidate c with the means m
 abbrev pub tell_try : Try → List Float → List Float → Tried
 tell_try EtaRefused c m = refused eta_refused
-tell_try MeanRefused c m = refused meanRefused
-tell_try PwrssRefused c m = refused pwrssRefused
+tell_try MeanRefused c m = refused mean_refused
+tell_try PwrssRefused c m = refused pwrss_refused
 tell_try (Accepted p) c m = moves (record { eta = c; mu = m; pwrss = p })
 
 -- what became of it, as the items of a run tell it: the first test that it failed, or accepted (document 02, P9)
 abbrev pub fate_of : Try → Fate
 fate_of EtaRefused = eta_refused
-fate_of MeanRefused = meanRefused
-fate_of PwrssRefused = pwrssRefused
+fate_of MeanRefused = mean_refused
+fate_of PwrssRefused = pwrss_refused
 fate_of (Accepted p) = accepted
 
 -- a try leaves the candidate in the row at next, and its means in the row at mu where the first test let them be formed

@@ -1,5 +1,5 @@
 -- `tries::one_try` meets its contract: the passes wrote the candidate and its means, and their answers are the rule's three tests.
-use Rattle.tries.proofs.Tried.{eta_refused_lem, mean_refused, pwrss-refused, try-accepted}
+use Rattle.tries.proofs.Tried.{eta_refused_lem, mean_refused_lem, pwrss-refused, try-accepted}
 use Rattle.tries.proofs.search.one_try.Goals as goal
 
 pub returns-then-not-fine_etas : goal.returns-then-not-fine_etas
@@ -9,7 +9,7 @@ returns-then-not-fine_etas c =
 
 pub returns-then-not-finite_row : goal.returns-then-not-finite_row
 returns-then-not-finite_row c =
-    mean_refused _ _ _ _ _ _ c.requires.next_mu c.requires.next_in c.requires.mu_in c.candidate.ensures _ _ c.fine_etas.ensures
+    mean_refused_lem _ _ _ _ _ _ c.requires.next_mu c.requires.next_in c.requires.mu_in c.candidate.ensures _ _ c.fine_etas.ensures
     c.if-not-fine_etas.false c.means.ensures _ c.finite_row.ensures c.if-not-finite_row.true
 
 pub returns-then-not-is_finite : goal.returns-then-not-is_finite
