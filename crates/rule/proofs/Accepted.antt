@@ -170,6 +170,8 @@ module _ (G : Given) (s : State) (rest : State → Outcome) (h : (t : State) →
   solve_paid (solved v) (both_done _) = search_paid (tries_of (trial_of G v s.eta)) v (of_found (trial_of G v s.eta))
   solve_paid (unsolved SystemPivot) system_failed = refl
   solve_paid (unsolved NormalPivot) normal_failed = refl
+  solve_paid (unsolved NoStep) p = elim p [ ]
+  solve_paid (unsolved NoStop) p = elim p [ ]
 
 from_paid : (G : Given) (phi : Float) (f : ℕ) (s : State) → Paid (run_from G phi f s)
 unfolding run_from failed_after count_of
