@@ -48,5 +48,5 @@ pub returns : goal.returns
 returns c =
     let a = c.args in
     one_made a.family a.link a.shape a.theta.now (sparse a.starts.now a.columns.now a.values.now) a.y.now a.weights.now
-    a.offset.now a.n a.q a.xbeta a.g a.sigma a.node a.log-weight a.inv-phi a.u a.trial a.r.now _ a.m.now _
+    a.offset.now a.n a.q a.xbeta a.g a.sigma a.node a.log_weight a.inv_phi a.u a.trial a.r.now _ a.m.now _
     c.requires.g_lt_q.0 c.requires.g_lt_q.1 c.requires.room.in_m _ _ c.point_gain-dd.ensures c.delta.ensures

@@ -63,20 +63,20 @@ loop-i-preserved c =
       omega (arith, c.loop-i-test.true),
       simp length-set l.invariant.1,
       rw (turn_term a.family a.link a.shape a.theta.now (sparse a.starts.now a.columns.now a.values.now) a.y.now
-          a.weights.now a.offset.now a.n a.q a.xbeta a.g a.sigma a.inv-phi a.u a.trial a.nodes.now a.node-logs.now
+          a.weights.now a.offset.now a.n a.q a.xbeta a.g a.sigma a.inv_phi a.u a.trial a.nodes.now a.node_logs.now
           a.r.now l.r a.m.now l.m c.requires.g_lt_q.0 c.requires.g_lt_q.1 c.requires.room.in_m c.requires.room.in_r l.invariant.3 l.invariant.4 l.invariant.5 l.i _ _ _ p)
           (fill_step
           (one_term_at_node a.family a.link a.shape a.theta.now (sparse a.starts.now a.columns.now a.values.now) a.y.now
-          a.weights.now a.offset.now a.n a.q a.xbeta a.g a.sigma a.inv-phi (row a.u a.q a.m.now) a.r.now
-          (row a.trial a.q a.m.now) a.nodes.now a.node-logs.now) a.terms.now l.i l.terms l.invariant.2),
+          a.weights.now a.offset.now a.n a.q a.xbeta a.g a.sigma a.inv_phi (row a.u a.q a.m.now) a.r.now
+          (row a.trial a.q a.m.now) a.nodes.now a.node_logs.now) a.terms.now l.i l.terms l.invariant.2),
       turn_m a.family a.link a.shape a.theta.now (sparse a.starts.now a.columns.now a.values.now) a.y.now a.weights.now
-          a.offset.now a.n a.q a.xbeta a.g a.sigma a.inv-phi a.u a.trial a.nodes.now a.node-logs.now a.r.now l.r
+          a.offset.now a.n a.q a.xbeta a.g a.sigma a.inv_phi a.u a.trial a.nodes.now a.node_logs.now a.r.now l.r
           a.m.now l.m c.requires.g_lt_q.0 c.requires.g_lt_q.1 c.requires.room.in_m c.requires.room.in_r l.invariant.3 l.invariant.4 l.invariant.5 l.i _ _ _ p,
       turn_r a.family a.link a.shape a.theta.now (sparse a.starts.now a.columns.now a.values.now) a.y.now a.weights.now
-          a.offset.now a.n a.q a.xbeta a.g a.sigma a.inv-phi a.u a.trial a.nodes.now a.node-logs.now a.r.now l.r
+          a.offset.now a.n a.q a.xbeta a.g a.sigma a.inv_phi a.u a.trial a.nodes.now a.node_logs.now a.r.now l.r
           a.m.now l.m c.requires.g_lt_q.0 c.requires.g_lt_q.1 c.requires.room.in_m c.requires.room.in_r l.invariant.3 l.invariant.4 l.invariant.5 l.i _ _ _ p,
       turn_trial a.family a.link a.shape a.theta.now (sparse a.starts.now a.columns.now a.values.now) a.y.now a.weights.now
-          a.offset.now a.n a.q a.xbeta a.g a.sigma a.inv-phi a.u a.trial a.nodes.now a.node-logs.now a.r.now l.r
+          a.offset.now a.n a.q a.xbeta a.g a.sigma a.inv_phi a.u a.trial a.nodes.now a.node_logs.now a.r.now l.r
           a.m.now l.m c.requires.g_lt_q.0 c.requires.g_lt_q.1 c.requires.room.in_m c.requires.room.in_r l.invariant.3 l.invariant.4 l.invariant.5 l.i _ _ _ p,
     )
 

@@ -27,8 +27,8 @@ shape_of-v c = c.v_rows.auto.out
 pub returns : goal.returns
 returns c =
     let args = c.args in
-    results_made args.shape args.n args.p args.q args.theta.now args.y.now args.columns.now args.mode-beta.now args.mode-u.now
-    args.mode-mu.now args.mode-eta.now args.beta.now args.se.now args.z.now args.u.now args.b.now args.mu.now args.eta.now
+    results_made args.shape args.n args.p args.q args.theta.now args.y.now args.columns.now args.mode_beta.now args.mode_u.now
+    args.mode_mu.now args.mode_eta.now args.beta.now args.se.now args.z.now args.u.now args.b.now args.mu.now args.eta.now
     args.residual.now args.v.now _ _ _ _ _ _ _ _ _ c.requires.readable c.requires.writable c.v_rows.ensures c.standard_errors.ensures
     c.z_values.ensures c.copy.ensures c.copy-2.ensures c.lambda_times.ensures c.copy-3.ensures
     c.copy-4.ensures c.residuals.ensures

@@ -25,5 +25,5 @@ returns c =
     joint_made
     (gain_in a.family a.link a.shape a.theta.now (sparse a.starts.now a.columns.now a.values.now) a.y.now a.weights.now
     a.offset.now a.n a.q a.xbeta a.r.now) a.n a.q a.xbeta a.size a.l a.u a.trial a.point a.nodes.now
-    a.node-logs.now a.inv-phi a.hats a.r.now _ a.m.now _ c.requires.grid _ c.trial_gain-dd.ensures _ _ _ _
+    a.node_logs.now a.inv_phi a.hats a.r.now _ a.m.now _ c.requires.grid _ c.trial_gain-dd.ensures _ _ _ _
     (part_is a.trial a.q _ _ refl) c.dot-squares.ensures c.log_weight-weight.ensures c.delta.ensures

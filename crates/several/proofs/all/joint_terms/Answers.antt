@@ -59,7 +59,7 @@ loop-i-preserved c =
       at.invariant.1,
       joint-turn a.family a.link a.shape a.theta.now (sparse a.starts.now a.columns.now a.values.now) a.y.now a.weights.now
           a.offset.now a.n a.q a.xbeta a.r.now at.r c.requires.room.in_r a.size a.l a.u a.trial a.nodes.now
-          a.node-logs.now a.inv-phi a.m.now at.m a.terms.now at.terms at.i _ c.requires.grid at.invariant.1 at.invariant.2 _ _ _
+          a.node_logs.now a.inv_phi a.m.now at.m a.terms.now at.terms at.i _ c.requires.grid at.invariant.1 at.invariant.2 _ _ _
           c.joint_point-term.ensures,
     )
 

@@ -39,7 +39,7 @@ loop-i-preserved c =
     let at = c.loop-i in
     let p = group-turn a.family a.link a.shape a.theta.now (sparse a.starts.now a.columns.now a.values.now) a.y.now
     a.weights.now a.offset.now a.n a.q a.xbeta a.r.now at.r c.requires.room.in_r a.size a.l a.u a.trial a.nodes.now
-    a.node-logs.now a.inv-phi a.m.now at.m a.terms.now at.terms at.i a.s a.k c.requires.grid at.invariant.1 at.invariant.2 _ _ _
+    a.node_logs.now a.inv_phi a.m.now at.m a.terms.now at.terms at.i a.s a.k c.requires.grid at.invariant.1 at.invariant.2 _ _ _
     c.group_point-term.ensures in
     (omega (arith, c.loop-i-test.true), p.0, p.1)
 

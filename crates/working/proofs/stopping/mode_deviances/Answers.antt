@@ -50,7 +50,7 @@ pub loop-i-preserved : goal.loop-i-preserved
 loop-i-preserved c =
     let a = c.args in
     let at = c.loop-i in
-    (omega arith, simp length-set (omega arith), rw (c.dev_resid.ensures, deviance_entry a.family a.y.now a.weights.now a.mu-at a.dev-at a.n at.i a.rows.now at.rows _ c.requires.1 (omega arith) (omega arith) at.invariant.2 c.weight_at-wt.ensures) (fillat_step _ _ _ _ _ at.invariant.2))
+    (omega arith, simp length-set (omega arith), rw (c.dev_resid.ensures, deviance_entry a.family a.y.now a.weights.now a.mu_at a.dev_at a.n at.i a.rows.now at.rows _ c.requires.1 (omega arith) (omega arith) at.invariant.2 c.weight_at-wt.ensures) (fillat_step _ _ _ _ _ at.invariant.2))
 
 pub shape_of-rows : goal.shape_of-rows
 shape_of-rows c = omega arith

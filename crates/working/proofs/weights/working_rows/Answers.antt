@@ -74,7 +74,7 @@ pub loop-i-preserved : goal.loop-i-preserved
 unfolding working_weight_at working_response_at
 loop-i-preserved c =
     let a = c.args in
-    (omega arith, simp length-set (omega arith), fillat_both a.w_at a.z_at_lem (working_weight_at a.family a.link a.weights.now a.phi a.eta.now a.mu.now) (working_response_at a.link a.y.now a.eta.now a.mu.now) a.t.now _ _ _ _ (omega arith) (rw (c.working_weight.ensures, c.variance.ensures, c.weight_at-wt.ensures, c.slope-me.ensures)) (rw (c.working_response.ensures, c.slope-me.ensures)) c.loop-i.invariant.2)
+    (omega arith, simp length-set (omega arith), fillat_both a.w_at a.z_at (working_weight_at a.family a.link a.weights.now a.phi a.eta.now a.mu.now) (working_response_at a.link a.y.now a.eta.now a.mu.now) a.t.now _ _ _ _ (omega arith) (rw (c.working_weight.ensures, c.variance.ensures, c.weight_at-wt.ensures, c.slope-me.ensures)) (rw (c.working_response.ensures, c.slope-me.ensures)) c.loop-i.invariant.2)
 
 pub shape_of-t : goal.shape_of-t
 shape_of-t c = omega arith
