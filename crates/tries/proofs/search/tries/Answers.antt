@@ -1,8 +1,8 @@
 -- `tries::tries` meets its contract: before each try what is left of the rule's search, counted on, is the whole.
-use mathlib.Core.Logic.{⊎_elim}
 use Prim.Native.Nat.{◌-◌}
 use Rattle.tries.proofs.Counted.{starts, ends, room_kept, sum_fits, moved, halved, counts_one}
 use native.Mathlib.Omega.{arith}
+use Rattle.tries.proofs.search.tries.Goals.{in-EtaRefused, in-MeanRefused, in-PwrssRefused}
 use Rattle.tries.proofs.search.tries.Goals as goal
 
 pub loop-made-init : goal.loop-made-init
@@ -26,7 +26,7 @@ pub loop-made-preserved : goal.loop-made-preserved
 loop-made-preserved c =
     halved _ _ _ _ _ _ _ _ _ _ _ _ _ _ _ _ _ c.requires c.loop-made.invariant c.loop-made-test.true c.one_try-t.ensures _ _ c.of_try.ensures
     c.plus-made.ensures
-    (⊎_elim (λ x. rw x.1.given.1) (λ y. ⊎_elim (λ x. rw x.1.given.1) (λ x. rw x.1.given.1) y) c.match-t.branch)
+    (elim c.match-t.branch [ in-EtaRefused w ↦ rw w.in-EtaRefused.is | in-MeanRefused w ↦ rw w.in-MeanRefused.is | in-PwrssRefused w ↦ rw w.in-PwrssRefused.is ])
 
 pub returns : goal.returns
 returns c = ends _ _ _ _ _ _ _ _ c.loop-made.invariant (omega (arith, c.loop-made-test.false))
