@@ -9,22 +9,28 @@ if sys.argv[1:2] in (["-h"], ["--help"]):
 
 mend = "--mend" in sys.argv
 crates = [a for a in sys.argv[1:] if not a.startswith("-")] or ["*"]
-files = [f for c in crates for f in glob.glob(f"crates/{c}/**/*.antt", recursive=True) + glob.glob(f"crates/{c}/**/*.rt", recursive=True)]
-every = glob.glob("crates/**/*.antt", recursive=True) + glob.glob("crates/**/*.rt", recursive=True)
+
+
+def sources(crate):
+    return [f for kind in ("src", "specs", "proofs") for end in ("antt", "rt") for f in glob.glob(f"crates/{crate}/{kind}/**/*.{end}", recursive=True)]
+
+
+files = [f for c in crates for f in sources(c)]
+every = sources("*")
 
 
 def words(text):
     text = re.sub(r"(?m)(--|//).*$", "", text)
-    return re.split(r"[\s(){}\[\],;.«»⌜⌝]+", text)
+    return re.split(r"[\s(){}\[\],;.«»]+", text)
 
 
-def parts(name):  # `_⊕_` is written ⊕
-    return [p for p in name.split("_") if p] if "_" in name and not name.isidentifier() else [name]
+def parts(name):  # `◌⊕◌` is written ⊕
+    return [p for p in name.split("◌") if p]
 
 
 for f in files:
     s = open(f).read()
-    lines = [m for m in re.finditer(r"(?m)^(?:ghost )?use [^\n{]*\{([^}\n]*)\};?$", s)]
+    lines = [m for m in re.finditer(r"(?m)^%suse [^\n{]*\{([^}\n]*)\};?$" % ("ghost " if f.endswith(".rt") else ""), s)]
     body = set(words("".join(l for l in s.splitlines(True) if not re.match(r"(ghost )?use ", l))))
     out = s
     for m in lines:
@@ -42,7 +48,7 @@ for f in every:
     for w in set(words(open(f).read())):
         cited.setdefault(w, set()).add(f)
 for f in files:
-    if "/proofs/" in f and not f.endswith("Proof.antt"):
+    if re.search(r"/proofs/\w+\.antt$", f):
         s = open(f).read()
         for n in re.findall(r"(?m)^ *pub (\S+) :", s):
             if len(re.findall(r"(?<![\w-])" + re.escape(n) + r"(?![\w'-])", s)) <= 2 and cited.get(n, set()) <= {f}:
