@@ -53,7 +53,7 @@ rows_into-requires c =
     let f = placed (kept_at (goal.at.rows_into-requires c).After-beta_at-beta c.dots_into.new.m c.args.t.now (c.dots_into.auto.m ∙ c.cross_into.auto.m) refl) in
     record {
       rows = c.requires.ready.rows;
-      p_in_bounds = (c.requires.p_in_bounds, f.w_in, f.rows_in);
+      p_in_bounds = (c.requires.p_in_bounds, f.w_in, f.rows_in_lem);
     }
 
 pub unsolved_into-requires : goal.unsolved_into-requires
@@ -62,7 +62,7 @@ unsolved_into-requires c =
     let f = placed (kept_at (goal.at.unsolved_into-requires c).After-beta_at-beta c.rows_into.new.m c.args.t.now e refl) in
     record {
       shape_value = (c.requires.ready.good, c.requires.ready.effects, c.requires.ready.numbers);
-      p_in_bounds = (f.rows_in, f.unsolved_in);
+      p_in_bounds = (f.rows_in_lem, f.unsolved_in);
     }
 
 pub solved_into-requires : goal.solved_into-requires
