@@ -81,5 +81,6 @@ def own_laws():
         yield from re.findall(r"(?m)^pub (\S+) :", file.read_text())
 
 
-def edits(crate):
-    return {f.stem for f in files(crate, "must-fail", "edit")}
+def edits(crate, aside=None):
+    """The must-fail edits of a crate: all, those that stand aside, or (False) those of the gate."""
+    return {f.stem for f in files(crate, "must-fail", "edit") if aside is None or aside == (f.parent.name == "aside")}
