@@ -14,13 +14,13 @@ pub loop-i-init : goal.loop-i-init
 loop-i-init c = (omega arith, omega arith, fill_none _ _, only_none _ _ _, only_none _ _ _, only_none _ _ _)
 
 pub offset_bounds-nodes-i : goal.offset_bounds-nodes-i
-offset_bounds-nodes-i c = omega (arith, c.loop-i-test.true, c.requires.g_lt_q, c.ranges.nodes)
+offset_bounds-nodes-i c = omega (arith, c.loop-i-test.true, c.requires.g_lt_q)
 
 pub bounds-nodes-i : goal.bounds-nodes-i
 bounds-nodes-i c = omega arith
 
 pub offset_bounds-node_logs-i : goal.offset_bounds-node_logs-i
-offset_bounds-node_logs-i c = omega (arith, c.loop-i-test.true, c.requires.g_lt_q, c.ranges.nodes)
+offset_bounds-node_logs-i c = omega (arith, c.loop-i-test.true, c.requires.g_lt_q)
 
 pub bounds-node_logs-i : goal.bounds-node_logs-i
 bounds-node_logs-i c = omega arith
@@ -44,13 +44,13 @@ one_point-term-requires c =
     }
 
 pub offset_bounds-terms-i : goal.offset_bounds-terms-i
-offset_bounds-terms-i c = omega (arith, c.loop-i-test.true, c.requires.g_lt_q, c.ranges.nodes)
+offset_bounds-terms-i c = omega (arith, c.loop-i-test.true, c.requires.g_lt_q)
 
 pub bounds-terms-i : goal.bounds-terms-i
 bounds-terms-i c = omega (arith, c.loop-i-test.true, c.requires.g_lt_q, c.loop-i.invariant.1)
 
 pub overflow_add-i : goal.overflow_add-i
-overflow_add-i c = omega (arith, c.loop-i-test.true, c.requires.g_lt_q, c.ranges.nodes)
+overflow_add-i c = omega (arith, c.loop-i-test.true, c.requires.g_lt_q)
 
 pub loop-i-smaller : goal.loop-i-smaller
 loop-i-smaller c = omega arith

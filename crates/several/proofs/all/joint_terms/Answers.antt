@@ -9,16 +9,16 @@ use Rattle.several.proofs.Turns.{terms_none, terms_end, terms_length_lem, joint-
 use Rattle.several.proofs.all.joint_terms.Goals as goal
 
 pub overflow_add-end : goal.overflow_add-end
-overflow_add-end c = omega (arith, c.ranges.m, c.requires.grid.in_m, c.requires.grid.hats)
+overflow_add-end c = omega (arith, c.requires.grid.in_m, c.requires.grid.hats)
 
 pub offset_bounds-m-u : goal.offset_bounds-m-u
-offset_bounds-m-u c = omega (arith, c.ranges.m, c.requires.grid.in_m, c.requires.grid.hats)
+offset_bounds-m-u c = omega (arith, c.requires.grid.in_m, c.requires.grid.hats)
 
 pub slice_bounds-dot-end : goal.slice_bounds-dot-end
 slice_bounds-dot-end c = omega (arith, c.requires.grid.in_m, c.requires.grid.hats)
 
 pub offset_bounds-m-u-2 : goal.offset_bounds-m-u-2
-offset_bounds-m-u-2 c = omega (arith, c.ranges.m, c.requires.grid.in_m, c.requires.grid.hats)
+offset_bounds-m-u-2 c = omega (arith, c.requires.grid.in_m, c.requires.grid.hats)
 
 pub slice_bounds-dot-end-2 : goal.slice_bounds-dot-end-2
 slice_bounds-dot-end-2 c = omega (arith, c.requires.grid.in_m, c.requires.grid.hats)
@@ -40,13 +40,13 @@ joint_point-term-requires c =
     }
 
 pub offset_bounds-terms-i : goal.offset_bounds-terms-i
-offset_bounds-terms-i c = omega (arith, c.ranges.terms, c.loop-i-test.true, c.requires.size_in_bounds.1)
+offset_bounds-terms-i c = omega (arith, c.loop-i-test.true, c.requires.size_in_bounds.1)
 
 pub bounds-terms-i : goal.bounds-terms-i
 bounds-terms-i c = omega (arith, c.loop-i-test.true, c.requires.size_in_bounds.1, terms_length_lem c.loop-i.invariant.2)
 
 pub overflow_add-i : goal.overflow_add-i
-overflow_add-i c = omega (arith, c.ranges.terms, c.loop-i-test.true, c.requires.size_in_bounds.1)
+overflow_add-i c = omega (arith, c.loop-i-test.true, c.requires.size_in_bounds.1)
 
 pub loop-i-smaller : goal.loop-i-smaller
 loop-i-smaller c = omega (arith, c.loop-i-test.true)

@@ -9,16 +9,15 @@ use Rattle.several.proofs.Terms.{group_made}
 use Rattle.several.proofs.group.group_point.Goals as goal
 
 pub overflow_add-at : goal.overflow_add-at
-overflow_add-at c = omega (arith, c.ranges.m, c.requires.grid.in_m, c.requires.grid.within)
+overflow_add-at c = omega (arith, c.requires.grid.in_m, c.requires.grid.within)
 
 pub overflow_add-end : goal.overflow_add-end
-overflow_add-end c = omega (arith, c.ranges.m, c.requires.grid.in_m, c.requires.grid.within)
+overflow_add-end c = omega (arith, c.requires.grid.in_m, c.requires.grid.within)
 
 pub overflow_add-hat : goal.overflow_add-hat
 overflow_add-hat c =
     omega (
       arith,
-      c.ranges.m,
       c.requires.grid.in_m,
       c.requires.grid.within,
       c.requires.grid.hats,
@@ -28,14 +27,13 @@ pub overflow_add-hat_end : goal.overflow_add-hat_end
 overflow_add-hat_end c =
     omega (
       arith,
-      c.ranges.m,
       c.requires.grid.in_m,
       c.requires.grid.within,
       c.requires.grid.hats,
     )
 
 pub offset_bounds-m-at : goal.offset_bounds-m-at
-offset_bounds-m-at c = omega (arith, c.ranges.m, c.requires.grid.in_m, c.requires.grid.within)
+offset_bounds-m-at c = omega (arith, c.requires.grid.in_m, c.requires.grid.within)
 
 pub slice_bounds-group_penalty-end : goal.slice_bounds-group_penalty-end
 slice_bounds-group_penalty-end c = omega (arith, c.requires.grid.in_m, c.requires.grid.within, c.trial_gain-dd.ensures.in_m.len)
@@ -44,7 +42,6 @@ pub offset_bounds-m-hat : goal.offset_bounds-m-hat
 offset_bounds-m-hat c =
     omega (
       arith,
-      c.ranges.m,
       c.requires.grid.in_m,
       c.requires.grid.within,
       c.requires.grid.hats,

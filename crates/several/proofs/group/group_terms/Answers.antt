@@ -22,13 +22,13 @@ group_point-term-requires c =
     }
 
 pub offset_bounds-terms-i : goal.offset_bounds-terms-i
-offset_bounds-terms-i c = omega (arith, c.ranges.terms, c.loop-i-test.true, c.requires.size_in_bounds.1)
+offset_bounds-terms-i c = omega (arith, c.loop-i-test.true, c.requires.size_in_bounds.1)
 
 pub bounds-terms-i : goal.bounds-terms-i
 bounds-terms-i c = omega (arith, c.loop-i-test.true, c.requires.size_in_bounds.1, terms_length_lem c.loop-i.invariant.1)
 
 pub overflow_add-i : goal.overflow_add-i
-overflow_add-i c = omega (arith, c.ranges.terms, c.loop-i-test.true, c.requires.size_in_bounds.1)
+overflow_add-i c = omega (arith, c.loop-i-test.true, c.requires.size_in_bounds.1)
 
 pub loop-i-smaller : goal.loop-i-smaller
 loop-i-smaller c = omega (arith, c.loop-i-test.true)

@@ -6,13 +6,13 @@ use Rattle.several.proofs.Trials.{room_kept, move_asked, trial_made}
 use Rattle.several.proofs.trial.trial_gain.Goals as goal
 
 pub overflow_add-z : goal.overflow_add-z
-overflow_add-z c = omega (arith, c.ranges.m, c.requires.grid.in_m)
+overflow_add-z c = omega (arith, c.requires.grid.in_m)
 
 pub overflow_add-z-2 : goal.overflow_add-z-2
-overflow_add-z-2 c = omega (arith, c.ranges.m, c.requires.grid.in_m)
+overflow_add-z-2 c = omega (arith, c.requires.grid.in_m)
 
 pub overflow_add-at : goal.overflow_add-at
-overflow_add-at c = omega (arith, c.ranges.m, c.requires.grid.in_m, c.requires.grid.within)
+overflow_add-at c = omega (arith, c.requires.grid.in_m, c.requires.grid.within)
 
 pub move_effects-requires : goal.move_effects-requires
 move_effects-requires c =
