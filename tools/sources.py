@@ -83,4 +83,5 @@ def own_laws():
 
 def edits(crate, aside=None):
     """The must-fail edits of a crate: all, those that stand aside, or (False) those of the gate."""
-    return {f.stem for f in files(crate, "must-fail", "edit") if aside is None or aside == (f.parent.name == "aside")}
+    folders = {None: ["must-fail", "aside"], True: ["aside"], False: ["must-fail"]}[aside]
+    return {f.stem for folder in folders for f in files(crate, folder, "edit")}
