@@ -1,10 +1,10 @@
 -- `report::put_fitted` meets its contract: the values stand behind the end line, which leaves them room. Assumes nothing.
 use native.Mathlib.Omega.{arith}
+use Rattle.lines.specs.Lines.{end_line}
 use Rattle.report.specs.Report.{fitted_text}
 use Rattle.report.proofs.Lengths.{end_few}
 use Rattle.report.proofs.Growing.{grown_three, grown_front}
 use borrow.Author.Rules.{rules}
-use Rattle.report.proofs.put_fitted.Goals.{After-slice_known-2-1}
 use Rattle.report.proofs.put_fitted.Goals as goal
 
 pub put_value-deviance_end-requires : goal.put_value-deviance_end-requires
@@ -37,4 +37,4 @@ returns c =
     let few = end_few c.args.answer in
     let values = grown_three c.put_value-deviance_end.ensures c.put_value-phi_end.ensures c.put_results.ensures
     (omega (arith, c.end_line-ended.ensures.0, c.end_line-ended.auto.out, c.requires.0)) in
-    grown_front ((goal.at.returns c).After-slice_known-2-1 c.args.answer) c.args.out.now c.end_line-ended.ensures values (omega (arith, c.requires.0))
+    grown_front (end_line c.args.answer) c.args.out.now c.end_line-ended.ensures values (omega (arith, c.requires.0))

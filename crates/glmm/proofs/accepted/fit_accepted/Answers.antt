@@ -19,7 +19,9 @@ write_fit-requires c = record {
 }
 
 pub wipe_work-requires : goal.wipe_work-requires
-wipe_work-requires c = to_wipe c.requires.asked c.fit_in-f.ensures.rows_only.len c.fit_in-f.ensures.matrices_only.len c.fit_in-f.ensures.terms_only.len
+wipe_work-requires c =
+    let w = to_wipe c.requires.asked c.fit_in-f.ensures.rows_only.len c.fit_in-f.ensures.matrices_only.len c.fit_in-f.ensures.terms_only.len in
+    record { n_bound = w.0; n_in_bounds = w.1 }
 
 pub shape_of-beta : goal.shape_of-beta
 shape_of-beta c = c.write_fit.auto.beta

@@ -17,8 +17,8 @@ overflow_add-at c = omega (arith, c.requires.grid.in_m, c.requires.grid.within)
 pub move_effects-requires : goal.move_effects-requires
 move_effects-requires c =
     let a = c.args in
-    move_asked a.q a.s a.k a.size a.l a.u a.trial a.point a.nodes.now a.m.now _ c.requires.grid
-    c.point_nodes.ensures
+    let m = move_asked a.q a.s a.k a.size a.l a.u a.trial a.point a.nodes.now a.m.now _ c.requires.grid c.point_nodes.ensures in
+    record { k_in_bounds = m.0; apart = m.1 }
 
 pub point_gain-requires : goal.point_gain-requires
 point_gain-requires c =
