@@ -21,12 +21,12 @@ use Rattle.glmm.specs.Standing.{Standing}
 
 -- the results are as they were where there is no fit
 pub unwritten : (b : Bool) (N M : Results) → b ≡ false → N ≡ cond b M N
-unwritten true N M e = absurd (ff e)
+unwritten true N M e = absurd (ff (sym e))
 unwritten false N M e = refl
 
 pub written_if : (b : Bool) (N N' M : Results) → b ≡ true → N' ≡ M → N' ≡ cond b M N
 written_if true N N' M e w = w
-written_if false N N' M e w = absurd (ff (sym e))
+written_if false N N' M e w = absurd (ff e)
 
 module _ (shape : Shape) (n p q : ℕ) (theta y r m : List Float) (s : Standing shape n p q theta y r m) (root wy fixed fixedEnd effects next second means raw : ℕ) (e-root : root ≡ root_inverse_place p q)
     (e-wy : wy ≡ wy_place p q) (e-fixed : fixed ≡ beta_place p q) (e-fixed-end : fixedEnd ≡ beta_end p q) (e-effects : effects ≡ u_place p q) (e-next : next ≡ b_place p q) (e-second : second ≡ second_eta_row n)
