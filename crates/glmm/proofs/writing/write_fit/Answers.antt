@@ -212,7 +212,7 @@ shape_of-v c = c.write_results.auto.v
 pub returns : goal.returns
 returns c =
     let args = c.args in
-    written_if args.fitted _ _ _ c.if-not-fitted.left
+    written_if args.fitted _ _ _ c.if-not-fitted.false
     (parts_written args.shape args.n args.p args.q args.theta.now args.y.now args.r.now args.m.now c.requires.standing _ _ _ _ _ _ _ _ _
     c.root_inverse_at-root.ensures c.wy_at-wy.ensures c.beta_at-fixed.ensures c.beta_end-fixed_end.ensures
     c.u_at-effects.ensures c.b_at-next.ensures c.second_eta_row-second.ensures c.mu_row-means.ensures c.raw_row-raw.ensures

@@ -25,4 +25,4 @@ pub shape_of-counts : goal.shape_of-counts
 shape_of-counts c = c.call_read.auto.counts
 
 pub returns : goal.returns
-returns c = long_told _ _ _ c.if-counts-lt14.left c.call_read.ensures
+returns c = long_told _ _ _ c.if-counts-lt14.false c.call_read.ensures

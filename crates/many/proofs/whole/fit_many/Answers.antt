@@ -7,7 +7,7 @@ pub returns-then-counts-lt14 : goal.returns-then-counts-lt14
 returns-then-counts-lt14 c = short_told _ _ _ _ c.if-counts-lt14.true
 
 pub read_many-requires : goal.read_many-requires
-read_many-requires c = (c.if-counts-lt14.left, fresh_room)
+read_many-requires c = (c.if-counts-lt14.false, fresh_room)
 
 pub shape_of-rows : goal.shape_of-rows
 shape_of-rows c = c.read_many.auto.rows
@@ -25,4 +25,4 @@ pub shape_of-counts : goal.shape_of-counts
 shape_of-counts c = c.read_many.auto.counts
 
 pub returns : goal.returns
-returns c = long_told _ _ _ _ _ c.if-counts-lt14.left c.read_many.ensures
+returns c = long_told _ _ _ _ _ c.if-counts-lt14.false c.read_many.ensures
