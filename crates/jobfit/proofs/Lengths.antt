@@ -87,15 +87,15 @@ module _ (T : Trial) where
   before_fits i (found_move m is) k = k
   before_fits i (no_move is) k = k
 
-  after_try : (x : Tried) (rest : Float → Search) (step : Float) → TriedFits T.n x → ((next : Float) → SearchFits T.n (rest next)) → SearchFits T.n (after_try x rest step)
+  after_try_lem : (x : Tried) (rest : Float → Search) (step : Float) → TriedFits T.n x → ((next : Float) → SearchFits T.n (rest next)) → SearchFits T.n (after_try x rest step)
   unfolding after_try
-  after_try (moves m) rest step k all = k
-  after_try (refused f) rest step k all = before_fits (a_try f) (rest (step ⊗ half_f)) (all (step ⊗ half_f))
+  after_try_lem (moves m) rest step k all = k
+  after_try_lem (refused f) rest step k all = before_fits (a_try f) (rest (step ⊗ half_f)) (all (step ⊗ half_f))
 
   tries_fit : (f : ℕ) (step : Float) → SearchFits T.n (tries_from T f step)
   unfolding tries_from
   tries_fit zero step = tt
-  tries_fit (suc f) step = after_try (try_of T step) (tries_from T f) step (try_fits step) (λ next. tries_fit f next)
+  tries_fit (suc f) step = after_try_lem (try_of T step) (tries_from T f) step (try_fits step) (λ next. tries_fit f next)
 
 -- ---- a solve: p numbers in β, q in u
 abbrev SolvedFits : Design → Solved → Type 0
