@@ -27,8 +27,8 @@ def respelled(name):
     return parts.lower()
 
 
-# one that a parameter's name would hide in a clause
-SPECIAL = {"devAt": "dev_resid_at"}
+# one that a parameter's name would hide in a clause, and those with a letter for a word
+SPECIAL = {"devAt": "dev_resid_at", "overDRule": "over_d_rule", "trialUPlace": "trial_u_place", "trialBPlace": "trial_b_place"}
 
 
 def mapped(where):
@@ -66,7 +66,7 @@ def defined():
                 continue
             if line and not line[0].isspace():
                 inside = False
-            where = re.sub(r"^(?:  |    )(?! )", "", line)
+            where = re.sub(r"^(?:  ){1,12}(?! )", "", line)
             found = DEFINED.match(where) if not where.startswith((" ", "use ", "mod ", "pub mod ", "module ", "unfolding ")) else None
             if found and ": tie." not in where and ": goal." not in where and ": statement " not in where and "-> statement" not in where and "→ statement" not in where:
                 # a line is a definition where it has a type; an equation repeats the name of one

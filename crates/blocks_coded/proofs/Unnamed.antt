@@ -23,7 +23,7 @@ use Rattle.table.specs.Table.{table_of}
 use Rattle.table.specs.Tests.{good_inputs, good_results, good_work, good_numbers}
 use Rattle.table.specs.declared.verdicts.Verdict.{Verdict}
 use Rattle.table.specs.declared.verdicts.Verdict.TheVariants.{Accepted, Refused}
-use Rattle.table.proofs.Accepting.{line-4, accepted_sound}
+use Rattle.table.proofs.Accepting.{line_4, accepted_sound}
 use Rattle.call.specs.Call.{Lent, lengths_of}
 use Rattle.call.proofs.Leaves.{refused_left}
 use Rattle.blocks.specs.Blocks.{shape_of}
@@ -85,4 +85,4 @@ module _ (c : CodedSettings) (bs : List Block) (I : Inputs) (L : Lent) where
     pub unnamed_four : good_sizes (settings_of c) (shape_of bs) ≡ true → good_inputs 1 (settings_of c) (shape_of bs) I ≡ true → good_results 1 (settings_of c) (lengths_of L) ≡ true
         → good_work (settings_of c) (lengths_of L) ≡ true → good_rows I.starts I.columns (settings_of c).rows (settings_of c).n ≡ true → good_numbers I ≡ true → Refuses LinkForFamily
     unnamed_four = rw (settings c e) (λ sizes lent results work rows numbers.
-        refuses LinkForFamily (line-4 1 (unnamed c) (shape_of bs) I (lengths_of L) sizes refl lent results work rows numbers (not_valid c)))
+        refuses LinkForFamily (line_4 1 (unnamed c) (shape_of bs) I (lengths_of L) sizes refl lent results work rows numbers (not_valid c)))

@@ -72,14 +72,14 @@ module _ {F : Type 0} (effective : Float) (dev_sum : F → Float) (inner more : 
       → count_of t (dispersion_from effective dev_sum inner left phi).items ≤ count_of t (dispersion_from effective dev_sum more left phi).items
   unfolding dispersion_from last_fit after_fit
   loop_grows t grows zero phi = grows phi
-  loop_grows t grows (suc left) phi = by-inner (inner phi).outcome refl (λ next. loop_grows t grows left next)
+  loop_grows t grows (suc left) phi = by_inner (inner phi).outcome refl (λ next. loop_grows t grows left next)
     where
-      by-inner : (x : Result F) → (inner phi).outcome ≡ x → ((next : Float) → count_of t (dispersion_from effective dev_sum inner left next).items ≤ count_of t (dispersion_from effective dev_sum more left next).items)
+      by_inner : (x : Result F) → (inner phi).outcome ≡ x → ((next : Float) → count_of t (dispersion_from effective dev_sum inner left next).items ≤ count_of t (dispersion_from effective dev_sum more left next).items)
           → count_of t (dispersion_from effective dev_sum inner (suc left) phi).items ≤ count_of t (dispersion_from effective dev_sum more (suc left) phi).items
-      by-inner (result f) q rest =
+      by_inner (result f) q rest =
           let e : more phi ≡ inner phi = same phi (λ s. ff (ap is_result (sym s ∙ q))) in
           rw e (fit_grows effective dev_sum phi (inner phi).items (dispersion_from effective dev_sum inner left) (dispersion_from effective dev_sum more left) t rest (inner phi).outcome)
-      by-inner (no_result d) q rest =
+      by_inner (no_result d) q rest =
           rw q (omega (arith, grows phi, fit_first effective dev_sum phi (more phi).items (dispersion_from effective dev_sum more left) (dispersion_from effective dev_sum more left) t (more phi).outcome))
 
   -- ---- the loop of 240 rounds, and the one fit without dispersion

@@ -9,7 +9,7 @@ use Rattle.base.specs.InPlace.{ruled, fill_by, fill_down}
 use Rattle.root.specs.Sqrt.{with_digit, nearest_from, place_of, root_of, units_of, sqrt_of}
 use Rattle.factor.specs.Triangle.{rows_dot, triangle, usable, positive, and_then, first_bad}
 use Rattle.factor.specs.Factor.{ldl_term, ldl_sum, ldl_pivot, ldl_below, ldl_rule, ldl_of, ldl_passes, ldl_end, cholesky_pivot, cholesky_below, cholesky_rule, cholesky_of, cholesky_passes, cholesky_end}
-use Rattle.factor.specs.Substitution.{across_term, down_term, unit_forward_rule, unit_backward_rule, over_drule, forward_rule, backward_rule, unit_forward, over_d, unit_backward, forward, backward, ldl_solve, cholesky_solve}
+use Rattle.factor.specs.Substitution.{across_term, down_term, unit_forward_rule, unit_backward_rule, over_d_rule, forward_rule, backward_rule, unit_forward, over_d, unit_backward, forward, backward, ldl_solve, cholesky_solve}
 use Rattle.factor.specs.Inverse.{unit_at, unit_column, ldl_column, ldl_inverse_at, ldl_inverse, cholesky_column, cholesky_column_at, cholesky_inverse, v_at}
 use Rattle.factor.specs.declared.pivots.Factored.TheVariants.{Done, Bad}
 
@@ -103,12 +103,12 @@ ldl_negative = refl
 
 -- with the right side 2, 15, 18 the solution is 1, 2, 3
 pub ldl_solve_3 : ldl_solve 3 (four ∷ eight ∷ eight ∷ half ∷ four ∷ eight ∷ minus_half ∷ half ∷ four ∷ []) (two ∷ fifteen ∷ eighteen ∷ []) ≡ (one_f ∷ two ∷ three ∷ [])
-unfolding ldl_solve unit_forward over_d unit_backward unit_forward_rule over_drule unit_backward_rule across_term down_term fill_by fill_down ruled sum_to sum_from of_bits add sub mul div
+unfolding ldl_solve unit_forward over_d unit_backward unit_forward_rule over_d_rule unit_backward_rule across_term down_term fill_by fill_down ruled sum_to sum_from of_bits add sub mul div
 ldl_solve_3 = refl
 
 -- the inverse of 4 2, 2 3
 pub ldl_inverse_2 : ldl_inverse 2 (four ∷ eight ∷ half ∷ two ∷ []) ≡ (three_eighths ∷ minus_quarter ∷ minus_quarter ∷ half ∷ [])
-unfolding ldl_inverse matrix build ldl_inverse_at ldl_column unit_column unit_at ldl_solve unit_forward over_d unit_backward unit_forward_rule over_drule unit_backward_rule across_term down_term fill_by fill_down ruled sum_to sum_from of_bits add sub mul div
+unfolding ldl_inverse matrix build ldl_inverse_at ldl_column unit_column unit_at ldl_solve unit_forward over_d unit_backward unit_forward_rule over_d_rule unit_backward_rule across_term down_term fill_by fill_down ruled sum_to sum_from of_bits add sub mul div
 ldl_inverse_2 = refl
 
 -- Cholesky of 4 2, 2 10: what stood above the diagonal stays

@@ -12,7 +12,7 @@ use Rattle.base.specs.InPlace.{Rule, ruled, fill_by, fill_down, Causal, CausalDo
 use Rattle.base.proofs.Sums.{sum_cong, from_cong}
 use Rattle.base.proofs.InPlace.{by_follows, down_follows}
 use Rattle.factor.specs.Triangle.{SameBelow}
-use Rattle.factor.specs.Substitution.{across_term, down_term, unit_forward_rule, unit_backward_rule, over_drule, forward_rule, backward_rule, unit_forward, over_d, unit_backward, forward, backward, ldl_solve, cholesky_solve}
+use Rattle.factor.specs.Substitution.{across_term, down_term, unit_forward_rule, unit_backward_rule, over_d_rule, forward_rule, backward_rule, unit_forward, over_d, unit_backward, forward, backward, ldl_solve, cholesky_solve}
 use Rattle.factor.specs.Inverse.{ldl_column, ldl_inverse_at, cholesky_column, cholesky_column_at}
 use Rattle.factor.specs.Textbook.{SolvesUnit, SolvesUnitBack, Divides, Solves, SolvesBack}
 
@@ -25,8 +25,8 @@ forward_causal : (s : ℕ) (L : List Float) → Causal (forward_rule s L)
 unfolding forward_rule
 forward_causal s L t x y o h = ap (λ (z : Float). z ⊘ at s L t t) (unit_forward_causal s L t x y o h)
 
-over_d_causal : (s : ℕ) (L : List Float) → Causal (over_drule s L)
-unfolding over_drule
+over_d_causal : (s : ℕ) (L : List Float) → Causal (over_d_rule s L)
+unfolding over_d_rule
 over_d_causal s L t x y o h = refl
 
 unit_backward_causal : (s : ℕ) (L : List Float) → CausalDown s (unit_backward_rule s L)
@@ -54,8 +54,8 @@ module _ (s : ℕ) (L b : List Float) (h : s ≤ length b) where
   forward_solves = let f : Follows (forward_rule s L) s b (forward s L b) = by_follows (forward_rule s L) s b (forward_causal s L) h in record { each = f.done; rest = f.rest }
 
   pub over_d_divides : Divides s L b (over_d s L b)
-  unfolding over_d over_drule
-  over_d_divides = let f : Follows (over_drule s L) s b (over_d s L b) = by_follows (over_drule s L) s b (over_d_causal s L) h in record { each = f.done; rest = f.rest }
+  unfolding over_d over_d_rule
+  over_d_divides = let f : Follows (over_d_rule s L) s b (over_d s L b) = by_follows (over_d_rule s L) s b (over_d_causal s L) h in record { each = f.done; rest = f.rest }
 
   pub unit_backward_solves : SolvesUnitBack s L b (unit_backward s L b)
   unfolding unit_backward unit_backward_rule down_term
@@ -96,12 +96,12 @@ module _ (s : ℕ) (F G : List Float) (same : SameBelow s F G) where
   backward_same b = down_cong (backward_rule s F) (backward_rule s G) s s b (omega arith) (λ t l x o. rw (unit_backward_rule_same t l x o, same t t l (omega arith)) refl)
 
   pub ldl_solve_same : (b : List Float) → ldl_solve s F b ≡ ldl_solve s G b
-  unfolding ldl_solve unit_forward over_d unit_backward over_drule
+  unfolding ldl_solve unit_forward over_d unit_backward over_d_rule
   ldl_solve_same b =
       down_cong (unit_backward_rule s F) (unit_backward_rule s G) s s _ (omega arith) unit_backward_rule_same
       ∙ ap (fill_down (unit_backward_rule s G) s s)
-      (by_cong (over_drule s F) (over_drule s G) s _ (λ t l x o. rw (same t t l (omega arith)) refl)
-      ∙ ap (fill_by (over_drule s G) s) (by_cong (unit_forward_rule s F) (unit_forward_rule s G) s b unit_forward_rule_same))
+      (by_cong (over_d_rule s F) (over_d_rule s G) s _ (λ t l x o. rw (same t t l (omega arith)) refl)
+      ∙ ap (fill_by (over_d_rule s G) s) (by_cong (unit_forward_rule s F) (unit_forward_rule s G) s b unit_forward_rule_same))
 
   pub cholesky_solve_same : (b : List Float) → cholesky_solve s F b ≡ cholesky_solve s G b
   unfolding cholesky_solve

@@ -8,7 +8,7 @@ use Rattle.base.specs.Number.{◌⊖◌, ◌⊘◌}
 use Rattle.base.specs.Sum.{◌!◌, sum_to, sum_from, product_from}
 use Rattle.base.specs.InPlace.{ruled, fill_by, fill_down}
 use Rattle.base.proofs.InPlace.{by_step, down_step}
-use Rattle.factor.specs.Substitution.{across_term, down_term, unit_forward_rule, unit_backward_rule, over_drule, forward_rule, backward_rule}
+use Rattle.factor.specs.Substitution.{across_term, down_term, unit_forward_rule, unit_backward_rule, over_d_rule, forward_rule, backward_rule}
 use Rattle.factor.specs.Heads.{Zeros}
 
 module _ (s : ℕ) (L : List Float) (i o : ℕ) (b X : List Float) (eo : o ≡ i * s) where
@@ -20,9 +20,9 @@ module _ (s : ℕ) (L : List Float) (i o : ℕ) (b X : List Float) (eo : o ≡ i
   unfolding forward_rule unit_forward_rule across_term
   forward_step e = rw eo (by_step (forward_rule s L) i b X e)
 
-  pub over_d_step : X ≡ fill_by (over_drule s L) i b → set X i ((X ! i) ⊘ (L ! (o + i))) ≡ fill_by (over_drule s L) (i + 1) b
-  unfolding over_drule
-  over_d_step e = rw eo (by_step (over_drule s L) i b X e)
+  pub over_d_step : X ≡ fill_by (over_d_rule s L) i b → set X i ((X ! i) ⊘ (L ! (o + i))) ≡ fill_by (over_d_rule s L) (i + 1) b
+  unfolding over_d_rule
+  over_d_step e = rw eo (by_step (over_d_rule s L) i b X e)
 
   pub backward_step : (j : ℕ) → j ≡ i + 1 → i < s → X ≡ fill_down (backward_rule s L) s (s - j) b
       → set X i (((X ! i) ⊖ sum_from (i + 1) s (down_term s L i (λ k. X ! k))) ⊘ (L ! (o + i))) ≡ fill_down (backward_rule s L) s (s - i) b

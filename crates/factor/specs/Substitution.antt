@@ -23,8 +23,8 @@ unfoldable pub unit_backward_rule : ℕ → List Float → Rule
 unit_backward_rule s L i x b = b ⊖ sum_from (i + 1) s (down_term s L i x)
 
 -- b_i divided by its d
-unfoldable pub over_drule : ℕ → List Float → Rule
-over_drule s L i x b = b ⊘ at s L i i
+unfoldable pub over_d_rule : ℕ → List Float → Rule
+over_d_rule s L i x b = b ⊘ at s L i i
 
 -- x_i of L x = b, then divided by the diagonal
 unfoldable pub forward_rule : ℕ → List Float → Rule
@@ -42,7 +42,7 @@ unit_forward s L b = fill_by (unit_forward_rule s L) s b
 
 -- each entry divided by its d
 unfoldable pub over_d : ℕ → List Float → List Float → List Float
-over_d s L b = fill_by (over_drule s L) s b
+over_d s L b = fill_by (over_d_rule s L) s b
 
 -- the solution of L' x = b, the diagonal being 1
 unfoldable pub unit_backward : ℕ → List Float → List Float → List Float

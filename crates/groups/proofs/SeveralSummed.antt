@@ -16,7 +16,7 @@ use Rattle.model.specs.Shape.{effects_of}
 use Rattle.model.specs.declared.sizes.Shape.{Shape}
 use Rattle.layout.specs.Layout.{WorkRoom}
 use Rattle.layout.specs.WorkRows.{xbeta_row, mark_row}
-use Rattle.layout.specs.WorkMatrices.{inverse_place, u_place, trial_uplace}
+use Rattle.layout.specs.WorkMatrices.{inverse_place, u_place, trial_u_place}
 use Rattle.layout.proofs.Inside.{inverse_in, u_in}
 use Rattle.quadrature.specs.Orders.{size_of}
 use Rattle.quadrature.specs.Rules.{nodes_of, padded}
@@ -61,7 +61,7 @@ module _ (G : Given) (M : Mode) (phi : Float) (o : Order) (s k : ℕ) (c : Scali
 module _ (G : Given) (M : Mode) (phi : Float) (o : Order) (s k size l u trial mark xbeta : ℕ) (nodes logs r r1 m t : List Float)
     (lent : WorkRoom (n_of G) G.design.p (q_of G.design) r m t) (stands : Stands G M r m)
     (h : s + k ≤ q_of G.design) (el : l ≡ inverse_place (q_of G.design))
-    (eu : u ≡ u_place G.design.p (q_of G.design)) (et : trial ≡ trial_uplace G.design.p (q_of G.design)) (em : mark ≡ mark_row (n_of G)) (ex : xbeta ≡ xbeta_row (n_of G))
+    (eu : u ≡ u_place G.design.p (q_of G.design)) (et : trial ≡ trial_u_place G.design.p (q_of G.design)) (em : mark ≡ mark_row (n_of G)) (ex : xbeta ≡ xbeta_row (n_of G))
     (en : nodes ≡ padded (nodes_of o)) (eg : LogRow o logs) (es : size ≡ size_of o)
     (wrote : Wrote mark (n_of G) (build (mark_at G.design.zt s k) (n_of G)) r r1) where
   abbrev n : ℕ
@@ -105,7 +105,7 @@ module _ (family : CarriedFamily) (link : CarriedLink) (shape : Shape) (theta : 
 
   module _ (inv : Float) (l u trial mark xbeta size count : ℕ) (nodes logs r r1 r2 m m1 m2 t t' : List Float) (a : GroupSum)
       (eq : q ≡ effects_of shape) (lent : WorkRoom n p q r m t) (few : count ≤ 7000) (em : mark ≡ mark_row n)
-      (eu : u ≡ u_place p q) (et : trial ≡ trial_uplace p q) (el : l ≡ inverse_place q) (ex : xbeta ≡ xbeta_row n) (ei : inv ≡ inverse_phi phi)
+      (eu : u ≡ u_place p q) (et : trial ≡ trial_u_place p q) (el : l ≡ inverse_place q) (ex : xbeta ≡ xbeta_row n) (ei : inv ≡ inverse_phi phi)
       (es : size ≡ size_of o) (en : nodes ≡ padded (nodes_of o)) (eg : LogRow o logs) (ea : a ≡ group_sum_of (row 0 count t')) where
     pub several_made : (s k : ℕ) → s + k ≤ q → count ≡ size ^ k → Wrote mark n (build (mark_at zt s k) n) r r1 → m1 ≡ fill_at trial q (entry_from m u) m
         → TermsIn (group_term_in (gain_in family link shape theta zt y weights offset n q xbeta r1) s k inv nodes logs size (row l (k * k) m1) (row u q m1) (row trial q m1)) n q xbeta trial count r1 r2 m1 m2 t t'

@@ -12,7 +12,7 @@ use Rattle.base.proofs.Rows.{only_trans}
 use Rattle.base.proofs.TwoRows.{two_row}
 use Rattle.family.specs.Carried.{link_of}
 use Rattle.layout.specs.Layout.{WorkRoom, MatricesLaid}
-use Rattle.layout.specs.WorkMatrices.{inverse_place, root_inverse_place, u_place, trial_uplace, beta_place, matrices_length}
+use Rattle.layout.specs.WorkMatrices.{inverse_place, root_inverse_place, u_place, trial_u_place, beta_place, matrices_length}
 use Rattle.layout.specs.WorkRows.{mu_row, xbeta_row, point_row, rows_length}
 use Rattle.layout.proofs.LaidOut.{laid_out, lent_kept}
 use Rattle.model.specs.Account.{◌⊞◌, points_of, AtMost, inner_cap, SumFits}
@@ -127,19 +127,19 @@ module _ (G : Given) (wish : ℕ) (phi : Float) (L : ℕ) (mu r r1 m m1 t t1 : L
         let l : rows_length n ≤ length r1 = lent.rows_long in
         two_row c n (xbeta_row n) n (point_row n) (n + n) (inl h) (inl (omega arith)) (omega arith) s.rows_only
 
-    matrix_kept : (c w : ℕ) → Apart c w (inverse_place q) (q * q) → Apart c w (trial_uplace p q) (q + q + q) → c + w ≤ matrices_length p q → row c w m2 ≡ row c w m1
-    matrix_kept c w h h' l = two_row c w (inverse_place q) (q * q) (trial_uplace p q) (q + q + q) h h' (omega (arith, lent.matrices_long)) s.matrices_only
+    matrix_kept : (c w : ℕ) → Apart c w (inverse_place q) (q * q) → Apart c w (trial_u_place p q) (q + q + q) → c + w ≤ matrices_length p q → row c w m2 ≡ row c w m1
+    matrix_kept c w h h' l = two_row c w (inverse_place q) (q * q) (trial_u_place p q) (q + q + q) h h' (omega (arith, lent.matrices_long)) s.matrices_only
 
     module _ (k : Mode) (e : (run_of G phi L mu).ending ≡ stopped k) (h : HoldsMode G k r1 m1 fit) where
       integral : quadrature_of G wish k phi ≡ integrated_of a
       integral = s.told k (reads k h)
 
-      inner-is : inner_of G wish phi L mu ≡ record { ending = with_mode k a.answer; items = (run_of G phi L mu).items ++ replicate a.points a_point }
+      inner_is : inner_of G wish phi L mu ≡ record { ending = with_mode k a.answer; items = (run_of G phi L mu).items ++ replicate a.points a_point }
       unfolding inner_of inner_with after_run with_points integrated_of
-      inner-is = rw (e, integral) refl
+      inner_is = rw (e, integral) refl
 
-      results-kept : HoldsResults G k fit.in_second r2 m2
-      results-kept =
+      results_kept : HoldsResults G k fit.in_second r2 m2
+      results_kept =
           let d = h.results in
           record {
             place = d.place;
@@ -155,7 +155,7 @@ module _ (G : Given) (wish : ℕ) (phi : Float) (L : ℕ) (mu r r1 m m1 t t1 : L
           record {
             end = refl;
             iterations = h.iterations;
-            results = results-kept;
+            results = results_kept;
             sum = h.sum;
             deviance = ap (deviance_by a.answer) h.laplace_deviance;
             order = refl;
@@ -165,19 +165,19 @@ module _ (G : Given) (wish : ℕ) (phi : Float) (L : ℕ) (mu r r1 m m1 t t1 : L
       counted : fit.account ⊞ points_of a.points ≡ tally ((run_of G phi L mu).items ++ replicate a.points a_point)
       counted = sym (tally_append (run_of G phi L mu).items (replicate a.points a_point) ∙ rw (← x.counted, tally_points a.points) refl)
 
-      mode-left : (b : InnerAnswer) → b ≡ stopped_answer fit a → AnswerLeft G wish phi L mu r r2 m m2 t t2 b
-      mode-left b hb =
+      mode_left : (b : InnerAnswer) → b ≡ stopped_answer fit a → AnswerLeft G wish phi L mu r r2 m m2 t t2 b
+      mode_left b hb =
           let lr : rows_length n ≤ length r1 = lent.rows_long in
           rw hb
           (record {
-            told = rw inner-is holds;
-            counted = rw inner-is counted;
+            told = rw inner_is holds;
+            counted = rw inner_is counted;
             rows_only = only_trans x.rows_only (two_within (xbeta_row n) n (point_row n) (n + n) (rows_length n) (omega arith) (omega arith) s.rows_only);
-            matrices_only = only_trans x.matrices_only (two_within (inverse_place q) (q * q) (trial_uplace p q) (q + q + q) (matrices_length p q) (omega (arith, laid.beta_end_lem)) (omega (arith, laid.beta_end_lem)) s.matrices_only);
+            matrices_only = only_trans x.matrices_only (two_within (inverse_place q) (q * q) (trial_u_place p q) (q + q + q) (matrices_length p q) (omega (arith, laid.beta_end_lem)) (omega (arith, laid.beta_end_lem)) s.matrices_only);
             terms_only = only_trans x.terms_only s.terms_only;
           })
 
     pub stopped_left : (b : InnerAnswer) → fit.end ≡ Stopped → b ≡ stopped_answer fit a → AnswerLeft G wish phi L mu r r2 m m2 t t2 b
     stopped_left b d hb =
         let h : Held = run_stopped (run_of G phi L mu).ending refl x.told d in
-        mode-left h.mode h.ending h.holds b hb
+        mode_left h.mode h.ending h.holds b hb

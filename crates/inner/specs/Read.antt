@@ -2,7 +2,7 @@
 use Rattle.std.specs.Prelude.{◌≡◌, List, ℕ, ◌+◌, ◌*◌, ◌≤◌, Float}
 use Rattle.base.specs.Rows.{row, Only, OnlyTwo}
 use Rattle.layout.specs.WorkRows.{xbeta_row, deviance_row, point_row}
-use Rattle.layout.specs.WorkMatrices.{system_place, inverse_place, u_place, trial_uplace, beta_place}
+use Rattle.layout.specs.WorkMatrices.{system_place, inverse_place, u_place, trial_u_place, beta_place}
 use Rattle.layout.specs.WorkTerms.{terms_length}
 use Rattle.quadrature.specs.declared.orders.Decline.{Decline}
 use Rattle.rule.specs.Given.{Given, n_of, q_of}
@@ -29,7 +29,7 @@ pub record QuadratureLeft (G : Given) (rule : Mode → Integrated) (fit : Float)
   pub told : (k : Mode) → Reads G k fit r m → rule k ≡ integrated_of a
   pub few : a.points ≤ 7000
   pub rows_only : OnlyTwo (xbeta_row (n_of G)) (n_of G) (point_row (n_of G)) (n_of G + n_of G) r r'
-  pub matrices_only : OnlyTwo (inverse_place (q_of G.design)) (q_of G.design * q_of G.design) (trial_uplace G.design.p (q_of G.design)) (q_of G.design + q_of G.design + q_of G.design) m m'
+  pub matrices_only : OnlyTwo (inverse_place (q_of G.design)) (q_of G.design * q_of G.design) (trial_u_place G.design.p (q_of G.design)) (q_of G.design + q_of G.design + q_of G.design) m m'
   pub terms_only : Only 0 terms_length t t'
 
 -- the same of the product rule for `groups` groups of k effects

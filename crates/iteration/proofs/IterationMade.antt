@@ -160,8 +160,8 @@ module _ (G : Given) (phi : Float) (second : Bool) (r r1 r2 m m2 t t1 t2 : List 
       terms2 = only_trans terms1 s.terms_only
 
       -- the predictor is where it was
-      prev-kept : row (eta_row n second) n r2 ≡ eta
-      prev-kept =
+      prev_kept : row (eta_row n second) n r2 ≡ eta
+      prev_kept =
           let h : eta_row n second + n ≤ mu_row n = eta_before n second in
           let l : rows_length n ≤ length r = lent.rows_long in
           only_row (eta_row n second) n (raw_row n) (13 * n) (inl (omega arith)) (omega (arith, wd.rows_only.len)) s.rows_only ∙ two_row (eta_row n second) n (weighted_row n) n (working_row n) n (inl (omega arith)) (inl (omega arith)) (omega arith) wd.rows_only
@@ -169,13 +169,13 @@ module _ (G : Given) (phi : Float) (second : Bool) (r r1 r2 m m2 t t1 t2 : List 
       abbrev trial : Trial
       trial = trial_in G.link n q (eta_row n second) (raw_row n) (row (u_place p q) q m2) (row (w_place q) n t2) (row (z_place n q) n t2) r2
 
-      trial-is : trial ≡ trial_of G fs.v eta
+      trial_is : trial ≡ trial_of G fs.v eta
       unfolding trial_of
-      trial-is = rw (prev-kept, fs.held.u, fs.held.w, fs.held.z, fs.held.raw) refl
+      trial_is = rw (prev_kept, fs.held.u, fs.held.w, fs.held.z, fs.held.raw) refl
 
-      solve-is : solve_of G phi eta mu ≡ solved fs.v
+      solve_is : solve_of G phi eta mu ≡ solved fs.v
       unfolding solve_of
-      solve-is = fs.is
+      solve_is = fs.is
 
       rows3 : (r3 : List Float) → OnlyTwo (eta_row n (not second)) n (mu_row n) n r2 r3 → Only 0 (rows_length n) r r3
       rows3 r3 o =
@@ -188,9 +188,9 @@ module _ (G : Given) (phi : Float) (second : Bool) (r r1 r2 m m2 t t1 t2 : List 
       -- end 12
       pub stuck : (r3 : List Float) (made : Account) → TriesDone trial (eta_row n (not second)) (mu_row n) r2 r3 (NoMove made) → IterationLeft G phi eta mu (eta_row n (not second)) r r3 m m2 t t2 (iteration.Stuck made)
       stuck r3 made d =
-          let x : NoItems (tries_of (trial_of G fs.v eta)) made = told_none (tries_of (trial_of G fs.v eta)) made (d.says ∙ ap (λ (y : Trial). briefly (tries_of y)) trial-is) in
+          let x : NoItems (tries_of (trial_of G fs.v eta)) made = told_none (tries_of (trial_of G fs.v eta)) made (d.says ∙ ap (λ (y : Trial). briefly (tries_of y)) trial_is) in
           record {
-            told = record { v = fs.v; items = x.items; solve = solve-is; tries = x.is; count = x.count };
+            told = record { v = fs.v; items = x.items; solve = solve_is; tries = x.is; count = x.count };
             few = d.few;
             rows_only = rows3 r3 d.only;
             matrices_only = s.matrices_only;
@@ -205,12 +205,12 @@ module _ (G : Given) (phi : Float) (second : Bool) (r r1 r2 m m2 t t1 t2 : List 
           let l : rows_length n ≤ length r = lent.rows_long in
           let raw : row (raw_row n) n r3 ≡ row (raw_row n) n r2 = two_row (raw_row n) n (eta_row n (not second)) n (mu_row n) n (inr (omega arith)) (inr (omega arith)) (omega (arith, rows2.len)) d.only in
           let x : FoundItems (tries_of (trial_of G fs.v eta)) (record { eta = row (eta_row n (not second)) n r3; mu = row (mu_row n) n r3; pwrss = pwrss }) made =
-          told_move (tries_of (trial_of G fs.v eta)) (record { eta = row (eta_row n (not second)) n r3; mu = row (mu_row n) n r3; pwrss = pwrss }) made (d.says ∙ ap (λ (y : Trial). briefly (tries_of y)) trial-is) in
+          told_move (tries_of (trial_of G fs.v eta)) (record { eta = row (eta_row n (not second)) n r3; mu = row (mu_row n) n r3; pwrss = pwrss }) made (d.says ∙ ap (λ (y : Trial). briefly (tries_of y)) trial_is) in
           record {
             told = record {
               v = fs.v;
               items = x.items;
-              solve = solve-is;
+              solve = solve_is;
               tries = x.is;
               count = x.count;
               held = record { w = fs.held.w; z = fs.held.z; system = fs.held.system; factor = fs.held.factor; root = fs.held.root; beta = fs.held.beta; u = fs.held.u; raw = raw ∙ fs.held.raw };

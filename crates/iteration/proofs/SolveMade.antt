@@ -180,9 +180,9 @@ module _ (D : Design) (w z r m t : List Float) (lent : WorkRoom D.n D.p (q_of D)
       beta3 = l.beta refl ∙ rw x'.side refl
 
       -- a solve found
-      pub solve-found : SolveLeft D (solve_working D w z) r r2 m m4 t t4 Found
+      pub solve_found : SolveLeft D (solve_working D w z) r r2 m m4 t t4 Found
       unfolding found found_beta found_with reduced_of
-      solve-found =
+      solve_found =
           record {
             told = rw (rule_reduced D w z t t1 m m1 s' ∙ rule_found D w z q m2 m3 t2 t3 l)
                 (record {
@@ -236,4 +236,4 @@ module _ (n p q at i : ℕ) (shape : Shape) (theta offset x : List Float) (zt : 
 
     pub solve_finds : (r2 m4 t4 : List Float) → g ≡ Done → RawLeft D (row (wy_place p q) q m3) (row (solved_place q) (p * q) m3) (row (beta_place p q) p m3) r r2 m3 m4 t3 t4
         → SolvesWorking D r r2 m m4 t t4 Found
-    solve_finds r2 m4 t4 eg v w z ready = solve-found D w z r m t lent' ready t1 m1 t2 m2 done (sided w z ready) r2 t3 m3 t4 m4 (rw eg at (root' w z ready)) (rw e at v)
+    solve_finds r2 m4 t4 eg v w z ready = solve_found D w z r m t lent' ready t1 m1 t2 m2 done (sided w z ready) r2 t3 m3 t4 m4 (rw eg at (root' w z ready)) (rw e at v)

@@ -59,9 +59,9 @@ module _ (P : ℕ → Type 0) where
       in_rows s p (suc n) = either _ _ (either _ _ (paired s p 3) (in_entries s (p + 2) (short s p))) (in_rows s (after_row s p) n)
 
       -- what holds of all seven holds of a fault's number
-      pub fault-numbers : P 1 → P 21 → P 24 → P 25 → (s : List ℕ) → Numbered P (fault_of s)
+      pub fault_numbers : P 1 → P 21 → P 24 → P 25 → (s : List ℕ) → Numbered P (fault_of s)
       unfolding fault_of head_fault common_fault body_fault numbers_fault
-      fault-numbers sizes version named long s =
+      fault_numbers sizes version named long s =
           let common =
           either _ _ (reached s 4)
           (either _ _ (demanded _ 21 0 version)

@@ -108,11 +108,11 @@ module _ (s : List ℕ) (bytes : Bytes s) (z : Sparse) (rows entries : ℕ) (q :
         let n = q.rising r (omega arith) in
         let t : (z.starts !! (r + 1)) ≡ (z.starts !! r) + row_count z r = omega arith in
         let here : join_to r (columns_of s) ++ columns_of s r ≡ take (z.starts !! r) z.columns ++ take (row_count z r) (drop (z.starts !! r) z.columns) =
-        rw (columns_to r (omega arith), row_count_lem r (omega arith)) (ap (λ (ys : List ℕ). take (z.starts !! r) z.columns ++ ys) (row-columns r (omega arith) (omega arith))) in
+        rw (columns_to r (omega arith), row_count_lem r (omega arith)) (ap (λ (ys : List ℕ). take (z.starts !! r) z.columns ++ ys) (row_columns r (omega arith) (omega arith))) in
         here ∙ sym (take-add (z.starts !! r) (row_count z r) z.columns) ∙ rw e (ap (λ (n : ℕ). take n z.columns) (sym t))
       where
-        row-columns : (r : ℕ) → r < rows → (z.starts !! r) + row_count z r ≤ entries → counts (column_read s (row_at s r)) (row_count z r) ≡ take (row_count z r) (drop (z.starts !! r) z.columns)
-        row-columns r l k =
+        row_columns : (r : ℕ) → r < rows → (z.starts !! r) + row_count z r ≤ entries → counts (column_read s (row_at s r)) (row_count z r) ≡ take (row_count z r) (drop (z.starts !! r) z.columns)
+        row_columns r l k =
             let long : length (take (row_count z r) (drop (z.starts !! r) z.columns)) ≡ row_count z r = length-take-le (row_count z r) (drop (z.starts !! r) z.columns) (omega (arith, length-drop (z.starts !! r) z.columns, q.columns)) in
             counts_same (column_read s (row_at s r)) (λ i. take (row_count z r) (drop (z.starts !! r) z.columns) !! i) (row_count z r)
             (λ i m. rw (row_place r (omega arith)).0 (entry_said (z_at s) h r i l m).column.said ∙ sym (get_or-take (row_count z r) (drop (z.starts !! r) z.columns) i 0 m ∙ get_or-drop (z.starts !! r) z.columns i 0))
@@ -127,11 +127,11 @@ module _ (s : List ℕ) (bytes : Bytes s) (z : Sparse) (rows entries : ℕ) (q :
         let n = q.rising r (omega arith) in
         let t : (z.starts !! (r + 1)) ≡ (z.starts !! r) + row_count z r = omega arith in
         let here : join_to r (values_of s) ++ values_of s r ≡ take (z.starts !! r) z.values ++ take (row_count z r) (drop (z.starts !! r) z.values) =
-        rw (values_to r (omega arith), row_count_lem r (omega arith)) (ap (λ (ys : List Float). take (z.starts !! r) z.values ++ ys) (row-values r (omega arith) (omega arith))) in
+        rw (values_to r (omega arith), row_count_lem r (omega arith)) (ap (λ (ys : List Float). take (z.starts !! r) z.values ++ ys) (row_values r (omega arith) (omega arith))) in
         here ∙ sym (take-add (z.starts !! r) (row_count z r) z.values) ∙ rw e (ap (λ (n : ℕ). take n z.values) (sym t))
       where
-        row-values : (r : ℕ) → r < rows → (z.starts !! r) + row_count z r ≤ entries → build (value_read s (row_at s r)) (row_count z r) ≡ take (row_count z r) (drop (z.starts !! r) z.values)
-        row-values r l k =
+        row_values : (r : ℕ) → r < rows → (z.starts !! r) + row_count z r ≤ entries → build (value_read s (row_at s r)) (row_count z r) ≡ take (row_count z r) (drop (z.starts !! r) z.values)
+        row_values r l k =
             let long : length (take (row_count z r) (drop (z.starts !! r) z.values)) ≡ row_count z r = length-take-le (row_count z r) (drop (z.starts !! r) z.values) (omega (arith, length-drop (z.starts !! r) z.values, q.values)) in
             sym (build_is (value_read s (row_at s r)) (row_count z r) (take (row_count z r) (drop (z.starts !! r) z.values)) long
             (λ i m. get_or-take (row_count z r) (drop (z.starts !! r) z.values) i nan m ∙ get_or-drop (z.starts !! r) z.values i nan ∙ sym (rw (row_place r (omega arith)).0 (entry_said (z_at s) h r i l m).value)))

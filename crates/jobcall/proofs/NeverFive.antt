@@ -15,7 +15,7 @@ use Rattle.job.specs.declared.faults.Fault.{Fault}
 use Rattle.job.specs.declared.faults.Fault.TheVariants.{Sound, At}
 use Rattle.job.specs.Faults.{fault_of}
 use Rattle.job.specs.Job.{Read, faulty, sound, read_by, read_of}
-use Rattle.job.proofs.FaultNumbers.{fault-numbers}
+use Rattle.job.proofs.FaultNumbers.{fault_numbers}
 use Rattle.call.proofs.When.{never_five}
 use Rattle.jobfit.specs.Done.{lent_for, done_of, done_for}
 use Rattle.jobcall.specs.Told.{Buffers, counts_length, returned_by, told_by, answered, counted, with_theta, fit_job_of, fit_job_theta_of}
@@ -57,7 +57,7 @@ read_other s = by (fault_of s) refl
     by : (f : Fault) → fault_of s ≡ f → OtherFault (read_of s)
     by Sound e = rw e tt
     by (At r b) e =
-        rw e (rw e at (fault-numbers (λ k. k ≡ 5 → ⊥) (λ n. omega arith) (λ n. omega arith) (λ n. omega arith) (λ n. omega arith) (λ n. omega arith) (λ n. omega arith) (λ n. omega arith) s))
+        rw e (rw e at (fault_numbers (λ k. k ≡ 5 → ⊥) (λ n. omega arith) (λ n. omega arith) (λ n. omega arith) (λ n. omega arith) (λ n. omega arith) (λ n. omega arith) (λ n. omega arith) s))
 
 theta_other : (theta : List Float) (r : Read) → OtherFault r → OtherFault (with_theta theta r)
 unfolding with_theta

@@ -75,22 +75,22 @@ module _ (a : Answer) (R : Results) (b : List Float) (fit : numbers_length R ≤
     effects_room = rw (w_long, k_is) (omega arith)
 
     module _ (l : ℕ) (x : List Float) (c₂ : Copied (R.u ++ R.b) k w l x) (e₂ : length x ≡ length w) where
-      l-is : l ≡ k + (length R.u + length R.b)
-      l-is = c₂.ends ∙ rw (lists_two R.u R.b) refl
+      l_is : l ≡ k + (length R.u + length R.b)
+      l_is = c₂.ends ∙ rw (lists_two R.u R.b) refl
 
       pub rows_room : l + (length R.mu + (length R.eta + length R.residual)) ≤ length x
-      rows_room = rw (e₂, w_long, l-is, k_is) (omega arith)
+      rows_room = rw (e₂, w_long, l_is, k_is) (omega arith)
 
       module _ (m : ℕ) (y : List Float) (c₃ : Copied (R.mu ++ (R.eta ++ R.residual)) l x m y) (e₃ : length y ≡ length x) where
-        m-is : m ≡ l + (length R.mu + (length R.eta + length R.residual))
-        m-is = c₃.ends ∙ rw (lists_three R.mu R.eta R.residual) refl
+        m_is : m ≡ l + (length R.mu + (length R.eta + length R.residual))
+        m_is = c₃.ends ∙ rw (lists_three R.mu R.eta R.residual) refl
 
-        pub v-room : m + length R.v ≤ length y
-        v-room = rw (e₃, e₂, w_long, m-is, l-is, k_is) (omega arith)
+        pub v_room : m + length R.v ≤ length y
+        v_room = rw (e₃, e₂, w_long, m_is, l_is, k_is) (omega arith)
 
-        pub numbers-laid : (r : ℕ) (z : List Float) → Copied R.v m y r z → z ≡ laid (numbers_of a R) b
+        pub numbers_laid : (r : ℕ) (z : List Float) → Copied R.v m y r z → z ≡ laid (numbers_of a R) b
         unfolding numbers_of
-        numbers-laid r z c₄ =
+        numbers_laid r z c₄ =
             let last = copied_both c₃ c₄ (rw (lists_three R.mu R.eta R.residual) rows_room) in
             let behind = copied_both c₂ last (rw (lists_two R.u R.b) effects_room) in
             let all = copied_both c₁ behind (rw (lists_three R.beta R.se R.z) fixed_room) in

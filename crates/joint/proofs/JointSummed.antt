@@ -15,7 +15,7 @@ use Rattle.model.specs.Shape.{effects_of}
 use Rattle.model.specs.declared.sizes.Shape.{Shape}
 use Rattle.layout.specs.Layout.{WorkRoom}
 use Rattle.layout.specs.WorkRows.{xbeta_row, mark_row}
-use Rattle.layout.specs.WorkMatrices.{inverse_place, u_place, trial_uplace}
+use Rattle.layout.specs.WorkMatrices.{inverse_place, u_place, trial_u_place}
 use Rattle.layout.proofs.Inside.{u_in}
 use Rattle.quadrature.specs.Orders.{size_of}
 use Rattle.quadrature.specs.Rules.{nodes_of, padded}
@@ -97,7 +97,7 @@ module _ (family : CarriedFamily) (link : CarriedLink) (shape : Shape) (theta : 
 
   module _ (inv : Float) (l u trial mark xbeta size count : ℕ) (nodes logs r r1 r2 m m1 m2 t t' : List Float) (a : GroupSum)
       (eq : q ≡ effects_of shape) (lent : WorkRoom n p q r m t) (few : count ≤ 7000) (em : mark ≡ mark_row n)
-      (eu : u ≡ u_place p q) (et : trial ≡ trial_uplace p q) (el : l ≡ inverse_place q) (ex : xbeta ≡ xbeta_row n) (ei : inv ≡ inverse_phi phi)
+      (eu : u ≡ u_place p q) (et : trial ≡ trial_u_place p q) (el : l ≡ inverse_place q) (ex : xbeta ≡ xbeta_row n) (ei : inv ≡ inverse_phi phi)
       (es : size ≡ size_of o) (en : nodes ≡ padded (nodes_of o)) (eg : LogRow o logs) (ea : a ≡ group_sum_of (row 0 count t')) where
     pub joint_made : count ≡ size ^ q → Wrote mark n (build one_at n) r r1
         → TermsIn (joint_term_in (gain_in family link shape theta zt y weights offset n q xbeta r1) q inv nodes logs size (row l (q * q) m) (row u q m)) n q xbeta trial count r1 r2 m m2 t t'

@@ -218,12 +218,12 @@ module _ (s : Shape) (theta : List Float) (r : InRange s) (n : s.count ≡ 1) (k
       sym
       (where_stretch (λ j. is_entry s i j) (times_term s theta u i) (effects_of s) i 1 (omega arith)
       (λ j m. entry_past s i j (omega (arith, count_one j (omega arith))))
-      (λ j m. on-diagonal j m)
+      (λ j m. on_diagonal j m)
       (λ j m g. entry_above s i j (omega arith))
       ∙ rw (add-zero i, diagonal i l) refl)
     where
-      on-diagonal : (j : ℕ) → j < 1 → is_entry s i (i + j) ≡ true
-      on-diagonal j m =
+      on_diagonal : (j : ℕ) → j < 1 → is_entry s i (i + j) ≡ true
+      on_diagonal j m =
           let z : j ≡ 0 = omega arith in
           rw (z, add-zero i) (rw (add-zero i) at (entry_in s i 0 (omega (arith, count_one i l))))
 

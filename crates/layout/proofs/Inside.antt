@@ -8,7 +8,7 @@ use lib.ListN.{length}
 use lib.Ieee.{Float}
 use Rattle.model.specs.Settings.{Sizes}
 use Rattle.layout.specs.WorkRows.{first_eta_row, mu_row, raw_row, xbeta_row, deviance_row, mark_row, rows_length}
-use Rattle.layout.specs.WorkMatrices.{system_place, inverse_place, solved_place, root_inverse_place, wy_place, u_place, trial_uplace, beta_place, matrices_length}
+use Rattle.layout.specs.WorkMatrices.{system_place, inverse_place, solved_place, root_inverse_place, wy_place, u_place, trial_u_place, beta_place, matrices_length}
 use Rattle.layout.specs.WorkTerms.{factor_place, w_place, z_place, unsolved_place, spare_place, terms_length}
 use Rattle.layout.proofs.Bounds.{products}
 
@@ -49,7 +49,7 @@ module _ {n p q : ℕ} (sizes : Sizes n p q) {k : ℕ} (w : List Float) where
   pub u_in : k ≡ u_place p q → matrices_length p q ≤ length w → k + q ≤ length w
   u_in e h = omega (arith, products sizes)
 
-  pub trial_u_in : k ≡ trial_uplace p q → matrices_length p q ≤ length w → k + q ≤ length w
+  pub trial_u_in : k ≡ trial_u_place p q → matrices_length p q ≤ length w → k + q ≤ length w
   trial_u_in e h = omega (arith, products sizes)
 
   pub beta_in : k ≡ beta_place p q → matrices_length p q ≤ length w → k + p ≤ length w

@@ -2,7 +2,7 @@
 use Rattle.std.specs.Prelude.{List, ℕ, ◌+◌, ◌*◌, ◌≤◌, length, Float}
 use Rattle.model.specs.Settings.{Sizes}
 use Rattle.layout.specs.WorkRows.{first_eta_row, second_eta_row, mu_row, raw_row, xbeta_row, deviance_row, point_row, mark_row, weighted_row, working_row, rows_length}
-use Rattle.layout.specs.WorkMatrices.{system_place, inverse_place, solved_place, root_inverse_place, wy_place, u_place, b_place, trial_uplace, trial_bplace, point_place, beta_place, beta_end, matrices_length}
+use Rattle.layout.specs.WorkMatrices.{system_place, inverse_place, solved_place, root_inverse_place, wy_place, u_place, b_place, trial_u_place, trial_b_place, point_place, beta_place, beta_end, matrices_length}
 use Rattle.layout.specs.WorkTerms.{factor_place, w_place, z_place, unsolved_place, normal_place, spare_place, terms_length}
 
 -- each row ends where the next begins or before
@@ -27,9 +27,9 @@ pub record MatricesLaid (p q : ℕ) : Type 0 where
   pub root_inverse : root_inverse_place p q + p * p ≤ wy_place p q
   pub wy : wy_place p q + q ≤ u_place p q
   pub u : u_place p q + q ≤ b_place p q
-  pub b : b_place p q + q ≤ trial_uplace p q
-  pub trial_u : trial_uplace p q + q ≤ trial_bplace p q
-  pub trial_b : trial_bplace p q + q ≤ point_place p q
+  pub b : b_place p q + q ≤ trial_u_place p q
+  pub trial_u : trial_u_place p q + q ≤ trial_b_place p q
+  pub trial_b : trial_b_place p q + q ≤ point_place p q
   pub point : point_place p q + q ≤ beta_place p q
   pub beta : beta_place p q + p ≤ beta_end p q
   pub beta_end_lem : beta_end p q ≤ matrices_length p q

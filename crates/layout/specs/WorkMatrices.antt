@@ -30,16 +30,16 @@ abbrev pub b_place : ℕ → ℕ → ℕ
 b_place p q = u_place p q + q
 
 -- the trial u
-abbrev pub trial_uplace : ℕ → ℕ → ℕ
-trial_uplace p q = b_place p q + q
+abbrev pub trial_u_place : ℕ → ℕ → ℕ
+trial_u_place p q = b_place p q + q
 
 -- the trial b, which `agq` writes q numbers behind the trial u
-abbrev pub trial_bplace : ℕ → ℕ → ℕ
-trial_bplace p q = trial_uplace p q + q
+abbrev pub trial_b_place : ℕ → ℕ → ℕ
+trial_b_place p q = trial_u_place p q + q
 
 -- z of a quadrature point, which `several` writes q numbers behind the trial b
 abbrev pub point_place : ℕ → ℕ → ℕ
-point_place p q = trial_bplace p q + q
+point_place p q = trial_b_place p q + q
 
 -- β, p numbers
 abbrev pub beta_place : ℕ → ℕ → ℕ

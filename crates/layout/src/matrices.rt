@@ -1,7 +1,7 @@
 // Where the pieces of the work slice `matrices` begin.
 ghost use Rattle.std.specs.Prelude.{◌≡◌, ◌≤◌};
 ghost use Rattle.layout.specs.Products.{Small};
-ghost use Rattle.layout.specs.WorkMatrices.{inverse_place, solved_place, root_inverse_place, wy_place, u_place, b_place, trial_uplace, beta_place, beta_end, matrices_length};
+ghost use Rattle.layout.specs.WorkMatrices.{inverse_place, solved_place, root_inverse_place, wy_place, u_place, b_place, trial_u_place, beta_place, beta_end, matrices_length};
 
 use crate::products::{product, square};
 
@@ -64,7 +64,7 @@ pub fn b_at(p: usize, q: usize) -> usize
 // The trial u; the trial b and z of a quadrature point follow it, q numbers each.
 pub fn trial_u_at(p: usize, q: usize) -> usize
     requires { (p ≤ 16) × (q ≤ 32) }
-    ensures { result ≡ trial_uplace p q }
+    ensures { result ≡ trial_u_place p q }
 {
     vectors_at(p, q) + 3 * q
 }

@@ -162,23 +162,23 @@ module _ (t : Settings) (s : Shape) (I : Inputs) where
       kept : SameLengths turn B
       kept = lengths_to i (le_of_suc-le h)
 
-      own-part : part_of (i * block_length t) (block_length t) turn.results ≡ part_of (i * block_length t) (block_length t) B.results
+      own_part : part_of (i * block_length t) (block_length t) turn.results ≡ part_of (i * block_length t) (block_length t) B.results
       unfolding part_of
-      own-part = ap (take (block_length t)) (results_behind i (i * block_length t) (le_of_suc-le h) (le_refl _))
+      own_part = ap (take (block_length t)) (results_behind i (i * block_length t) (le_of_suc-le h) (le_refl _))
 
-      own-told : part_of (i * counts_length) counts_length turn.counts ≡ part_of (i * counts_length) counts_length B.counts
+      own_told : part_of (i * counts_length) counts_length turn.counts ≡ part_of (i * counts_length) counts_length B.counts
       unfolding part_of
-      own-told = ap (take counts_length) (counts_rest i (i * counts_length) (le_of_suc-le h) (le_refl _))
+      own_told = ap (take counts_length) (counts_rest i (i * counts_length) (le_of_suc-le h) (le_refl _))
 
       pub free : ((done_at i turn).answer ≡ (done_at i B).answer) × ((done_at i turn).results ≡ (done_at i B).results)
       free =
-          rw own-part
+          rw own_part
           (done_work_free t s (lists_at i) B.rows B.matrices B.terms turn.rows turn.matrices turn.terms (part_of (i * block_length t) (block_length t) B.results) kept.rows kept.matrices kept.terms)
 
       -- the block of response i: the results of its single call
-      pub block-alone : part_of (i * block_length t) (block_length t) (after_to t s I r B).results ≡ (done_at i B).results
+      pub block_alone : part_of (i * block_length t) (block_length t) (after_to t s I r B).results ≡ (done_at i B).results
       unfolding after_to
-      block-alone =
+      block_alone =
           block_stays i r h (le_refl r)
           ∙ own_block i turn (turn_results i turn h kept) (turn_counts i turn h kept)
           ∙ free.1
@@ -189,4 +189,4 @@ module _ (t : Settings) (s : Shape) (I : Inputs) where
       counts_alone =
           counts_stay i r h (le_refl r)
           ∙ own_counts i turn (turn_results i turn h kept) (turn_counts i turn h kept)
-          ∙ rw (free.0, own-told) refl
+          ∙ rw (free.0, own_told) refl

@@ -29,8 +29,8 @@ use Rattle.jobcall.specs.Told.{Buffers, told, counts_length, told_by}
 use Rattle.many.specs.Many.{part_of, block_length, lent_to, back_from, single_of, after_one, after_to, lengths_for, verdict_for, many_by, many_of}
 use Rattle.many.proofs.Parts.{part_length, block_fits}
 use Rattle.many.proofs.Single.{done_rows, done_matrices, done_terms, done_unfitted}
-use Rattle.many.proofs.Alone.{SameLengths, RoomIn, lists_at, done_at, lengths_to, results_behind, counts_rest, block-alone, counts_alone}
-use Rattle.many.proofs.Each.{all_sound, room_in, each-accepted}
+use Rattle.many.proofs.Alone.{SameLengths, RoomIn, lists_at, done_at, lengths_to, results_behind, counts_rest, block_alone, counts_alone}
+use Rattle.many.proofs.Each.{all_sound, room_in, each_accepted}
 
 -- ---- any response of any call: demand 3, and document 02's P9
 module _ (t : Settings) (s : Shape) (I : Inputs) (B : Buffers) (i : ℕ) where
@@ -67,7 +67,7 @@ module _ (r : ℕ) (t : Settings) (s : Shape) (I : Inputs) (B : Buffers) (f : Ca
 
     -- its single call is accepted, with the buffers as they were lent
     pub response_accepted : table_of 1 t s (lists_at t s I i) (lengths_of (lent_for t B.rows B.matrices B.terms (part_of (i * block_length t) (block_length t) B.results))) ≡ Accepted f l
-    response_accepted = each-accepted r t s I B f l e i h B.rows B.matrices B.terms (part_of (i * block_length t) (block_length t) B.results) refl refl refl block_long
+    response_accepted = each_accepted r t s I B f l e i h B.rows B.matrices B.terms (part_of (i * block_length t) (block_length t) B.results) refl refl refl block_long
 
     -- so its number is 0 or one of 10 to 13
     pub response_number : FitNumber (done_at t s I i B).answer.number
@@ -79,7 +79,7 @@ module _ (r : ℕ) (t : Settings) (s : Shape) (I : Inputs) (B : Buffers) (f : Ca
     -- the block and the counts are those of the single call with its own parts of the buffers
     pub response_results : (lent_to t i (after_to t s I r B)).results ≡ (single_of t s (lists_at t s I i) (lent_to t i B)).after.results
     unfolding lent_to told_by
-    response_results = block-alone t s I r B room i h
+    response_results = block_alone t s I r B room i h
 
     pub response_counts : (lent_to t i (after_to t s I r B)).counts ≡ (single_of t s (lists_at t s I i) (lent_to t i B)).after.counts
     unfolding lent_to told_by
@@ -88,7 +88,7 @@ module _ (r : ℕ) (t : Settings) (s : Shape) (I : Inputs) (B : Buffers) (f : Ca
     -- a response that ends with 10 to 13 touches no result
     pub unfitted_block : ((done_at t s I i B).answer.number ≡ 0 → ⊥) → (lent_to t i (after_to t s I r B)).results ≡ (lent_to t i B).results
     unfolding lent_to
-    unfitted_block z = block-alone t s I r B room i h ∙ done_unfitted t s (lists_at t s I i) B.rows B.matrices B.terms (part_of (i * block_length t) (block_length t) B.results) z
+    unfitted_block z = block_alone t s I r B room i h ∙ done_unfitted t s (lists_at t s I i) B.rows B.matrices B.terms (part_of (i * block_length t) (block_length t) B.results) z
 
   -- behind the blocks and the counts of all responses nothing is touched
   pub rest_results : drop (r * block_length t) (after_to t s I r B).results ≡ drop (r * block_length t) B.results
@@ -107,7 +107,7 @@ module _ (r : ℕ) (t : Settings) (s : Shape) (I : Inputs) (B : Buffers) (f : Ca
 
     turn_accepted : table_of 1 t s (lists_at t s I j) (lengths_of (lent_for t (after_to t s I j B).rows (after_to t s I j B).matrices (after_to t s I j B).terms part_at)) ≡ Accepted f l
     turn_accepted =
-        each-accepted r t s I B f l e j h (after_to t s I j B).rows (after_to t s I j B).matrices (after_to t s I j B).terms part_at kept.rows kept.matrices kept.terms
+        each_accepted r t s I B f l e j h (after_to t s I j B).rows (after_to t s I j B).matrices (after_to t s I j B).terms part_at kept.rows kept.matrices kept.terms
         (part_length (j * block_length t) (block_length t) (after_to t s I j B).results (rw kept.results (le_trans (block_fits j r (block_length t) h) room.results)))
 
     turn_rows : (after_to t s I (suc j) B).rows ≡ fill_to (rows_length t.n) zero_at (after_to t s I j B).rows

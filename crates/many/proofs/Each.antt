@@ -26,7 +26,7 @@ use Rattle.table.specs.Table.{table_of}
 use Rattle.table.specs.Facts.{ResultsFit, WorkFits, AllFinite, AllInRange, Sound}
 use Rattle.table.specs.declared.verdicts.LentLengths.{LentLengths}
 use Rattle.table.specs.declared.verdicts.Verdict.TheVariants.{Accepted}
-use Rattle.table.proofs.Accepting.{is_accepted, line-6, past-lines, accepted_sound}
+use Rattle.table.proofs.Accepting.{is_accepted, line_6, past_lines, accepted_sound}
 use Rattle.table.proofs.Exactly.{sizes_exactly, count_exactly, inputs_exactly, results_exactly, work_exactly, numbers_exactly, range_exactly, start_exactly}
 use Rattle.call.specs.Call.{lengths_of}
 use Rattle.jobfit.specs.Done.{lent_for}
@@ -62,7 +62,7 @@ module _ (r : ℕ) (t : Settings) (s : Shape) (I : Inputs) (L : LentLengths) (f 
     where
       by : (b : Bool) → good_rows I.starts I.columns t.rows t.n ≡ b → good_rows I.starts I.columns t.rows t.n ≡ true
       by true q = q
-      by false q = absurd (ff (ap is_accepted (sym (line-6 r t s I L sizes_good count_good inputs_good results_good work_good q) ∙ e)))
+      by false q = absurd (ff (ap is_accepted (sym (line_6 r t s I L sizes_good count_good inputs_good results_good work_good q) ∙ e)))
 
   numbers_good : good_numbers I ≡ true
   numbers_good = (numbers_exactly I).1 found.numbers
@@ -75,7 +75,7 @@ module _ (r : ℕ) (t : Settings) (s : Shape) (I : Inputs) (L : LentLengths) (f 
       let numbers : good_numbers (with_y y I) ≡ true = (numbers_exactly (with_y y I)).1 (record { theta = n.theta; y = fin; weights = n.weights; offset = n.offset; x = n.x; values = n.values }) in
       let inside : all_in_range y (carried_family t.family) ≡ true = rw found.family ((range_exactly f y).1 ranged) in
       let start : start_fits t.start I.weights (carried_family t.family) ≡ true = rw found.family ((start_exactly t.start I.weights f).1 found.started) in
-      past-lines 1 t s (with_y y I) M sizes_good ((count_exactly 1).1 (omega arith, omega arith)) one ((results_exactly 1 t M).1 results) ((work_exactly t M).1 work) rows_good numbers found.valid inside start
+      past_lines 1 t s (with_y y I) M sizes_good ((count_exactly 1).1 (omega arith, omega arith)) one ((results_exactly 1 t M).1 results) ((work_exactly t M).1 work) rows_good numbers found.valid inside start
       ∙ rw (found.family, found.link) refl
 
 -- ---- a call of r responses that is accepted
@@ -125,16 +125,16 @@ module _ (r : ℕ) (t : Settings) (s : Shape) (I : Inputs) (B : Buffers) (f : Ca
             v = zeros_length _ ∙ ap (λ (z : ℕ). z * t.p) p;
           }
 
-      one-work : WorkFits t (lengths_of (lent_for t rows matrices terms block))
+      one_work : WorkFits t (lengths_of (lent_for t rows matrices terms block))
       unfolding lengths_of lent_for lengths_for
-      one-work =
+      one_work =
           let g = all_sound.work_fits in
           record { rows = rw k g.rows; matrices = rw m g.matrices; terms = rw w g.terms }
 
-      pub each-accepted : table_of 1 t s (lists_at t s I i) (lengths_of (lent_for t rows matrices terms block)) ≡ Accepted f l
-      each-accepted =
+      pub each_accepted : table_of 1 t s (lists_at t s I i) (lengths_of (lent_for t rows matrices terms block)) ≡ Accepted f l
+      each_accepted =
           one_accepted r t s I asked f l at_table (response_at t.n i I.y) (lengths_of (lent_for t rows matrices terms block))
           (part_length (i * t.n) t.n I.y inside)
           (all_in_part finite (i * t.n) t.n I.y inside all_sound.numbers.y)
           (all_in_part (in_range f) (i * t.n) t.n I.y inside all_sound.ranged)
-          one_results one-work
+          one_results one_work

@@ -26,7 +26,7 @@ use Rattle.jobfit.specs.Done.{inputs_of, Done}
 use Rattle.jobcall.specs.Told.{Buffers, buffers, Told, told, counts_length, counts_of, told_by}
 use Rattle.jobcall.proofs.Higher.{NoLower, as_before, done_same, done_grows, counts_grow}
 use Rattle.many.specs.Many.{part_of, placed_in, block_length, lent_to, back_from, after_one, after_to, beta_for, lengths_for, verdict_for, many_by, many_of, job_with_y, many_answered, fit_many_of}
-use Rattle.many.proofs.Alone.{RoomIn, lists_at, done_at, free, block-alone, counts_alone}
+use Rattle.many.proofs.Alone.{RoomIn, lists_at, done_at, free, block_alone, counts_alone}
 use Rattle.many.proofs.Each.{room_in}
 
 -- the block of response i, and its counts, after a call
@@ -55,14 +55,14 @@ module _ (t : Settings) (s : Shape) (I : Inputs) (r : ℕ) (B : Buffers) (M : �
     room_again = record { results = room.results; counts = room.counts }
 
     module _ (i : ℕ) (h : i < r) where
-      block-limited : ((done_at t s I i B).answer.number ≡ 13 → ⊥) → part_of (i * block_length t) (block_length t) (after_to (limited M t) s I r B).results ≡ part_of (i * block_length t) (block_length t) (after_to t s I r B).results
-      block-limited n =
-          block-alone (limited M t) s I r B room_again i h
+      block_limited : ((done_at t s I i B).answer.number ≡ 13 → ⊥) → part_of (i * block_length t) (block_length t) (after_to (limited M t) s I r B).results ≡ part_of (i * block_length t) (block_length t) (after_to t s I r B).results
+      block_limited n =
+          block_alone (limited M t) s I r B room_again i h
           ∙ (ap (λ (d : Done). d.results) (done_same t s (lists_at t s I i) B.rows B.matrices B.terms (part_of (i * block_length t) (block_length t) B.results) M higher few n)
-          ∙ sym (block-alone t s I r B room i h))
+          ∙ sym (block_alone t s I r B room i h))
 
-      counts-limited : ((done_at t s I i B).answer.number ≡ 13 → ⊥) → part_of (i * counts_length) counts_length (after_to (limited M t) s I r B).counts ≡ part_of (i * counts_length) counts_length (after_to t s I r B).counts
-      counts-limited n =
+      counts_limited : ((done_at t s I i B).answer.number ≡ 13 → ⊥) → part_of (i * counts_length) counts_length (after_to (limited M t) s I r B).counts ≡ part_of (i * counts_length) counts_length (after_to t s I r B).counts
+      counts_limited n =
           counts_alone (limited M t) s I r B room_again i h
           ∙ (ap (λ (d : Done). laid (counts_of d.answer 0) (part_of (i * counts_length) counts_length B.counts)) (done_same t s (lists_at t s I i) B.rows B.matrices B.terms (part_of (i * block_length t) (block_length t) B.results) M higher few n)
           ∙ sym (counts_alone t s I r B room i h))
@@ -72,9 +72,9 @@ module _ (t : Settings) (s : Shape) (I : Inputs) (r : ℕ) (B : Buffers) (M : �
           rw (counts_alone t s I r B room i h, counts_alone (limited M t) s I r B room_again i h)
           (counts_grow _ _ _ _ (done_grows t s (lists_at t s I i) B.rows B.matrices B.terms (part_of (i * block_length t) (block_length t) B.results) M higher few))
 
-      number-told : part_of (i * counts_length) counts_length (after_to t s I r B).counts !! 0 ≡ (done_at t s I i B).answer.number
+      number_told : part_of (i * counts_length) counts_length (after_to t s I r B).counts !! 0 ≡ (done_at t s I i B).answer.number
       unfolding counts_of laid
-      number-told = rw (counts_alone t s I r B room i h) refl
+      number_told = rw (counts_alone t s I r B room i h) refl
 
     one_limited : (j : ℕ) (A : Buffers) → ((done_at t s I j A).answer.number ≡ 13 → ⊥) → after_one (limited M t) s I j A ≡ after_one t s I j A
     unfolding after_one back_from told_by lent_to
@@ -107,8 +107,8 @@ module _ (t : Settings) (s : Shape) (I : Inputs) (r : ℕ) (B : Buffers) (M : �
       by (Refused x) e = same_for t i _ _ (refused_limited x e)
       by (Accepted f l) e =
           let room = room_in r t s I B f l e in
-          let m : (done_at t s I i B).answer.number ≡ 13 → ⊥ = λ z. n (rw e (number-told room i h ∙ z)) in
-          rw (verdict_limited, e) (record { block = block-limited room i h m; counts = counts-limited room i h m })
+          let m : (done_at t s I i B).answer.number ≡ 13 → ⊥ = λ z. n (rw e (number_told room i h ∙ z)) in
+          rw (verdict_limited, e) (record { block = block_limited room i h m; counts = counts_limited room i h m })
 
   many_more : (i : ℕ) → i < r → NoLower (counts_in i (many_of r t s I B)) (counts_in i (many_of r (limited M t) s I B))
   unfolding many_of many_by
@@ -126,7 +126,7 @@ module _ (t : Settings) (s : Shape) (I : Inputs) (r : ℕ) (B : Buffers) (M : �
       by (Refused x) e = refused_limited x e
       by (Accepted f l) e =
           let room = room_in r t s I B f l e in
-          rw (verdict_limited, e) (ap (told 0) (to_limited room r (le_refl r) (λ i h z. n i h (rw e (number-told room i h ∙ z)))))
+          rw (verdict_limited, e) (ap (told 0) (to_limited room r (le_refl r) (λ i h z. n i h (rw e (number_told room i h ∙ z)))))
 
 -- ---- the bytes of a sound job with r responses beside it, and a limit from its own to 1000; one that is not given counts as 100, with the inverse link as 1000
 module _ (s : List ℕ) (e : fault_of s ≡ Sound) (ys : List Float) (r : ℕ) (B : Buffers) (M : ℕ) (higher : limit_of (job_of s).settings.limit (job_of s).settings.link ≤ M) (few : M ≤ 1000) where

@@ -70,11 +70,11 @@ module _ (h : Header) (s : Shape) (theta y weights offset x : List Float) (start
 
     module _ (len first end at past : ℕ) (el : len ≡ block_length h.settings) (e1 : first ≡ i * len) (e2 : end ≡ first + len) (e3 : at ≡ i * 14) (e4 : past ≡ at + 14)
         (rows rows' matrices matrices' terms terms' results block : List Float) (counts told : List ℕ) (a : Answer) where
-      pub response-done : done a rows' matrices' terms' block ≡ done_for h.settings s (fronts_of h (inputs theta (take (to - from) (drop from y)) weights offset x starts columns values)) rows matrices terms (mid_of first (end - first) results)
+      pub response_done : done a rows' matrices' terms' block ≡ done_for h.settings s (fronts_of h (inputs theta (take (to - from) (drop from y)) weights offset x starts columns values)) rows matrices terms (mid_of first (end - first) results)
           → told ≡ laid (counts_of a 0) (mid_of at (past - at) counts)
           → buffers rows' matrices' terms' (put_mid first (end - first) results block) (put_mid at (past - at) counts told) ≡ after_one h.settings s (many_fronts h lists) i (buffers rows matrices terms results counts)
       unfolding after_one back_from told_by lent_to placed_in part_of
-      response-done d q =
+      response_done d q =
           let k1 : to - from ≡ h.settings.n = omega arith in
           let k2 : end - first ≡ block_length h.settings = omega arith in
           let k3 : past - at ≡ 14 = omega arith in

@@ -30,7 +30,7 @@ use Rattle.jobcall.specs.Told.{Buffers, counts_length}
 use Rattle.many.specs.Many.{part_of, response_at, job_with_y, block_length, after_to, verdict_for, refused_with, many_by, many_of, many_answered, fit_many_of}
 use Rattle.many.proofs.Parts.{part_length, block_fits}
 use Rattle.many.proofs.Single.{zeros_length}
-use Rattle.many.proofs.Alone.{RoomIn, lengths_to, block-alone, counts_alone}
+use Rattle.many.proofs.Alone.{RoomIn, lengths_to, block_alone, counts_alone}
 use Rattle.output.specs.Output.{slices_for, output_by}
 use Rattle.manytext.specs.Input.{job_in, rest_in, numbers_in}
 use Rattle.manytext.specs.Text.{response_text}
@@ -84,7 +84,7 @@ module _ (j : Job) (ys : List Float) (r : ℕ) where
     response_text_lem i h =
         let t = j.settings in
         let block = part_of (i * block_length t) (block_length t) many_lent.results in
-        rw (counts_alone t j.shape I r many_lent room i h, block-alone t j.shape I r many_lent room i h)
+        rw (counts_alone t j.shape I r many_lent room i h, block_alone t j.shape I r many_lent room i h)
         (ap (λ (text : List ℕ). response_line i ++ text)
         (single_text t j.shape (inputs_of (job_with_y (response_at t.n i ys) j)) (zeros 8192) (zeros 5696) (zeros 7000) block (part_of (i * counts_length) counts_length many_lent.counts)
         ∙ rw (lent_own t block (own_block i h)) refl))

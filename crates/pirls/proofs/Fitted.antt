@@ -34,7 +34,7 @@ use Rattle.iteration.specs.declared.iterates.Iteration.{Iteration}
 use Rattle.iteration.specs.declared.iterates.Iteration.TheVariants.{Unsolvable, Stuck, Moved}
 use Rattle.pirls.specs.Inner.{failed_fit, stopped_fit, InnerLeft}
 use Rattle.pirls.specs.declared.run.InnerFit.{InnerFit}
-use Rattle.pirls.proofs.Turns.{run_to, Going, going_starts, spent, unsolved_end, stuck_end, goes_on, fit-stopped, sum_fits}
+use Rattle.pirls.proofs.Turns.{run_to, Going, going_starts, spent, unsolved_end, stuck_end, goes_on, fit_stopped, sum_fits}
 
 -- slices of the same lengths are as good
 pub asked_kept : {n p q : ℕ} {shape : Shape} {theta : List Float} {starts columns : List ℕ} {values offset x y r m t r' m' t' : List Float} → Asked n p q shape theta starts columns values offset x y r m t
@@ -67,15 +67,15 @@ module _ (family : CarriedFamily) (link : CarriedLink) (phi : Float) (L n p q : 
       end_spent b l hb = rw (hb, ← mu_kept) (spent G phi L (row (mu_row n) n r') r₀ r r' m₀ m t₀ t old second k account g l rows_wide)
 
       module _ (r2 m2 t2 : List Float) (it : Iteration) (l : k < L) (i : IterationLeft G phi (row (eta_row n second) n r) (row (mu_row n) n r) (eta_row n (not second)) r r2 m m2 t t2 it) where
-        pub end-unsolved : (end : End) (b : InnerFit) → it ≡ Unsolvable end → b ≡ failed_fit end account
+        pub end_unsolved : (end : End) (b : InnerFit) → it ≡ Unsolvable end → b ≡ failed_fit end account
             → InnerLeft G phi L (row (mu_row n) n r₀) r₀ r2 m₀ m2 t₀ t2 b
-        end-unsolved end b ei hb =
+        end_unsolved end b ei hb =
             let i' : IterationLeft G phi (row (eta_row n second) n r) (row (mu_row n) n r) (eta_row n (not second)) r r2 m m2 t t2 (Unsolvable end) = rw ei at i in
             rw (hb, ← mu_kept) (unsolved_end G phi L (row (mu_row n) n r') r₀ r r' r2 m₀ m m2 t₀ t t2 old second k account end g l i'.told rows_wide i'.rows_only i'.matrices_only i'.terms_only)
 
-        pub end-stuck : (made a : Account) (b : InnerFit) → it ≡ Stuck made → a ≡ account ⊞ (one_solve ⊞ made) → b ≡ failed_fit NoStep a
+        pub end_stuck : (made a : Account) (b : InnerFit) → it ≡ Stuck made → a ≡ account ⊞ (one_solve ⊞ made) → b ≡ failed_fit NoStep a
             → InnerLeft G phi L (row (mu_row n) n r₀) r₀ r2 m₀ m2 t₀ t2 b
-        end-stuck made a b ei ha hb =
+        end_stuck made a b ei ha hb =
             let i' : IterationLeft G phi (row (eta_row n second) n r) (row (mu_row n) n r) (eta_row n (not second)) r r2 m m2 t t2 (Stuck made) = rw ei at i in
             rw (hb, ha, ← mu_kept) (stuck_end G phi L (row (mu_row n) n r') r₀ r r' r2 m₀ m m2 t₀ t t2 old second k account made g l i'.told rows_wide i'.rows_only i'.matrices_only i'.terms_only)
 
@@ -86,15 +86,15 @@ module _ (family : CarriedFamily) (link : CarriedLink) (phi : Float) (L n p q : 
           pub turn_on : stops old pwrss ≡ false → Going G phi L (row (mu_row n) n r') r' r2 m₀ m2 t₀ t2 pwrss (not second) (k + 1) a
           turn_on s = rw ha (goes_on G phi L (row (mu_row n) n r') r₀ r r' r2 m₀ m m2 t₀ t t2 old second k account made pwrss g l i'.told i'.rows_only i'.matrices_only i'.terms_only i'.few s)
 
-          pub end-stopped : (r3 m3 : List Float) (s : AtStop) (b : InnerFit) → stops old pwrss ≡ true → WorkRoom n p q r2 m2 t2 → Stops family y weights n p q (row (mu_row n) n r2) t2 r2 r3 m2 m3 s
+          pub end_stopped : (r3 m3 : List Float) (s : AtStop) (b : InnerFit) → stops old pwrss ≡ true → WorkRoom n p q r2 m2 t2 → Stops family y weights n p q (row (mu_row n) n r2) t2 r2 r3 m2 m3 s
               → b ≡ stopped_fit s (k + 1) (not second) a
               → InnerLeft G phi L (row (mu_row n) n r₀) r₀ r3 m₀ m3 t₀ t2 b
-          end-stopped r3 m3 s b es lent2 st hb =
+          end_stopped r3 m3 s b es lent2 st hb =
               let h = i'.told.held in
               let st' : Stops family y weights n p (q_of G.design) (row (mu_row n) n r2) t2 r2 r3 m2 m3 s = rw e at st in
               let sl : StopLeft G p (q_of G.design) i'.told.v (row (mu_row n) n r2) r2 r3 m2 m3 s = st' link G.design i'.told.v refl h.factor h.root h.u in
               rw (hb, ha, ← mu_kept)
-              (fit-stopped G phi L (row (mu_row n) n r') r₀ r r' r2 m₀ m m2 t₀ t t2 old second k account made pwrss g l i'.told i'.rows_only i'.matrices_only i'.terms_only r3 m3 s (rw e at lent2) sl es rows_wide)
+              (fit_stopped G phi L (row (mu_row n) n r') r₀ r r' r2 m₀ m m2 t₀ t t2 old second k account made pwrss g l i'.told i'.rows_only i'.matrices_only i'.terms_only r3 m3 s (rw e at lent2) sl es rows_wide)
 
 -- ---- a solve and its tries can be counted
 pub counted_fits : (k : ℕ) (account made : Account) (it : Iteration) → k ≤ 1000 → AtMost (run_to k) account → AtMost iteration_cap (tries_made it) → tries_made it ≡ made → SumFits account (one_solve ⊞ made)

@@ -244,16 +244,16 @@ module _ (G : Given) (phi : Float) (L : ℕ) (mu₀ : List Float) where
       unfolding after_stop
       ended = went ∙ rw e refl
 
-      eta-in : eta_row n (not second) + n ≤ mu_row n
-      eta-in = eta_before n (not second)
+      eta_in : eta_row n (not second) + n ≤ mu_row n
+      eta_in = eta_before n (not second)
 
       matrix_kept : (c w : ℕ) → Apart c w (root_inverse_place p q) (p * p) → c + w ≤ matrices_length p q → row c w m''' ≡ row c w m'
       matrix_kept c w a h = only_row c w (root_inverse_place p q) (p * p) a (omega (arith, lent.matrices_long)) sl.matrices_only
 
-      pub fit-stopped : Only 0 (rows_length n) r₀ r'
+      pub fit_stopped : Only 0 (rows_length n) r₀ r'
           → InnerLeft G phi L mu₀ r₀ r''' m₀ m''' t₀ t' (record { end = Stopped; iterations = k + 1; in_second = not second; deviance_sum = at.deviance_sum; fit = at.fit; laplace = at.laplace; account = more })
       unfolding run_of items_before mode_of mode_devs mode_sum mode_fit
-      fit-stopped or =
+      fit_stopped or =
           let lr : rows_length n ≤ length r'' = lent.rows_long in
           let ml : MatricesLaid p q = (laid_out lent.sizes).matrices in
           let i : tally (a_fit ∷ whole.items) ≡ more = g.items ∙ rw ended (went_items (record { ending = stopped mode; items = [] }) ∙ rw (tally_none) (plus_none more)) in
@@ -265,7 +265,7 @@ module _ (G : Given) (phi : Float) (L : ℕ) (mu₀ : List Float) where
                   results =
                       record {
                         place = ap not g.place ∙ sym (turned_more k);
-                        eta = only_row (eta_row n (not second)) n (deviance_row n) n (inl (omega (arith, eta-in))) (omega (arith, eta-in)) sl.rows_only;
+                        eta = only_row (eta_row n (not second)) n (deviance_row n) n (inl (omega (arith, eta_in))) (omega (arith, eta_in)) sl.rows_only;
                         mu = only_row (mu_row n) n (deviance_row n) n (inl (omega arith)) (omega arith) sl.rows_only;
                         inverse = sl.inverse;
                         beta = matrix_kept (beta_place p q) p (inr (omega arith)) (omega (arith, ml.beta, ml.beta_end_lem)) ∙ x.held.beta;

@@ -49,11 +49,11 @@ marked_step columns s k b n v w l c h m i g = rw (one_more columns s k i l) (by_
         or_true true = refl
         or_true false = refl
     by_test false e =
-        get_or-set_other w (b + columns !! k) (b + i) one_f nan (λ q. eqb-false (columns !! k) i e (omega arith)) ∙ m i g ∙ or-false (stored_in columns s k i)
+        get_or-set_other w (b + columns !! k) (b + i) one_f nan (λ q. eqb-false (columns !! k) i e (omega arith)) ∙ m i g ∙ or_false (stored_in columns s k i)
       where
-        or-false : (x : Bool) → cond x one_f (v ! (b + i)) ≡ cond (x || false) one_f (v ! (b + i))
-        or-false true = refl
-        or-false false = refl
+        or_false : (x : Bool) → cond x one_f (v ! (b + i)) ≡ cond (x || false) one_f (v ! (b + i))
+        or_false true = refl
+        or_false false = refl
 
 -- ---- a place of a row that is set
 pub only_set : (b n c : ℕ) (x : Float) (v w : List Float) → c < n → Only b n v w → Only b n v (set w (b + c) x)

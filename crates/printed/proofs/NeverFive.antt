@@ -17,7 +17,7 @@ use Rattle.dispersion.specs.Rounds.{Result, result, no_result, Dispersed}
 use Rattle.job.specs.declared.faults.Fault.{Fault}
 use Rattle.job.specs.declared.faults.Fault.TheVariants.{Sound, At}
 use Rattle.job.specs.Faults.{fault_of}
-use Rattle.job.proofs.FaultNumbers.{Numbered, fault-numbers}
+use Rattle.job.proofs.FaultNumbers.{Numbered, fault_numbers}
 use Rattle.lines.specs.Decimals.{decimals, trimmed, decimal_of}
 use Rattle.lines.specs.Lines.{pair_text, pairs_text, line_of, end_pairs, end_line, refused_line}
 use Rattle.call.specs.Fit.{Fitted}
@@ -53,7 +53,7 @@ refusal_other StartFit = other 27 50 (λ b. refl) (λ z. omega arith)
 fault_other : (s : List ℕ) → Numbered Other (fault_of s)
 unfolding refused_line line_of pair_text pairs_text decimal_of decimals trimmed
 fault_other s =
-    fault-numbers Other (other 20 50 (λ b. refl) (λ z. omega arith)) (other 22 50 (λ b. refl) (λ z. omega arith)) (other 23 50 (λ b. refl) (λ z. omega arith))
+    fault_numbers Other (other 20 50 (λ b. refl) (λ z. omega arith)) (other 22 50 (λ b. refl) (λ z. omega arith)) (other 23 50 (λ b. refl) (λ z. omega arith))
     (other 1 49 (λ b. refl) (λ z. omega arith)) (other 21 50 (λ b. refl) (λ z. omega arith)) (other 24 50 (λ b. refl) (λ z. omega arith))
     (other 25 50 (λ b. refl) (λ z. omega arith)) s
 

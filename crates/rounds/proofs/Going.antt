@@ -93,47 +93,47 @@ module _ (G : Given) (mu : List Float) (wish L : ℕ) (effective : Float) where
         ended G mu wish L phi false whole o r₀ r r' m₀ m m' t₀ t t' g.rows_only g.matrices_only g.terms_only a i b f s ef
 
     module _ (less : k < 240) where
-      left-turn : 240 - k ≡ suc (240 - (k + 1))
-      left-turn = omega arith
+      left_turn : 240 - k ≡ suc (240 - (k + 1))
+      left_turn = omega arith
 
       -- the loop settles where nothing is to follow
-      settled-rest : (x : InnerEnd) → (inner_of G wish phi L mu).ending ≡ x → AnswerTold x G r' m' a → round_after a.end effective phi a.deviance_sum ≡ Settled
+      settled_rest : (x : InnerEnd) → (inner_of G wish phi L mu).ending ≡ x → AnswerTold x G r' m' a → round_after a.end effective phi a.deviance_sum ≡ Settled
           → rest_at k phi ≡ last_fit true phi (inner phi)
       unfolding inner_at total_of result_by round_after last_fit with_flag
-      settled-rest (without_mode e) q h s =
+      settled_rest (without_mode e) q h s =
           let o : (inner phi).outcome ≡ no_result e = ap result_by q in
-          rw left-turn (round_unfitted effective sum_of inner (240 - (k + 1)) phi e o ∙ rw q refl)
-      settled-rest (with_mode M n) q h s =
+          rw left_turn (round_unfitted effective sum_of inner (240 - (k + 1)) phi e o ∙ rw q refl)
+      settled_rest (with_mode M n) q h s =
           let o : (inner phi).outcome ≡ result (record { mode = M; integral = n }) = ap result_by q in
           let s' : round_of effective phi M.dev_sum ≡ Settled = rw (h.end, h.sum) at s in
-          rw left-turn (round_settled effective sum_of inner (240 - (k + 1)) phi (record { mode = M; integral = n }) o s' ∙ rw q refl)
+          rw left_turn (round_settled effective sum_of inner (240 - (k + 1)) phi (record { mode = M; integral = n }) o s' ∙ rw q refl)
 
-      pub end-settled : (b : Account) (f : Fit) → round_after a.end effective phi a.deviance_sum ≡ Settled → b ≡ account ⊞ a.account → f ≡ fit_from a.end a phi true b
+      pub end_settled : (b : Account) (f : Fit) → round_after a.end effective phi a.deviance_sum ≡ Settled → b ≡ account ⊞ a.account → f ≡ fit_from a.end a phi true b
           → FitLeft G whole r₀ r' m₀ m' t₀ t' f
       unfolding last_fit inner_at total_of
-      end-settled b f s eb ef =
-          let rest : rest_at k phi ≡ last_fit true phi (inner phi) = settled-rest (inner_of G wish phi L mu).ending refl i.told s in
+      end_settled b f s eb ef =
+          let rest : rest_at k phi ≡ last_fit true phi (inner phi) = settled_rest (inner_of G wish phi L mu).ending refl i.told s in
           let o : whole.outcome ≡ with_flag true phi (inner phi).outcome = g.outcome ∙ rw rest refl in
           let c : tally whole.items ≡ b = g.items ∙ (rw (rest, eb, i.counted) refl) in
           ended G mu wish L phi true whole o r₀ r r' m₀ m m' t₀ t t' g.rows_only g.matrices_only g.terms_only a i b f c ef
 
       -- it goes on at the next phi
-      next-rest : (next : Float) (x : InnerEnd) → (inner_of G wish phi L mu).ending ≡ x → AnswerTold x G r' m' a → round_after a.end effective phi a.deviance_sum ≡ Next next
+      next_rest : (next : Float) (x : InnerEnd) → (inner_of G wish phi L mu).ending ≡ x → AnswerTold x G r' m' a → round_after a.end effective phi a.deviance_sum ≡ Next next
           → rest_at k phi ≡ total_before (inner phi).items (rest_at (k + 1) next)
       unfolding inner_at total_of result_by round_after
-      next-rest next (without_mode e) q h s =
+      next_rest next (without_mode e) q h s =
           let s' : Settled ≡ Next next = rw h at s in
           absurd (ff (sym (ap is_settled s')))
-      next-rest next (with_mode M n) q h s =
+      next_rest next (with_mode M n) q h s =
           let o : (inner phi).outcome ≡ result (record { mode = M; integral = n }) = ap result_by q in
           let s' : round_of effective phi M.dev_sum ≡ Next next = rw (h.end, h.sum) at s in
-          rw left-turn (round_next effective sum_of inner (240 - (k + 1)) phi (record { mode = M; integral = n }) next o s')
+          rw left_turn (round_next effective sum_of inner (240 - (k + 1)) phi (record { mode = M; integral = n }) next o s')
 
       pub turn_on : (b : Account) (next : Float) → good_shape G.design.shape ≡ true → L ≤ 1000 → round_after a.end effective phi a.deviance_sum ≡ Next next → b ≡ account ⊞ a.account
           → Going r₀ r' m₀ m' t₀ t' next b (k + 1)
       unfolding total_before inner_at total_of
       turn_on b next good few s eb =
-          let rest : rest_at k phi ≡ total_before (inner phi).items (rest_at (k + 1) next) = next-rest next (inner_of G wish phi L mu).ending refl i.told s in
+          let rest : rest_at k phi ≡ total_before (inner phi).items (rest_at (k + 1) next) = next_rest next (inner_of G wish phi L mu).ending refl i.told s in
           let one : AtMost inner_cap a.account = rw i.counted (inner_at_capped G mu wish L good few phi) in
           let c : tally whole.items ≡ account ⊞ (tally (inner phi).items ⊞ tally (rest_at (k + 1) next).items) =
           g.items ∙ (rw rest (ap (λ (x : Account). account ⊞ x) (tally_append (inner phi).items (rest_at (k + 1) next).items))) in

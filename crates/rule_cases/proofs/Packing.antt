@@ -37,7 +37,7 @@ use Rattle.family_lists.specs.Aic.{log_weights, gaussian_term, gaussian_aic, den
 use Rattle.family_lists.specs.Lists.{each, weight_sum, lengths_agree, dev_resid_at}
 use Rattle.factor.specs.Factor.{ldl_term, ldl_sum, ldl_pivot, ldl_below, ldl_rule, ldl_of, ldl_passes, ldl_end, cholesky_pivot, cholesky_below, cholesky_rule, cholesky_of, cholesky_passes, cholesky_end}
 use Rattle.factor.specs.Inverse.{unit_at, unit_column, ldl_column, ldl_inverse_at, ldl_column_at, ldl_inverse, cholesky_column, cholesky_column_at, cholesky_inverse, v_at}
-use Rattle.factor.specs.Substitution.{across_term, down_term, unit_forward_rule, unit_backward_rule, over_drule, forward_rule, backward_rule, unit_forward, over_d, unit_backward, forward, backward, ldl_solve, cholesky_solve}
+use Rattle.factor.specs.Substitution.{across_term, down_term, unit_forward_rule, unit_backward_rule, over_d_rule, forward_rule, backward_rule, unit_forward, over_d, unit_backward, forward, backward, ldl_solve, cholesky_solve}
 use Rattle.factor.specs.Transpose.{turned_at, swapped, row_turned, square_turned}
 use Rattle.factor.specs.Triangle.{rows_dot, triangle, row_by, usable, positive, and_then, first_bad, reach}
 use Rattle.lambda.specs.Column.{block_of, column_start, column_in, column_of, is_entry, lambda_at, lambda_full}
@@ -63,5 +63,5 @@ abbrev answer : Told
 answer = record { number = 0; iterations = 6; account = record { fits = 1; solves = 6; tries = 6; points = 0; eta = 0; mean = 0; pwrss = 0; ok = 6 }; deviance = bits 0x4011_9bbc_e074_05f7; beta = bits 0x3fdf_6925_04b5_8caa ∷ []; se = bits 0x3fee_5674_0b0b_f1a4 ∷ []; z = bits 0x3fe0_90df_089c_f50b ∷ []; u = bits 0x3fd4_b54c_2aac_a7b2 ∷ bits 0x3fd2_f70e_751d_7005 ∷ bits 0xbfd7_444c_3a8a_a1e6 ∷ []; b = bits 0x3fd2_a32a_f334_fd54 ∷ bits 0x3fd1_6acc_8db7_2327 ∷ bits 0xbfcf_e610_a31f_89b6 ∷ []; mu = bits 0x4000_c05b_ba00_000a ∷ bits 0x3ffc_e83c_7c5a_947f ∷ bits 0x4008_cb86_07d2_b5b8 ∷ []; eta = bits 0x3fe7_a637_c99f_ff74 ∷ bits 0x3fe2_ed93_9728_5f18 ∷ bits 0x3ff2_1966_42a0_fc68 ∷ []; residual = bits 0xbff1_80b7_7400_0014 ∷ bits 0x3fc8_be1c_1d2b_5c08 ∷ bits 0x3fec_d1e7_e0b5_2920 ∷ []; v = bits 0x3fec_c303_2616_9561 ∷ [] }
 
 pub holds : told_of job 100 ≡ answer
-unfolding told_mode told_v told_ending told_outcome told_of add sub mul div neg lt le eq ne is_nan of_bits to_bits of_int to_unsigned round ruled fill_by fill_down build matrix fill_to fill_at grid_to finite infinite negative abs_f max_f clamp_f row not_falling good_starts column_fits good_columns good_row good_rows stored_in find_to place_in stored value_at row_sum both_sum sum_to sum_from add_where sum_where all_to any_to with_digit nearest_from place_of root_of units_of sqrt_of exp_table exp_row log_table log_row reduced row_tail scale_bits excess scaled large refitted fitted small edge ended exp_main above_zero exp_two exp_far exp_of quotient_of rest_of scaled_of up_of down_of grown_of shrunk_of grown_by shrunk_by rising_of falling_of expm1_main above_minus_one expm1_of near_one ln_near ln_row ln_main ln_far ln_of tail_of lost_of split_of far_of ln1p_main ln1p_of near_poly near_sum near_of ln_sum whole_of power_of inverse_power_of next_of below_two product_of lowered_of below_eight series_of stirling_by stirling_of ln_gamma_of about_two about_least about_one below_three density_of norm_pdf from_zero_to_one norm_cdf central_of near_part distant_part guess_by guess_of upper_quantile inside_of norm_quantile on_grid half_square half_rest root_rest erf_rest taken_from tail_near erfc_near_one tail_middle inner_part outer_part far_part tail_by tail_far upper_tail ◌⊞◌ refused_answer unfitted_answer fitted_answer tries_cap points_cap inner_cap_of count_of tally family_coded link_coded start_coded limit_of good_limit good_sizes total_to block_effects block_thetas good_block good_shape links_for among valid_for variance_of success_term binomial_term poisson_term gamma_term proportion in_range dev_resid initialize_mu trials_mean has_density ln_dgamma clamp_e link_fun logistic link_inv cloglog_slope mu_eta log_weights gaussian_term gaussian_aic density_at density_term gamma_aic aic_of aic_answer each weight_sum lengths_agree dev_resid_at ldl_term ldl_sum ldl_pivot ldl_below ldl_rule ldl_of ldl_passes ldl_end cholesky_pivot cholesky_below cholesky_rule cholesky_of cholesky_passes cholesky_end unit_at unit_column ldl_column ldl_inverse_at ldl_column_at ldl_inverse cholesky_column cholesky_column_at cholesky_inverse v_at across_term down_term unit_forward_rule unit_backward_rule over_drule forward_rule backward_rule unit_forward over_d unit_backward forward backward ldl_solve cholesky_solve turned_at swapped row_turned square_turned rows_dot triangle row_by usable positive and_then first_bad reach block_of column_start column_in column_of is_entry lambda_at lambda_full across_row down_column times_term lambda_times_at transposed_term lambda_transposed_at right_term right_at left_term system_at column_added_at effect_at normal_at stored_term zt_times_at weighted_term ztwz_at effect_term z_times_at added_at absent plus_offset less_offset v_from v_of se_at se_of z_value_at z_values residual_at residuals_of items_before failed_after after_stop moved after_search after_solve run_from start_mean start_mean_at start_means start_eta_at start_eta start_at run_of ztwz_of right_columns system_of factor_of zt_times side_of wy_of unsolved_column solved_column solved_column_at solved_columns normal_entry normal_of normal_side_at normal_side beta_of effects_after b_of z_times raw_at raw_of reduced_of found_with found_beta found after_root solve_root solve_normal solve_reduced after_factor solve_factor solve_system solve_working solve_of stops deviances_of deviance_sum fit_term log_pivot_at log_pivots laplace_of mode_fit mode_sum mode_devs mode_of candidate_at candidate_of fine_eta mean_at means_of square_at add_to pwrss_of after_pwrss try_pwrss after_means try_means after_eta try_eta try_of item_before after_try tries_from tries_of trial_of working_weight working_weight_at divisor working_response working_response_at working_weights working_responses target_at targets weighted_targets weighted_column
+unfolding told_mode told_v told_ending told_outcome told_of add sub mul div neg lt le eq ne is_nan of_bits to_bits of_int to_unsigned round ruled fill_by fill_down build matrix fill_to fill_at grid_to finite infinite negative abs_f max_f clamp_f row not_falling good_starts column_fits good_columns good_row good_rows stored_in find_to place_in stored value_at row_sum both_sum sum_to sum_from add_where sum_where all_to any_to with_digit nearest_from place_of root_of units_of sqrt_of exp_table exp_row log_table log_row reduced row_tail scale_bits excess scaled large refitted fitted small edge ended exp_main above_zero exp_two exp_far exp_of quotient_of rest_of scaled_of up_of down_of grown_of shrunk_of grown_by shrunk_by rising_of falling_of expm1_main above_minus_one expm1_of near_one ln_near ln_row ln_main ln_far ln_of tail_of lost_of split_of far_of ln1p_main ln1p_of near_poly near_sum near_of ln_sum whole_of power_of inverse_power_of next_of below_two product_of lowered_of below_eight series_of stirling_by stirling_of ln_gamma_of about_two about_least about_one below_three density_of norm_pdf from_zero_to_one norm_cdf central_of near_part distant_part guess_by guess_of upper_quantile inside_of norm_quantile on_grid half_square half_rest root_rest erf_rest taken_from tail_near erfc_near_one tail_middle inner_part outer_part far_part tail_by tail_far upper_tail ◌⊞◌ refused_answer unfitted_answer fitted_answer tries_cap points_cap inner_cap_of count_of tally family_coded link_coded start_coded limit_of good_limit good_sizes total_to block_effects block_thetas good_block good_shape links_for among valid_for variance_of success_term binomial_term poisson_term gamma_term proportion in_range dev_resid initialize_mu trials_mean has_density ln_dgamma clamp_e link_fun logistic link_inv cloglog_slope mu_eta log_weights gaussian_term gaussian_aic density_at density_term gamma_aic aic_of aic_answer each weight_sum lengths_agree dev_resid_at ldl_term ldl_sum ldl_pivot ldl_below ldl_rule ldl_of ldl_passes ldl_end cholesky_pivot cholesky_below cholesky_rule cholesky_of cholesky_passes cholesky_end unit_at unit_column ldl_column ldl_inverse_at ldl_column_at ldl_inverse cholesky_column cholesky_column_at cholesky_inverse v_at across_term down_term unit_forward_rule unit_backward_rule over_d_rule forward_rule backward_rule unit_forward over_d unit_backward forward backward ldl_solve cholesky_solve turned_at swapped row_turned square_turned rows_dot triangle row_by usable positive and_then first_bad reach block_of column_start column_in column_of is_entry lambda_at lambda_full across_row down_column times_term lambda_times_at transposed_term lambda_transposed_at right_term right_at left_term system_at column_added_at effect_at normal_at stored_term zt_times_at weighted_term ztwz_at effect_term z_times_at added_at absent plus_offset less_offset v_from v_of se_at se_of z_value_at z_values residual_at residuals_of items_before failed_after after_stop moved after_search after_solve run_from start_mean start_mean_at start_means start_eta_at start_eta start_at run_of ztwz_of right_columns system_of factor_of zt_times side_of wy_of unsolved_column solved_column solved_column_at solved_columns normal_entry normal_of normal_side_at normal_side beta_of effects_after b_of z_times raw_at raw_of reduced_of found_with found_beta found after_root solve_root solve_normal solve_reduced after_factor solve_factor solve_system solve_working solve_of stops deviances_of deviance_sum fit_term log_pivot_at log_pivots laplace_of mode_fit mode_sum mode_devs mode_of candidate_at candidate_of fine_eta mean_at means_of square_at add_to pwrss_of after_pwrss try_pwrss after_means try_means after_eta try_eta try_of item_before after_try tries_from tries_of trial_of working_weight working_weight_at divisor working_response working_response_at working_weights working_responses target_at targets weighted_targets weighted_column
 holds = refl

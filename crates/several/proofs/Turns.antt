@@ -56,21 +56,21 @@ module _ (family : CarriedFamily) (link : CarriedLink) (shape : Shape) (theta : 
           (filled_same s k (moved_at k (row l (k * k) m) (nodes_at nodes size k i) s (row u q m)) (row trial q m) (row trial q m1) (omega (arith, g.within, row_length trial q m (omega (arith, g.in_m)))) o)
 
       module _ (r2 m2 : List Float) (x : Float) (c : PointIn (group_term_in (gain_in family link shape theta Z y weights offset n q xbeta r1) s k inv nodes logs size (row l (k * k) m1) (row u q m1) (row trial q m1) i) (group_effects s k nodes size (row l (k * k) m1) (row u q m1) (row trial q m1) i) n q xbeta trial r1 r2 m1 m2 x) where
-        group-same : group_term_in (gain_in family link shape theta Z y weights offset n q xbeta r1) s k inv nodes logs size (row l (k * k) m1) (row u q m1) (row trial q m1) i ≡ group_term_in (gain_in family link shape theta Z y weights offset n q xbeta r) s k inv nodes logs size (row l (k * k) m) (row u q m) (row trial q m) i
+        group_same : group_term_in (gain_in family link shape theta Z y weights offset n q xbeta r1) s k inv nodes logs size (row l (k * k) m1) (row u q m1) (row trial q m1) i ≡ group_term_in (gain_in family link shape theta Z y weights offset n q xbeta r) s k inv nodes logs size (row l (k * k) m) (row u q m) (row trial q m) i
         unfolding group_term_in
-        group-same = rw (gain_kept family link shape theta Z y weights offset n q xbeta r r1 hr p.in_r, same_effects, only_row u q trial (q + q + q) (inl g.hats) (omega (arith, g.hats, g.in_m)) p.in_m) refl
+        group_same = rw (gain_kept family link shape theta Z y weights offset n q xbeta r r1 hr p.in_r, same_effects, only_row u q trial (q + q + q) (inl g.hats) (omega (arith, g.hats, g.in_m)) p.in_m) refl
 
         -- and the trial row outside the group's places is as it was
-        pub group-turn : (TermsIn (group_term_in (gain_in family link shape theta Z y weights offset n q xbeta r) s k inv nodes logs size (row l (k * k) m) (row u q m) (row trial q m)) n q xbeta trial (i + 1) r r2 m m2 t (set t1 i x)) × (Only s k (row trial q m) (row trial q m2))
+        pub group_turn : (TermsIn (group_term_in (gain_in family link shape theta Z y weights offset n q xbeta r) s k inv nodes logs size (row l (k * k) m) (row u q m) (row trial q m)) n q xbeta trial (i + 1) r r2 m m2 t (set t1 i x)) × (Only s k (row trial q m) (row trial q m2))
         unfolding group_effects moved_effects
-        group-turn = (terms_step p c group-same, rw (c.effects ∙ same_effects) (fillat_only s k k (moved_at k (row l (k * k) m) (nodes_at nodes size k i) s (row u q m)) (row trial q m) (omega arith)))
+        group_turn = (terms_step p c group_same, rw (c.effects ∙ same_effects) (fillat_only s k k (moved_at k (row l (k * k) m) (nodes_at nodes size k i) s (row u q m)) (row trial q m) (omega arith)))
 
     -- of all effects
     module _ (hats : Float) (g : Grid q 0 q size l u trial nodes m) (h : hats ≡ dot_of q (row u q m) (row u q m)) (p : TermsIn (joint_term_in (gain_in family link shape theta Z y weights offset n q xbeta r) q inv nodes logs size (row l (q * q) m) (row u q m)) n q xbeta trial i r r1 m m1 t t1) where
-      joint-same : joint_term_with (gain_in family link shape theta Z y weights offset n q xbeta r1) q (log_weight_in logs size q i) inv hats (joint_effects q nodes size (row l (q * q) m1) (row u q m1) i) ≡ joint_term_in (gain_in family link shape theta Z y weights offset n q xbeta r) q inv nodes logs size (row l (q * q) m) (row u q m) i
+      joint_same : joint_term_with (gain_in family link shape theta Z y weights offset n q xbeta r1) q (log_weight_in logs size q i) inv hats (joint_effects q nodes size (row l (q * q) m1) (row u q m1) i) ≡ joint_term_in (gain_in family link shape theta Z y weights offset n q xbeta r) q inv nodes logs size (row l (q * q) m) (row u q m) i
       unfolding joint_term_in
-      joint-same = rw (gain_kept family link shape theta Z y weights offset n q xbeta r r1 hr p.in_r, h, only_row l (q * q) trial (q + q + q) (inl (omega (arith, g.factor, g.hats))) (omega (arith, g.factor, g.hats, g.in_m)) p.in_m, only_row u q trial (q + q + q) (inl g.hats) (omega (arith, g.hats, g.in_m)) p.in_m) refl
+      joint_same = rw (gain_kept family link shape theta Z y weights offset n q xbeta r r1 hr p.in_r, h, only_row l (q * q) trial (q + q + q) (inl (omega (arith, g.factor, g.hats))) (omega (arith, g.factor, g.hats, g.in_m)) p.in_m, only_row u q trial (q + q + q) (inl g.hats) (omega (arith, g.hats, g.in_m)) p.in_m) refl
 
-      pub joint-turn : (r2 m2 : List Float) (x : Float) → PointIn (joint_term_with (gain_in family link shape theta Z y weights offset n q xbeta r1) q (log_weight_in logs size q i) inv hats (joint_effects q nodes size (row l (q * q) m1) (row u q m1) i)) (joint_effects q nodes size (row l (q * q) m1) (row u q m1) i) n q xbeta trial r1 r2 m1 m2 x
+      pub joint_turn : (r2 m2 : List Float) (x : Float) → PointIn (joint_term_with (gain_in family link shape theta Z y weights offset n q xbeta r1) q (log_weight_in logs size q i) inv hats (joint_effects q nodes size (row l (q * q) m1) (row u q m1) i)) (joint_effects q nodes size (row l (q * q) m1) (row u q m1) i) n q xbeta trial r1 r2 m1 m2 x
           → TermsIn (joint_term_in (gain_in family link shape theta Z y weights offset n q xbeta r) q inv nodes logs size (row l (q * q) m) (row u q m)) n q xbeta trial (i + 1) r r2 m m2 t (set t1 i x)
-      joint-turn r2 m2 x c = terms_step p c joint-same
+      joint_turn r2 m2 x c = terms_step p c joint_same

@@ -18,7 +18,7 @@ use Rattle.base.proofs.Fills.{build_cong, length_fill, fill_in}
 use Rattle.base.proofs.Rows.{row_length, row_build, front_is, only_row, only_wide, fillat_only, fillat_wrote}
 use Rattle.layout.specs.Layout.{WorkRoom}
 use Rattle.layout.specs.WorkRows.{xbeta_row, deviance_row, mark_row}
-use Rattle.layout.specs.WorkMatrices.{u_place, trial_uplace}
+use Rattle.layout.specs.WorkMatrices.{u_place, trial_u_place}
 use Rattle.layout.specs.WorkTerms.{terms_length}
 use Rattle.layout.proofs.Inside.{xbeta_in, deviance_in, u_in, trial_u_in}
 use Rattle.quadrature.specs.Orders.{size_of}
@@ -49,7 +49,7 @@ front_filled count f t t' h e =
     (λ k l. rw (zero-add k) (fill_in count f t h k l)))
 
 -- û has been copied to the trial effects; the row of û is as it was
-module _ (n p q u trial : ℕ) (r m t : List Float) (lent : WorkRoom n p q r m t) (eu : u ≡ u_place p q) (et : trial ≡ trial_uplace p q) where
+module _ (n p q u trial : ℕ) (r m t : List Float) (lent : WorkRoom n p q r m t) (eu : u ≡ u_place p q) (et : trial ≡ trial_u_place p q) where
   abbrev copy : List Float
   copy = fill_at trial q (entry_from m u) m
 

@@ -7,7 +7,7 @@ use lib.ListN.{length}
 use lib.Ieee.{Float}
 use Rattle.base.specs.List.{fill_to}
 use Rattle.layout.specs.Layout.{WorkRoom}
-use Rattle.layout.specs.WorkMatrices.{inverse_place, u_place, trial_uplace}
+use Rattle.layout.specs.WorkMatrices.{inverse_place, u_place, trial_u_place}
 use Rattle.layout.specs.WorkTerms.{terms_length}
 use Rattle.quadrature.specs.Orders.{size_of}
 use Rattle.quadrature.specs.Rules.{rule_of}
@@ -21,12 +21,12 @@ use Rattle.several.specs.Several.{Grid}
 use Rattle.several.proofs.Nodes.{logs_ruled}
 use Rattle.sums.proofs.Fronts.{rule_size, rule_weights, rule_some, rule_nodes_long, rule_weights_long, rule_finite}
 
-pub grid_places : (p q s k l u trial : ℕ) → s + k ≤ q → l ≡ inverse_place q → u ≡ u_place p q → trial ≡ trial_uplace p q → (l + k * k ≤ u) × (l + k * k ≤ trial) × (u + q ≤ trial)
+pub grid_places : (p q s k l u trial : ℕ) → s + k ≤ q → l ≡ inverse_place q → u ≡ u_place p q → trial ≡ trial_u_place p q → (l + k * k ≤ u) × (l + k * k ≤ trial) × (u + q ≤ trial)
 grid_places p q s k l u trial h el eu et = (omega (arith, square_within q s k h), omega (arith, square_within q s k h), omega arith)
 
 -- the points of a group, or of all effects: their places and their nodes
 pub grid_of : {n p q : ℕ} {r m t : List Float} (o : Order) (z : Rule) (s k l u trial : ℕ) (m' : List Float) → z ≡ rule_of o → WorkRoom n p q r m t → length m' ≡ length m → s + k ≤ q → l ≡ inverse_place q → u ≡ u_place p q
-    → trial ≡ trial_uplace p q → Grid q s k z.size l u trial z.nodes m'
+    → trial ≡ trial_u_place p q → Grid q s k z.size l u trial z.nodes m'
 grid_of {n} {p} {q} o z s k l u trial m' e lent em h el eu et =
     record {
       within = h;

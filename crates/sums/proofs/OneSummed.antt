@@ -15,7 +15,7 @@ use Rattle.model.specs.Shape.{effects_of}
 use Rattle.model.specs.declared.sizes.Shape.{Shape}
 use Rattle.layout.specs.Layout.{WorkRoom}
 use Rattle.layout.specs.WorkRows.{xbeta_row, mark_row}
-use Rattle.layout.specs.WorkMatrices.{system_place, u_place, trial_uplace}
+use Rattle.layout.specs.WorkMatrices.{system_place, u_place, trial_u_place}
 use Rattle.layout.proofs.Inside.{u_in}
 use Rattle.quadrature.specs.Orders.{size_of}
 use Rattle.quadrature.specs.Rules.{nodes_of, padded}
@@ -45,7 +45,7 @@ use Rattle.sums.proofs.Told.{one_declined, one_told}
 -- the terms, in the rule's words
 module _ (G : Given) (M : Mode) (phi : Float) (o : Order) (g : ℕ) (sigma : Float) (u trial mark xbeta : ℕ) (logs r r1 m t : List Float) (log : LogRow o logs)
     (lent : WorkRoom (n_of G) G.design.p (q_of G.design) r m t) (stands : Stands G M r m) (l : g < q_of G.design)
-    (eu : u ≡ u_place G.design.p (q_of G.design)) (et : trial ≡ trial_uplace G.design.p (q_of G.design)) (em : mark ≡ mark_row (n_of G)) (ex : xbeta ≡ xbeta_row (n_of G))
+    (eu : u ≡ u_place G.design.p (q_of G.design)) (et : trial ≡ trial_u_place G.design.p (q_of G.design)) (em : mark ≡ mark_row (n_of G)) (ex : xbeta ≡ xbeta_row (n_of G))
     (wrote : Wrote mark (n_of G) (build (mark_at G.design.zt g 1) (n_of G)) r r1) where
   abbrev n : ℕ
   n = n_of G
@@ -79,7 +79,7 @@ module _ (G : Given) (M : Mode) (phi : Float) (o : Order) (g : ℕ) (sigma : Flo
 module _ (family : CarriedFamily) (link : CarriedLink) (shape : Shape) (theta : List Float) (zt : Sparse) (y weights offset : List Float) (n p q : ℕ) (o : Order) (g : ℕ) (sigma phi inv : Float)
     (u trial mark xbeta size : ℕ) (nodes logs r r1 r2 m m1 m2 t t' : List Float) (a : GroupSum)
     (eq : q ≡ effects_of shape) (lent : WorkRoom n p q r m t) (l : g < q) (em : mark ≡ mark_row n) (wrote : Wrote mark n (build (mark_at zt g 1) n) r r1)
-    (eu : u ≡ u_place p q) (et : trial ≡ trial_uplace p q) (copied : m1 ≡ fill_at trial q (entry_from m u) m) (ex : xbeta ≡ xbeta_row n) (ei : inv ≡ inverse_phi phi)
+    (eu : u ≡ u_place p q) (et : trial ≡ trial_u_place p q) (copied : m1 ≡ fill_at trial q (entry_from m u) m) (ex : xbeta ≡ xbeta_row n) (ei : inv ≡ inverse_phi phi)
     (es : size ≡ size_of o) (en : nodes ≡ padded (nodes_of o)) (log : LogRow o logs)
     (made : OnesIn (one_term_at_node family link shape theta zt y weights offset n q xbeta g sigma inv (row u q m1) r1 (row trial q m1) nodes logs) n q xbeta trial size r1 r2 m1 m2 t t')
     (ea : a ≡ group_sum_of (row 0 size t')) where

@@ -4,7 +4,7 @@ use Rattle.base.specs.Number.{finite}
 use Rattle.base.specs.List.{build}
 use Rattle.base.specs.Rows.{Only, OnlyTwo}
 use Rattle.layout.specs.WorkRows.{point_row}
-use Rattle.layout.specs.WorkMatrices.{inverse_place, trial_uplace}
+use Rattle.layout.specs.WorkMatrices.{inverse_place, trial_u_place}
 use Rattle.layout.specs.WorkTerms.{terms_length}
 use Rattle.model.specs.Items.{a_point}
 use Rattle.quadrature.specs.declared.orders.Decline.TheVariants as decline
@@ -44,7 +44,7 @@ integrated_of a = record { answer = a.answer; items = replicate a.points a_point
 -- nothing has changed but the row of Zb and the marks, the factor of a block, the effects at a point with Λ times them and its nodes, and the terms
 pub record StepFrame (n p q : ℕ) (r r' m m' t t' : List Float) : Type 0 where
   pub rows_only : Only (point_row n) (n + n) r r'
-  pub matrices_only : OnlyTwo (inverse_place q) (q * q) (trial_uplace p q) (q + q + q) m m'
+  pub matrices_only : OnlyTwo (inverse_place q) (q * q) (trial_u_place p q) (q + q + q) m m'
   pub terms_only : Only 0 terms_length t t'
 
 -- the answer is the log sum of `count` terms, for every X and mode that the work slices hold

@@ -39,48 +39,48 @@ module _ (r : ℕ) (t : Settings) (s : Shape) (I : Inputs) (L : LentLengths) whe
     line_8 a = rw (sizes, a) refl
 
     module _ (count : good_count r ≡ true) where
-      pub line-2-inputs : good_inputs r t s I ≡ false → table_of r t s I L ≡ Refused Lengths
+      pub line_2_inputs : good_inputs r t s I ≡ false → table_of r t s I L ≡ Refused Lengths
       unfolding table_of refuse_unless
-      line-2-inputs a = rw (sizes, count, a) refl
+      line_2_inputs a = rw (sizes, count, a) refl
 
       module _ (lent : good_inputs r t s I ≡ true) where
-        pub line-2-results : good_results r t L ≡ false → table_of r t s I L ≡ Refused Lengths
+        pub line_2_results : good_results r t L ≡ false → table_of r t s I L ≡ Refused Lengths
         unfolding table_of refuse_unless
-        line-2-results a = rw (sizes, count, lent, a) refl
+        line_2_results a = rw (sizes, count, lent, a) refl
 
         module _ (results : good_results r t L ≡ true) where
-          pub line-7 : good_work t L ≡ false → table_of r t s I L ≡ Refused Work
+          pub line_7 : good_work t L ≡ false → table_of r t s I L ≡ Refused Work
           unfolding table_of refuse_unless
-          line-7 a = rw (sizes, count, lent, results, a) refl
+          line_7 a = rw (sizes, count, lent, results, a) refl
 
           module _ (work : good_work t L ≡ true) where
-            pub line-6 : good_rows I.starts I.columns t.rows t.n ≡ false → table_of r t s I L ≡ Refused SparseRows
+            pub line_6 : good_rows I.starts I.columns t.rows t.n ≡ false → table_of r t s I L ≡ Refused SparseRows
             unfolding table_of refuse_unless
-            line-6 a = rw (sizes, count, lent, results, work, a) refl
+            line_6 a = rw (sizes, count, lent, results, work, a) refl
 
             module _ (rows : good_rows I.starts I.columns t.rows t.n ≡ true) where
-              pub line-3 : good_numbers I ≡ false → table_of r t s I L ≡ Refused NotFinite
+              pub line_3 : good_numbers I ≡ false → table_of r t s I L ≡ Refused NotFinite
               unfolding table_of refuse_unless
-              line-3 a = rw (sizes, count, lent, results, work, rows, a) refl
+              line_3 a = rw (sizes, count, lent, results, work, rows, a) refl
 
               module _ (numbers : good_numbers I ≡ true) where
-                pub line-4 : valid_for t.link t.family ≡ false → table_of r t s I L ≡ Refused LinkForFamily
+                pub line_4 : valid_for t.link t.family ≡ false → table_of r t s I L ≡ Refused LinkForFamily
                 unfolding table_of refuse_unless
-                line-4 a = rw (sizes, count, lent, results, work, rows, numbers, a) refl
+                line_4 a = rw (sizes, count, lent, results, work, rows, numbers, a) refl
 
                 module _ (valid : valid_for t.link t.family ≡ true) where
-                  pub line-9 : all_in_range I.y (carried_family t.family) ≡ false → table_of r t s I L ≡ Refused ResponseRange
+                  pub line_9 : all_in_range I.y (carried_family t.family) ≡ false → table_of r t s I L ≡ Refused ResponseRange
                   unfolding table_of refuse_unless
-                  line-9 a = rw (sizes, count, lent, results, work, rows, numbers, valid, a) refl
+                  line_9 a = rw (sizes, count, lent, results, work, rows, numbers, valid, a) refl
 
                   module _ (ranged : all_in_range I.y (carried_family t.family) ≡ true) where
-                    pub line-27 : start_fits t.start I.weights (carried_family t.family) ≡ false → table_of r t s I L ≡ Refused StartFit
+                    pub line_27 : start_fits t.start I.weights (carried_family t.family) ≡ false → table_of r t s I L ≡ Refused StartFit
                     unfolding table_of refuse_unless
-                    line-27 a = rw (sizes, count, lent, results, work, rows, numbers, valid, ranged, a) refl
+                    line_27 a = rw (sizes, count, lent, results, work, rows, numbers, valid, ranged, a) refl
 
-                    pub past-lines : start_fits t.start I.weights (carried_family t.family) ≡ true → table_of r t s I L ≡ Accepted (carried_family t.family) (carried_link t.link)
+                    pub past_lines : start_fits t.start I.weights (carried_family t.family) ≡ true → table_of r t s I L ≡ Accepted (carried_family t.family) (carried_link t.link)
                     unfolding table_of refuse_unless
-                    past-lines a = rw (sizes, count, lent, results, work, rows, numbers, valid, ranged, a) refl
+                    past_lines a = rw (sizes, count, lent, results, work, rows, numbers, valid, ranged, a) refl
 
 -- the usual start passes always
 pub usual_passes : (weights : List Float) (f : CarriedFamily) → start_fits Usual weights f ≡ true

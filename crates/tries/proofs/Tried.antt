@@ -67,9 +67,9 @@ module _ (T : Trial) (next mu : ℕ) (step : Float) (v w : List Float) (apart : 
       sum = rw (part_row next T.n x, held') at summed
 
       -- refused by the third test
-      pub pwrss-refused : (r : Bool) → r ≡ finite p → r ≡ false → TryDone T next mu step v x PwrssRefused
+      pub pwrss_refused_lem : (r : Bool) → r ≡ finite p → r ≡ false → TryDone T next mu step v x PwrssRefused
       unfolding try_of try_eta after_eta try_means after_means try_pwrss after_pwrss
-      pwrss-refused r e h =
+      pwrss_refused_lem r e h =
           record {
             says = rw (fine f true told passed, finites g true told' passed', ← sum, ← e, h);
             candidate = held';
@@ -78,9 +78,9 @@ module _ (T : Trial) (next mu : ℕ) (step : Float) (v w : List Float) (apart : 
           }
 
       -- accepted
-      pub try-accepted : (r : Bool) → r ≡ finite p → r ≡ true → TryDone T next mu step v x (Accepted p)
+      pub try_accepted : (r : Bool) → r ≡ finite p → r ≡ true → TryDone T next mu step v x (Accepted p)
       unfolding try_of try_eta after_eta try_means after_means try_pwrss after_pwrss
-      try-accepted r e h =
+      try_accepted r e h =
           record {
             says = rw (held', means', fine f true told passed, finites g true told' passed', ← sum, ← e, h);
             candidate = held';

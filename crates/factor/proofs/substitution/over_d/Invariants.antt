@@ -3,11 +3,11 @@ use mathlib.Core.Path.{◌≡◌}
 use Prim.Native.Nat.{◌≤◌, ◌-◌}
 use lib.ListN.{length}
 use Rattle.base.specs.InPlace.{fill_by}
-use Rattle.factor.specs.Substitution.{over_drule}
+use Rattle.factor.specs.Substitution.{over_d_rule}
 use Rattle.factor.proofs.substitution.over_d.Given as goal
 
 abbrev pub invariant-loop-i : goal.invariant-loop-i
-invariant-loop-i l = (l.i ≤ l.s) × (length l.x ≡ length l.initial.x) × (l.x ≡ fill_by (over_drule l.s l.l) l.i l.initial.x)
+invariant-loop-i l = (l.i ≤ l.s) × (length l.x ≡ length l.initial.x) × (l.x ≡ fill_by (over_d_rule l.s l.l) l.i l.initial.x)
 
 abbrev pub decreases-loop-i : goal.decreases-loop-i
 decreases-loop-i l = l.s - l.i

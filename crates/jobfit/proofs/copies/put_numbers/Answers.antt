@@ -3,7 +3,7 @@ use mathlib.Core.Path.{◌∙◌}
 use native.Mathlib.Omega.{arith}
 use lib.ListN.{length-set}
 use Rattle.results.specs.Nine.{nine}
-use Rattle.jobfit.proofs.Behind.{two_length, fixed_room, effects_room, rows_room, v-room, numbers-laid}
+use Rattle.jobfit.proofs.Behind.{two_length, fixed_room, effects_room, rows_room, v_room, numbers_laid}
 use Rattle.jobfit.proofs.copies.put_numbers.Goals as goal
 
 pub bounds-out-0 : goal.bounds-out-0
@@ -34,7 +34,7 @@ copy_three-rows_end-requires c =
 pub copy_behind-requires : goal.copy_behind-requires
 copy_behind-requires c =
     let a = c.args in
-    v-room a.answer (nine a.beta.now a.se.now a.z.now a.u.now a.b.now a.mu.now a.eta.now a.residual.now a.v.now)
+    v_room a.answer (nine a.beta.now a.se.now a.z.now a.u.now a.b.now a.mu.now a.eta.now a.residual.now a.v.now)
     a.out.now c.requires _ _ c.copy_three-fixed_end.ensures c.copy_three-fixed_end.auto.out _ _ c.copy_two-effects_end.ensures
     c.copy_two-effects_end.auto.out _ _ c.copy_three-rows_end.ensures c.copy_three-rows_end.auto.out
 
@@ -47,7 +47,7 @@ shape_of-out c =
 pub returns : goal.returns
 returns c =
     let a = c.args in
-    numbers-laid a.answer (nine a.beta.now a.se.now a.z.now a.u.now a.b.now a.mu.now a.eta.now a.residual.now a.v.now)
+    numbers_laid a.answer (nine a.beta.now a.se.now a.z.now a.u.now a.b.now a.mu.now a.eta.now a.residual.now a.v.now)
     a.out.now c.requires _ _ c.copy_three-fixed_end.ensures c.copy_three-fixed_end.auto.out _ _ c.copy_two-effects_end.ensures
     c.copy_two-effects_end.auto.out _ _ c.copy_three-rows_end.ensures c.copy_three-rows_end.auto.out _ _
     c.copy_behind.ensures

@@ -1,7 +1,7 @@
 -- `many::fit_response` meets its contract: the parts that it lends are those of response i, and they come back in their places. Assumes nothing.
 use mathlib.Core.Path.{refl}
 use native.Mathlib.Omega.{arith}
-use Rattle.many.proofs.Placing.{fronts_part, response-done, rows_small, block_small, block_room}
+use Rattle.many.proofs.Placing.{fronts_part, response_done, rows_small, block_small, block_room}
 use Rattle.many.proofs.responses.fit_response.Goals as goal
 
 pub results_length-block-requires : goal.results_length-block-requires
@@ -95,6 +95,6 @@ shape_of-terms c = c.fit_fronts-answer.auto.terms
 pub returns : goal.returns
 returns c =
     let a = c.args in
-    response-done a.header a.shape a.theta.now a.y.now a.weights.now a.offset.now a.x.now a.starts.now a.columns.now
+    response_done a.header a.shape a.theta.now a.y.now a.weights.now a.offset.now a.x.now a.starts.now a.columns.now
     a.values.now a.i _ _ _ refl c.offset-from.ensures.0 refl _ _ _ _ _ c.results_length-block.ensures c.offset-first.ensures.0 refl
     c.offset-at.ensures.0 refl _ _ _ _ _ _ _ _ _ _ _ c.fit_fronts-answer.ensures c.put_counts.ensures

@@ -8,7 +8,7 @@ use Rattle.layout.specs.WorkRows.{mu_row}
 use Rattle.layout.proofs.Inside.{first_eta_in, mu_in}
 use Rattle.layout.proofs.LaidOut.{lent_kept}
 use Rattle.iteration.specs.Iterated.{tries_made}
-use Rattle.pirls.proofs.Fitted.{asked_kept, begun, end_spent, end-unsolved, end-stuck, counted_fits, turn_on, end-stopped}
+use Rattle.pirls.proofs.Fitted.{asked_kept, begun, end_spent, end_unsolved, end_stuck, counted_fits, turn_on, end_stopped}
 use Rattle.pirls.proofs.run.inner_fit.Goals as goal
 
 pub mu_row-requires : goal.mu_row-requires
@@ -48,7 +48,7 @@ shape_of-t-in-Unsolvable c = c.iterate-it.auto.t ∙ c.loop-k.invariant.terms_on
 pub returns-in-Unsolvable : goal.returns-in-Unsolvable
 returns-in-Unsolvable c =
     let args = c.args in
-    end-unsolved args.family args.link args.phi args.limit args.n args.p args.q args.shape args.theta.now args.offset.now
+    end_unsolved args.family args.link args.phi args.limit args.n args.p args.q args.shape args.theta.now args.offset.now
     args.x.now args.y.now args.weights.now _ c.requires.asked.ready.effects _ _ _ _ _ c.requires.asked.lent c.mu_row.ensures
     c.start_eta.ensures _ _ _ _ _ _ _ c.loop-k.invariant _ _ _ _ c.loop-k-test.true c.iterate-it.ensures _ _
     c.in-Unsolvable.is c.failed_fit.ensures
@@ -70,7 +70,7 @@ shape_of-t-in-Stuck c = c.iterate-it.auto.t ∙ c.loop-k.invariant.terms_only.le
 pub returns-in-Stuck : goal.returns-in-Stuck
 returns-in-Stuck c =
     let args = c.args in
-    end-stuck args.family args.link args.phi args.limit args.n args.p args.q args.shape args.theta.now args.offset.now
+    end_stuck args.family args.link args.phi args.limit args.n args.p args.q args.shape args.theta.now args.offset.now
     args.x.now args.y.now args.weights.now _ c.requires.asked.ready.effects _ _ _ _ _ c.requires.asked.lent c.mu_row.ensures
     c.start_eta.ensures _ _ _ _ _ _ _ c.loop-k.invariant _ _ _ _ c.loop-k-test.true c.iterate-it.ensures _ _ _
     c.in-Stuck.is c.with_solve.ensures c.failed_fit-in-Stuck.ensures
@@ -104,7 +104,7 @@ shape_of-t-then-stops c = c.iterate-it.auto.t ∙ c.loop-k.invariant.terms_only.
 pub returns-then-stops : goal.returns-then-stops
 returns-then-stops c =
     let args = c.args in
-    end-stopped args.family args.link args.phi args.limit args.n args.p args.q args.shape args.theta.now args.offset.now
+    end_stopped args.family args.link args.phi args.limit args.n args.p args.q args.shape args.theta.now args.offset.now
     args.x.now args.y.now args.weights.now _ c.requires.asked.ready.effects _ _ _ _ _ c.requires.asked.lent c.mu_row.ensures
     c.start_eta.ensures _ _ _ _ _ _ _ c.loop-k.invariant _ _ _ _ c.loop-k-test.true c.iterate-it.ensures _ _ _ c.in-Moved.is
     c.with_solve-account.ensures _ _ _ _ (sym c.stops.ensures ∙ c.if-stops.true)

@@ -6,7 +6,7 @@ use Rattle.stored.specs.Stored.{sparse}
 use Rattle.rule.specs.Given.{design_of, given_of}
 use Rattle.rule.specs.Run.{start_means}
 use Rattle.pirls.proofs.Fitted.{asked_kept}
-use Rattle.rounds.proofs.Going.{begun, sums_fit, end_spent, end-settled, turn_on}
+use Rattle.rounds.proofs.Going.{begun, sums_fit, end_spent, end_settled, turn_on}
 use Rattle.rounds.proofs.dispersing.dispersed_fit.Goals as goal
 
 pub loop-k-init : goal.loop-k-init
@@ -51,7 +51,7 @@ returns-in-Settled c =
     (design_of args.n args.p args.shape args.theta.now args.offset.now args.x.now
     (sparse args.starts.now args.columns.now args.values.now)) in
     rw (← c.effective_n-effective.ensures)
-    (end-settled given (start_means args.start given) args.wish args.limit _ _ _ _ _ _ _ _ _ _ _ _ _ c.loop-k.invariant _
+    (end_settled given (start_means args.start given) args.wish args.limit _ _ _ _ _ _ _ _ _ _ _ _ _ c.loop-k.invariant _
     c.inner_at-a.ensures c.loop-k-test.true _ _ (sym c.round_after-round.ensures ∙ c.in-Settled.is)
     c.plus-account.ensures c.fit_from.ensures)
 

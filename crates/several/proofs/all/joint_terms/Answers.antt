@@ -5,7 +5,7 @@ use native.Mathlib.Omega.{arith}
 use Rattle.base.proofs.Rows.{part_is}
 use Rattle.stored.specs.Stored.{sparse}
 use Rattle.several.proofs.Trials.{room_kept, grid_kept}
-use Rattle.several.proofs.Turns.{terms_none, terms_end, terms_length_lem, joint-turn, hats_of}
+use Rattle.several.proofs.Turns.{terms_none, terms_end, terms_length_lem, joint_turn, hats_of}
 use Rattle.several.proofs.all.joint_terms.Goals as goal
 
 pub overflow_add-end : goal.overflow_add-end
@@ -57,7 +57,7 @@ loop-i-preserved c =
     let at = c.loop-i in (
       omega (arith, c.loop-i-test.true),
       at.invariant.1,
-      joint-turn a.family a.link a.shape a.theta.now (sparse a.starts.now a.columns.now a.values.now) a.y.now a.weights.now
+      joint_turn a.family a.link a.shape a.theta.now (sparse a.starts.now a.columns.now a.values.now) a.y.now a.weights.now
           a.offset.now a.n a.q a.xbeta a.r.now at.r c.requires.room.in_r a.size a.l a.u a.trial a.nodes.now
           a.node_logs.now a.inv_phi a.m.now at.m a.terms.now at.terms at.i _ c.requires.grid at.invariant.1 at.invariant.2 _ _ _
           c.joint_point-term.ensures,

@@ -4,7 +4,7 @@ use native.Mathlib.Omega.{arith}
 use Rattle.base.proofs.Rows.{only_none}
 use Rattle.stored.specs.Stored.{sparse}
 use Rattle.several.proofs.Trials.{room_kept, grid_kept}
-use Rattle.several.proofs.Turns.{terms_none, terms_end, terms_length_lem, group-turn}
+use Rattle.several.proofs.Turns.{terms_none, terms_end, terms_length_lem, group_turn}
 use Rattle.several.proofs.group.group_terms.Goals as goal
 
 pub loop-i-init : goal.loop-i-init
@@ -37,7 +37,7 @@ pub loop-i-preserved : goal.loop-i-preserved
 loop-i-preserved c =
     let a = c.args in
     let at = c.loop-i in
-    let p = group-turn a.family a.link a.shape a.theta.now (sparse a.starts.now a.columns.now a.values.now) a.y.now
+    let p = group_turn a.family a.link a.shape a.theta.now (sparse a.starts.now a.columns.now a.values.now) a.y.now
     a.weights.now a.offset.now a.n a.q a.xbeta a.r.now at.r c.requires.room.in_r a.size a.l a.u a.trial a.nodes.now
     a.node_logs.now a.inv_phi a.m.now at.m a.terms.now at.terms at.i a.s a.k c.requires.grid at.invariant.1 at.invariant.2 _ _ _
     c.group_point-term.ensures in

@@ -4,7 +4,7 @@ use native.Mathlib.Omega.{arith}
 use Rattle.model.proofs.Sized.{sized}
 use Rattle.table.specs.Tests.{all_in_range, start_fits}
 use Rattle.table.proofs.Meant.{count_fits, inputs_fit}
-use Rattle.table.proofs.Accepting.{line_1, line_8, line-2-inputs, line-2-results, line-7, line-6, line-3, line-4, line-9, line-27, past-lines}
+use Rattle.table.proofs.Accepting.{line_1, line_8, line_2_inputs, line_2_results, line_7, line_6, line_3, line_4, line_9, line_27, past_lines}
 use Rattle.table.proofs.verdicts.verdict_of.Goals as goal
 
 pub sizes_ok-requires : goal.sizes_ok-requires
@@ -28,7 +28,7 @@ inputs_ok-requires c = (
 pub returns-then-not-inputs_ok : goal.returns-then-not-inputs_ok
 returns-then-not-inputs_ok c =
     sym
-    (line-2-inputs _ _ _ _ _ (sym c.sizes_ok.ensures ∙ c.if-not-sizes_ok.false) (sym c.count_ok.ensures ∙ c.if-not-count_ok.false)
+    (line_2_inputs _ _ _ _ _ (sym c.sizes_ok.ensures ∙ c.if-not-sizes_ok.false) (sym c.count_ok.ensures ∙ c.if-not-count_ok.false)
     (sym c.inputs_ok.ensures ∙ c.if-not-inputs_ok.true))
 
 pub results_ok-requires : goal.results_ok-requires
@@ -40,7 +40,7 @@ results_ok-requires c = (
 pub returns-then-not-results_ok : goal.returns-then-not-results_ok
 returns-then-not-results_ok c =
     sym
-    (line-2-results _ _ _ _ _ (sym c.sizes_ok.ensures ∙ c.if-not-sizes_ok.false)
+    (line_2_results _ _ _ _ _ (sym c.sizes_ok.ensures ∙ c.if-not-sizes_ok.false)
     (sym c.count_ok.ensures ∙ c.if-not-count_ok.false) (sym c.inputs_ok.ensures ∙ c.if-not-inputs_ok.false) (sym c.results_ok.ensures ∙ c.if-not-results_ok.true))
 
 pub work_ok-requires : goal.work_ok-requires
@@ -49,7 +49,7 @@ work_ok-requires c = (sized _ _ (sym c.sizes_ok.ensures ∙ c.if-not-sizes_ok.fa
 pub returns-then-not-work_ok : goal.returns-then-not-work_ok
 returns-then-not-work_ok c =
     sym
-    (line-7 _ _ _ _ _ (sym c.sizes_ok.ensures ∙ c.if-not-sizes_ok.false) (sym c.count_ok.ensures ∙ c.if-not-count_ok.false) (sym c.inputs_ok.ensures ∙ c.if-not-inputs_ok.false)
+    (line_7 _ _ _ _ _ (sym c.sizes_ok.ensures ∙ c.if-not-sizes_ok.false) (sym c.count_ok.ensures ∙ c.if-not-count_ok.false) (sym c.inputs_ok.ensures ∙ c.if-not-inputs_ok.false)
     (sym c.results_ok.ensures ∙ c.if-not-results_ok.false) (sym c.work_ok.ensures ∙ c.if-not-work_ok.true))
 
 pub rows_ok-requires : goal.rows_ok-requires
@@ -58,7 +58,7 @@ rows_ok-requires c = let f = inputs_fit _ _ _ _ (sym c.inputs_ok.ensures ∙ c.i
 pub returns-then-not-rows_ok : goal.returns-then-not-rows_ok
 returns-then-not-rows_ok c =
     sym
-    (line-6 _ _ _ _ _ (sym c.sizes_ok.ensures ∙ c.if-not-sizes_ok.false) (sym c.count_ok.ensures ∙ c.if-not-count_ok.false) (sym c.inputs_ok.ensures ∙ c.if-not-inputs_ok.false)
+    (line_6 _ _ _ _ _ (sym c.sizes_ok.ensures ∙ c.if-not-sizes_ok.false) (sym c.count_ok.ensures ∙ c.if-not-count_ok.false) (sym c.inputs_ok.ensures ∙ c.if-not-inputs_ok.false)
     (sym c.results_ok.ensures ∙ c.if-not-results_ok.false) (sym c.work_ok.ensures ∙ c.if-not-work_ok.false)
     (sym c.rows_ok.ensures ∙ c.if-not-rows_ok.true))
 
@@ -68,7 +68,7 @@ numbers_ok-requires c = omega arith
 pub returns-then-not-numbers_ok : goal.returns-then-not-numbers_ok
 returns-then-not-numbers_ok c =
     sym
-    (line-3 _ _ _ _ _ (sym c.sizes_ok.ensures ∙ c.if-not-sizes_ok.false) (sym c.count_ok.ensures ∙ c.if-not-count_ok.false) (sym c.inputs_ok.ensures ∙ c.if-not-inputs_ok.false)
+    (line_3 _ _ _ _ _ (sym c.sizes_ok.ensures ∙ c.if-not-sizes_ok.false) (sym c.count_ok.ensures ∙ c.if-not-count_ok.false) (sym c.inputs_ok.ensures ∙ c.if-not-inputs_ok.false)
     (sym c.results_ok.ensures ∙ c.if-not-results_ok.false) (sym c.work_ok.ensures ∙ c.if-not-work_ok.false)
     (sym c.rows_ok.ensures ∙ c.if-not-rows_ok.false) (sym c.numbers_ok.ensures ∙ c.if-not-numbers_ok.true))
 
@@ -78,7 +78,7 @@ valid_for-requires c = omega arith
 pub returns-then-not-valid_for : goal.returns-then-not-valid_for
 returns-then-not-valid_for c =
     sym
-    (line-4 _ _ _ _ _ (sym c.sizes_ok.ensures ∙ c.if-not-sizes_ok.false) (sym c.count_ok.ensures ∙ c.if-not-count_ok.false) (sym c.inputs_ok.ensures ∙ c.if-not-inputs_ok.false)
+    (line_4 _ _ _ _ _ (sym c.sizes_ok.ensures ∙ c.if-not-sizes_ok.false) (sym c.count_ok.ensures ∙ c.if-not-count_ok.false) (sym c.inputs_ok.ensures ∙ c.if-not-inputs_ok.false)
     (sym c.results_ok.ensures ∙ c.if-not-results_ok.false) (sym c.work_ok.ensures ∙ c.if-not-work_ok.false)
     (sym c.rows_ok.ensures ∙ c.if-not-rows_ok.false) (sym c.numbers_ok.ensures ∙ c.if-not-numbers_ok.false)
     (sym c.valid_for.ensures ∙ c.if-not-valid_for.true))
@@ -93,7 +93,7 @@ pub returns-then-not-responses_ok : goal.returns-then-not-responses_ok
 returns-then-not-responses_ok c =
     let same = ap (all_in_range _) (sym c.carried_family-carried.ensures) in
     sym
-    (line-9 _ _ _ _ _ (sym c.sizes_ok.ensures ∙ c.if-not-sizes_ok.false) (sym c.count_ok.ensures ∙ c.if-not-count_ok.false) (sym c.inputs_ok.ensures ∙ c.if-not-inputs_ok.false)
+    (line_9 _ _ _ _ _ (sym c.sizes_ok.ensures ∙ c.if-not-sizes_ok.false) (sym c.count_ok.ensures ∙ c.if-not-count_ok.false) (sym c.inputs_ok.ensures ∙ c.if-not-inputs_ok.false)
     (sym c.results_ok.ensures ∙ c.if-not-results_ok.false) (sym c.work_ok.ensures ∙ c.if-not-work_ok.false)
     (sym c.rows_ok.ensures ∙ c.if-not-rows_ok.false) (sym c.numbers_ok.ensures ∙ c.if-not-numbers_ok.false)
     (sym c.valid_for.ensures ∙ c.if-not-valid_for.false)
@@ -106,7 +106,7 @@ pub returns-then-not-start_ok : goal.returns-then-not-start_ok
 returns-then-not-start_ok c =
     let same = sym c.carried_family-carried.ensures in
     sym
-    (line-27 _ _ _ _ _ (sym c.sizes_ok.ensures ∙ c.if-not-sizes_ok.false) (sym c.count_ok.ensures ∙ c.if-not-count_ok.false) (sym c.inputs_ok.ensures ∙ c.if-not-inputs_ok.false)
+    (line_27 _ _ _ _ _ (sym c.sizes_ok.ensures ∙ c.if-not-sizes_ok.false) (sym c.count_ok.ensures ∙ c.if-not-count_ok.false) (sym c.inputs_ok.ensures ∙ c.if-not-inputs_ok.false)
     (sym c.results_ok.ensures ∙ c.if-not-results_ok.false) (sym c.work_ok.ensures ∙ c.if-not-work_ok.false)
     (sym c.rows_ok.ensures ∙ c.if-not-rows_ok.false) (sym c.numbers_ok.ensures ∙ c.if-not-numbers_ok.false)
     (sym c.valid_for.ensures ∙ c.if-not-valid_for.false)
@@ -121,7 +121,7 @@ returns c =
     let same = sym c.carried_family-carried.ensures in
     rw (c.carried_family-carried.ensures, c.carried_link.ensures)
     (sym
-    (past-lines _ _ _ _ _ (sym c.sizes_ok.ensures ∙ c.if-not-sizes_ok.false) (sym c.count_ok.ensures ∙ c.if-not-count_ok.false) (sym c.inputs_ok.ensures ∙ c.if-not-inputs_ok.false)
+    (past_lines _ _ _ _ _ (sym c.sizes_ok.ensures ∙ c.if-not-sizes_ok.false) (sym c.count_ok.ensures ∙ c.if-not-count_ok.false) (sym c.inputs_ok.ensures ∙ c.if-not-inputs_ok.false)
     (sym c.results_ok.ensures ∙ c.if-not-results_ok.false) (sym c.work_ok.ensures ∙ c.if-not-work_ok.false)
     (sym c.rows_ok.ensures ∙ c.if-not-rows_ok.false) (sym c.numbers_ok.ensures ∙ c.if-not-numbers_ok.false)
     (sym c.valid_for.ensures ∙ c.if-not-valid_for.false)
