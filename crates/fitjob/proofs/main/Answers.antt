@@ -4,7 +4,7 @@ use Rattle.fitjob.proofs.Reading.{printed_within}
 use Rattle.fitjob.proofs.main.Goals as goal
 
 pub answer-n-requires : goal.answer-n-requires
-answer-n-requires g c = omega (arith, c.read_input-input.ensures)
+answer-n-requires c = omega (arith, c.read_input-input.ensures)
 
 pub slice_bounds-put-end : goal.slice_bounds-put-end
-slice_bounds-put-end g c = omega (arith, printed_within _ _ _ _ _ _ _ c.answer-n.ensures)
+slice_bounds-put-end c = omega (arith, printed_within _ _ _ _ _ _ _ c.answer-n.ensures)

@@ -3,6 +3,6 @@ use native.Mathlib.Omega.{arith}
 use Rattle.fitmany.proofs.main.Goals as goal
 
 pub answer_held-requires : goal.answer_held-requires
-answer_held-requires g c =
+answer_held-requires c =
     let read = c.read_input-input in
     (omega (arith, read.ensures, read.auto.space), omega (arith, read.auto.space))
