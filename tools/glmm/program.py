@@ -117,8 +117,8 @@ def place(file="fitjob"):
 
 
 def building(file="fitjob"):
-    """The command that proves and builds a program or an archive, in its crate's folder. A program is run then, on nothing."""
-    return ["rt", "lib" if file.endswith(".a") else "run"]
+    """The command that proves and builds a program or an archive, in its crate's folder, for any x86-64 processor. A program is run then, on nothing."""
+    return ["rt", "lib" if file.endswith(".a") else "run", "--cpu", "x86-64"]
 
 
 def proved_in(line):
