@@ -1,4 +1,4 @@
-// Calls every function that glmm_c hands to C: the lengths, the elementary functions, and the fit of a job with lent buffers of given lengths. Prints what is
+// Calls what glmm_c's exports hand on to, but for many responses: the lengths, the elementary functions, and the fit of a job with lent buffers of given lengths. Prints what is
 // returned and what stands in every buffer. Every array holds 9.25, or 77, before a call, and a call is lent the beginnings of the arrays: what stands
 // behind must stay. It is fed as tools/cases/glmm_c.py says.
 #![tactic(auto)]
