@@ -88,8 +88,7 @@ pub fn one_terms(
         nodes.now node_logs.now) n q xbeta trial size r.old r.new m.old m.new
         terms.old terms.new }
 {
-    let mut i = 0;
-    while i < size {
+    for i in 0..size {
         let node = nodes[i];
         let weight = node_logs[i];
         let term = one_point(
@@ -97,6 +96,5 @@ pub fn one_terms(
             r, g, sigma, node, weight, inv_phi, u, trial, m,
         );
         terms[i] = term;
-        i += 1;
     }
 }

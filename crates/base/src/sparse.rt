@@ -13,12 +13,10 @@ pub fn starts_ok(starts: &[usize], rows: usize, count: usize) -> bool
     if starts[rows] != count {
         return false;
     }
-    let mut a = 0;
-    while a < rows {
+    for a in 0..rows {
         if starts[a + 1] < starts[a] {
             return false;
         }
-        a += 1;
     }
     true
 }
@@ -45,12 +43,10 @@ pub fn columns_ok(columns: &[usize], n: usize, b: usize, e: usize) -> bool
     ensures { result ≡ good_columns columns.now n b e }
 {
     let count = e - b;
-    let mut t = 0;
-    while t < count {
+    for t in 0..count {
         if !column_fits(columns, n, b, t) {
             return false;
         }
-        t += 1;
     }
     true
 }
@@ -63,12 +59,10 @@ pub fn rows_ok(starts: &[usize], columns: &[usize], rows: usize, n: usize) -> bo
     if !starts_ok(starts, rows, columns.len()) {
         return false;
     }
-    let mut a = 0;
-    while a < rows {
+    for a in 0..rows {
         if !columns_ok(columns, n, starts[a], starts[a + 1]) {
             return false;
         }
-        a += 1;
     }
     true
 }

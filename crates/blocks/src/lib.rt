@@ -51,10 +51,8 @@ pub fn shape_of(blocks: &[Block]) -> Shape
     ensures { result ≡ shape_of blocks.now }
 {
     let mut shape = blank(blocks.len());
-    let mut i = 0;
-    while i < 8 {
+    for i in 0..8 {
         shape = put(shape, i, block_or(blocks, i));
-        i += 1;
     }
     shape
 }

@@ -1,4 +1,8 @@
 -- What became of the tries of a call: the four parts add up to the tries, and there is one accepted try for each solve, but for the last solve of a call that ends with 12. Document 02, P9. Assumes nothing.
+use Rattle.family.specs.declared.carried.CarriedFamily.{CarriedFamily}
+use Rattle.family.specs.declared.carried.CarriedLink.{CarriedLink}
+use Rattle.model.specs.declared.ends.Refusal.{Refusal}
+use Rattle.std.specs.Prelude.{Ok, Err}
 use mathlib.Core.Path.{◌≡◌, refl, sym}
 use mathlib.Core.Bool.{Bool, true, false}
 use mathlib.Core.List.{List}
@@ -24,8 +28,6 @@ use Rattle.rule.proofs.Accepted.{stuck_in}
 use Rattle.agq_rule.specs.Inner.{with_points, after_run, inner_with, inner_of}
 use Rattle.agq_rule.proofs.Caps.{inner_paid}
 use Rattle.table.specs.Table.{table_of}
-use Rattle.table.specs.declared.verdicts.Verdict.{Verdict}
-use Rattle.table.specs.declared.verdicts.Verdict.TheVariants.{Accepted, Refused}
 use Rattle.dispersion.specs.Phi.{effective_n}
 use Rattle.dispersion.specs.Rounds.{Result, result, no_result, Dispersed}
 use Rattle.dispersion.proofs.Accepted.{stuck_by, TotalPaid, loop_paid, fixed_paid}
@@ -74,10 +76,10 @@ by_result (no_result NoStop) c p q = record { parts = p; accepts = omega (arith,
 
 -- ---- every call, refused ones too
 module _ (t : Settings) (s : Shape) (I : Inputs) (L : Lent) where
-  by_verdict : (v : Verdict) → Parted (call_by v t s I L).answer
+  by_verdict : (v : Result (CarriedFamily × CarriedLink) Refusal) → Parted (call_by v t s I L).answer
   unfolding call_by refused_answer fit_left answer_of tally
-  by_verdict (Refused r) = record { parts = refl; accepts = omega arith; all = λ h. refl; stuck = λ h. absurd (not_both r 12 (sym h) (inr (omega arith, omega arith))) }
-  by_verdict (Accepted f l) =
+  by_verdict (Err r) = record { parts = refl; accepts = omega arith; all = λ h. refl; stuck = λ h. absurd (not_both r 12 (sym h) (inr (omega arith, omega arith))) }
+  by_verdict (Ok (f, l)) =
       let fit = asked_fit f l t s I in
       by_result fit.outcome (tally fit.items) (tally_parts fit.items) (fit_paid (call_given f l t s I) (call_means f l t s I) t.n_agq (limit_of t.limit t.link))
 

@@ -1,4 +1,6 @@
 -- The fit that a call asks for, over the inner fit with its quadrature, and its answer. Document 01, "The inner fit", on dispersion, and "Numbers of an answer"; document 02, P5 and P10. Assumes nothing.
+use Rattle.quadrature.specs.declared.orders.Decline.{Decline}
+use Rattle.quadrature.specs.declared.orders.Order.{Order}
 use Rattle.std.specs.Prelude.{Bool, true, false, List, ℕ, Float}
 use Rattle.model.specs.Answer.{unfitted_answer, fitted_answer}
 use Rattle.model.specs.Items.{tally}
@@ -8,14 +10,13 @@ use Rattle.family.specs.Family.{uses_dispersion}
 use Rattle.rule.specs.Given.{Given, n_of}
 use Rattle.rule.specs.Stop.{Mode}
 use Rattle.agq_rule.specs.Inner.{InnerEnd, with_mode, without_mode, Inner, deviance_by, order_by, why_by, inner_of}
-use Rattle.agq_rule.specs.declared.answers.Integral.{Integral}
 use Rattle.dispersion.specs.Phi.{effective_n}
 use Rattle.dispersion.specs.Rounds.{Result, result, no_result, Total, Dispersed, dispersion_of, fixed_of}
 
 -- what an inner fit with a result comes to: its mode, and what its quadrature answered
 pub record Fitted : Type 0 where
   pub mode : Mode
-  pub integral : Integral
+  pub integral : Result (Float × Order) Decline
 
 -- the deviance sum of an inner fit, by which phi goes on
 abbrev pub sum_of : Fitted → Float

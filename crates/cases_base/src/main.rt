@@ -24,20 +24,16 @@ fn two(a: f64, b: f64) {
 }
 
 fn with_each(a: f64) {
-    let mut i = 0;
-    while i < text::SPECIALS {
+    for i in 0..text::SPECIALS {
         two(a, text::special(i));
-        i += 1;
     }
 }
 
 fn numbers() {
-    let mut i = 0;
-    while i < text::SPECIALS {
+    for i in 0..text::SPECIALS {
         let x = text::special(i);
         one(x);
         with_each(x);
-        i += 1;
     }
 }
 

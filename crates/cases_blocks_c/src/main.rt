@@ -234,12 +234,10 @@ fn next_call() {
 
 // The calls end at an empty name.
 fn main() {
-    let mut i: usize = 0;
-    while i < 1000 {
+    for i in 0usize..1000 {
         if !fed::put_name() {
             return;
         }
         next_call();
-        i += 1;
     }
 }

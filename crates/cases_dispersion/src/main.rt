@@ -1,7 +1,6 @@
 // Runs the numbers of the dispersion loop, and the loop itself over inner fits whose deviance sums are given, and prints every bit.
 #![tactic(auto)]
 
-use dispersion::Round;
 
 // The sum of the weights, at least 1; 1 for each where there are none.
 fn count(weights: &[f64], n: usize) {
@@ -15,8 +14,8 @@ fn round(effective: f64, phi: f64, sum: f64) {
     text::put_word(b"round");
     let round = dispersion::round_of(effective, phi, sum);
     match round {
-        Round::Settled => text::put_word(b" settled"),
-        Round::Next(next) => text::put_double(next),
+        None => text::put_word(b" settled"),
+        Some(next) => text::put_double(next),
     }
     text::end_line();
 }
@@ -39,11 +38,11 @@ fn rounds(effective: f64, first: f64, second: f64) {
     while k < 240 {
         let round = dispersion::round_of(effective, phi, sum);
         match round {
-            Round::Settled => {
+            None => {
                 put_end(true, k, phi);
                 return;
             }
-            Round::Next(next) => {
+            Some(next) => {
                 phi = next;
             }
         }

@@ -83,18 +83,14 @@ fn line(x: f64) {
 }
 
 fn specials() {
-    let mut i = 0;
-    while i < text::SPECIALS {
+    for i in 0..text::SPECIALS {
         line(text::special(i));
-        i += 1;
     }
 }
 
 fn branches() {
-    let mut i = 0;
-    while i < 60 {
+    for i in 0..60 {
         line(base::double(BRANCHES[i]));
-        i += 1;
     }
 }
 
@@ -112,24 +108,20 @@ fn draw(low: u64, count: u64)
     requires { (0 < count) × (low + count ≤ 2047) }
 {
     let mut w: u64 = 0;
-    let mut i: u64 = 0;
-    while i < 200 {
+    for i in 0u64..200 {
         w = std::num::wrapping_add_u64(w, 0x9e37_79b9_7f4a_7c15);
         line(drawn(w, low, count));
-        i += 1;
     }
 }
 
 // The fed arguments, of which some meet each row of the two tables so that a wrong entry is seen (tools/cases/rows.py); an empty word is their end.
 fn rows() {
-    let mut i: usize = 0;
-    while i < 1000 {
+    for i in 0usize..1000 {
         let w = fed::word();
         if w == 0 {
             return;
         }
         line(base::double(w));
-        i += 1;
     }
 }
 

@@ -201,18 +201,14 @@ fn element_lines(x: f64) {
 }
 
 fn specials() {
-    let mut i = 0;
-    while i < text::SPECIALS {
+    for i in 0..text::SPECIALS {
         element_lines(text::special(i));
-        i += 1;
     }
 }
 
 fn ordinary() {
-    let mut i = 0;
-    while i < 63 {
+    for i in 0..63 {
         element_lines(base::double(VALUES[i]));
-        i += 1;
     }
 }
 
@@ -237,10 +233,8 @@ fn dev_line(y: f64, mu: f64) {
 }
 
 fn with_each_mean(y: f64) {
-    let mut i = 0;
-    while i < 10 {
+    for i in 0..10 {
         dev_line(y, base::double(MEANS[i]));
-        i += 1;
     }
 }
 
@@ -261,10 +255,8 @@ fn response_lines(y: f64) {
 }
 
 fn responses() {
-    let mut i = 0;
-    while i < 19 {
+    for i in 0..19 {
         response_lines(base::double(RESPONSES[i]));
-        i += 1;
     }
 }
 
@@ -284,18 +276,14 @@ fn density_line(y: f64, shape: f64) {
 }
 
 fn with_each_shape(y: f64) {
-    let mut i = 0;
-    while i < 9 {
+    for i in 0..9 {
         density_line(y, base::double(SHAPES[i]));
-        i += 1;
     }
 }
 
 fn densities() {
-    let mut i = 0;
-    while i < 7 {
+    for i in 0..7 {
         with_each_shape(base::double(DENSITY_RESPONSES[i]));
-        i += 1;
     }
 }
 

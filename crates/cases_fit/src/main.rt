@@ -216,12 +216,10 @@ fn next_call() {
 }
 
 fn main() {
-    let mut i: usize = 0;
-    while i < 1000 {
+    for i in 0usize..1000 {
         if !fed::put_name() {
             return;
         }
         next_call();
-        i += 1;
     }
 }

@@ -59,12 +59,10 @@ fn next_job(
 fn all_jobs(size: &mut [u8], space: &mut [u8], terms: &mut [f64], out: &mut [u8])
     requires { (3 ≤ length size.old) × (65536 ≤ length space.old) }
 {
-    let mut number: u64 = 1;
-    while number < 1000 {
+    for number in 1u64..1000 {
         if !next_job(number, size, space, terms, out) {
             return;
         }
-        number += 1;
     }
 }
 

@@ -32,10 +32,8 @@ fn put_lengths() {
 }
 
 fn all_lengths() {
-    let mut i: usize = 0;
-    while i < 16 {
+    for i in 0usize..16 {
         put_lengths();
-        i += 1;
     }
 }
 
@@ -56,10 +54,8 @@ fn put_values(x: f64) {
 }
 
 fn all_values() {
-    let mut i: usize = 0;
-    while i < 16 {
+    for i in 0usize..16 {
         put_values(fed::number());
-        i += 1;
     }
 }
 
@@ -84,10 +80,8 @@ fn put_work(word: &[u8], xs: &[f64]) {
 }
 
 fn put_counts(counts: &[u64]) {
-    let mut i = 0;
-    while i < counts.len() {
+    for i in 0..counts.len() {
         text::put_count(counts[i]);
-        i += 1;
     }
 }
 
@@ -177,13 +171,11 @@ fn next_call() {
 
 // The calls end at an empty name.
 fn all_calls() {
-    let mut i: usize = 0;
-    while i < 1000 {
+    for i in 0usize..1000 {
         if !fed::put_name() {
             return;
         }
         next_call();
-        i += 1;
     }
 }
 

@@ -4,7 +4,7 @@
 
 ghost use Rattle.std.specs.Prelude.{◌≤◌, length};
 
-use model::{Account, Answer, Limit, Shape};
+use model::{Account, Answer, Shape};
 use reader::{Header, Reading};
 
 // The lesser of two: a, or b where a is past it.
@@ -47,10 +47,8 @@ fn put_value(name: &[u8], index: usize, x: f64)
 fn put_counts(word: &[u8], xs: &[usize], n: usize) {
     text::put_word(word);
     let m = least(n, xs.len());
-    let mut i = 0;
-    while i < m {
+    for i in 0..m {
         text::put_count(xs[i] as u64);
-        i += 1;
     }
     text::end_line();
 }
@@ -60,10 +58,10 @@ fn put_doubles(word: &[u8], xs: &[f64], n: usize) {
     text::put_list(word, xs, least(least(n, 8192) + 1, xs.len()));
 }
 
-fn put_limit(limit: Limit) {
+fn put_limit(limit: Option<usize>) {
     match limit {
-        Limit::Given(l) => text::put_count(l as u64),
-        Limit::NotGiven => text::put_word(b" none"),
+        Some(l) => text::put_count(l as u64),
+        None => text::put_word(b" none"),
     }
 }
 
@@ -94,11 +92,9 @@ fn put_shape(shape: Shape) {
     text::put_count(shape.count as u64);
     let m = shape.m;
     let k = shape.k;
-    let mut i = 0;
-    while i < 8 {
+    for i in 0..8 {
         text::put_count(m[i] as u64);
         text::put_count(k[i] as u64);
-        i += 1;
     }
     text::end_line();
 }
@@ -106,10 +102,8 @@ fn put_shape(shape: Shape) {
 // Each double of y on a line of its own, as the program prints its results.
 fn put_values(y: &[f64], n: usize) {
     let m = least(n, y.len());
-    let mut i = 0;
-    while i < m {
+    for i in 0..m {
         put_value(b"y", i, y[i]);
-        i += 1;
     }
 }
 
@@ -267,12 +261,10 @@ fn next_job() -> bool {
 }
 
 fn all_jobs() {
-    let mut i: usize = 0;
-    while i < 2000 {
+    for i in 0usize..2000 {
         if !next_job() {
             return;
         }
-        i += 1;
     }
 }
 

@@ -28,12 +28,10 @@ fn products() {
 fn put_rows(p: usize, out: &[f64])
     requires { p * p ≤ length out.now }
 {
-    let mut a = 0;
-    while a < p {
+    for a in 0..p {
         let o = base::offset(a, p, p);
         let e = o + p;
         text::put_list(b"cross", &out[o..e], a + 1);
-        a += 1;
     }
 }
 
@@ -64,11 +62,9 @@ fn scatter(n: usize, out: &mut [f64])
     requires { n ≤ length out.old }
 {
     let mut v = 0.3;
-    let mut i = 0;
-    while i < n {
+    for i in 0..n {
         v = 3.7 * v * (1.0 - v);
         out[i] = v - 0.5;
-        i += 1;
     }
 }
 

@@ -9,23 +9,19 @@ fn line(x: f64) {
 }
 
 fn specials() {
-    let mut i = 0;
-    while i < text::SPECIALS {
+    for i in 0..text::SPECIALS {
         line(text::special(i));
-        i += 1;
     }
 }
 
 // The fed arguments; an empty word is their end. tools/cases/log_gamma.py feeds those of the test, tools/accuracy those whose distance is measured.
 fn fed_ones() {
-    let mut i: usize = 0;
-    while i < 1000000 {
+    for i in 0usize..1000000 {
         let w = fed::word();
         if w == 0 {
             return;
         }
         line(base::double(w));
-        i += 1;
     }
 }
 

@@ -7,9 +7,8 @@ ghost use Rattle.model.specs.Account.{SumFits};
 ghost use Rattle.model.specs.Shape.{good_shape};
 
 use model::{
-    Account, Answer, End, Family, FamilyFound, Limit, Link, LinkFound, Refusal, Settings, Shape,
-    Start, StartFound,
-};
+    Account, Answer, End, Family, Link, Refusal, Settings, Shape,
+    Start, };
 
 fn put_size(n: usize) {
     text::put_count(n as u64);
@@ -58,11 +57,11 @@ fn put_account(account: Account) {
 fn family() {
     let found = model::family_coded(fed::count());
     match found {
-        FamilyFound::Found(f) => {
+        Some(f) => {
             put_family(f);
             put_size(model::family_code(f));
         }
-        FamilyFound::NoSuch => text::put_word(b" none"),
+        None => text::put_word(b" none"),
     }
 }
 
@@ -70,11 +69,11 @@ fn family() {
 fn link() {
     let found = model::link_coded(fed::count());
     match found {
-        LinkFound::Found(l) => {
+        Some(l) => {
             put_link(l);
             put_size(model::link_code(l));
         }
-        LinkFound::NoSuch => text::put_word(b" none"),
+        None => text::put_word(b" none"),
     }
 }
 
@@ -82,11 +81,11 @@ fn link() {
 fn start() {
     let found = model::start_coded(fed::count());
     match found {
-        StartFound::Found(s) => {
+        Some(s) => {
             put_start(s);
             put_size(model::start_code(s));
         }
-        StartFound::NoSuch => text::put_word(b" none"),
+        None => text::put_word(b" none"),
     }
 }
 
@@ -94,10 +93,10 @@ fn start() {
 fn limit(link: Link) {
     put_link(link);
     text::put_test(model::is_inverse(link));
-    put_size(model::limit_of(Limit::NotGiven, link));
-    put_size(model::limit_of(Limit::Given(0), link));
-    put_size(model::limit_of(Limit::Given(1), link));
-    put_size(model::limit_of(Limit::Given(1000), link));
+    put_size(model::limit_of(None, link));
+    put_size(model::limit_of(Some(0), link));
+    put_size(model::limit_of(Some(1), link));
+    put_size(model::limit_of(Some(1000), link));
 }
 
 // How many effects and numbers of theta there are, and where those of each block begin.
@@ -107,11 +106,9 @@ fn put_blocks(shape: Shape)
     put_size(model::effects(shape));
     put_size(model::theta_length(shape));
     let count = shape.count;
-    let mut i = 0;
-    while i < count {
+    for i in 0..count {
         put_size(model::first_effect(shape, i));
         put_size(model::first_theta(shape, i));
-        i += 1;
     }
 }
 
@@ -251,13 +248,11 @@ fn run(code: usize) {
 
 // The calls, until a word is empty.
 fn calls() {
-    let mut i: usize = 0;
-    while i < 1000 {
+    for i in 0usize..1000 {
         if !fed::put_name() {
             return;
         }
         run(fed::count());
-        i += 1;
     }
 }
 

@@ -4,7 +4,7 @@
 
 use family::CarriedFamily;
 use model::{Settings, Shape};
-use table::{LentLengths, Verdict};
+use table::LentLengths;
 
 fn family_code(family: CarriedFamily) -> u64 {
     match family {
@@ -15,14 +15,14 @@ fn family_code(family: CarriedFamily) -> u64 {
     }
 }
 
-fn put_verdict(verdict: Verdict) {
+fn put_verdict(verdict: Result<(CarriedFamily, CarriedLink), Refusal>) {
     match verdict {
-        Verdict::Accepted(family, link) => {
+        Ok((family, link)) => {
             text::put_count(0);
             text::put_count(family_code(family));
             text::put_count(model::link_code(family::link_of(link)) as u64);
         }
-        Verdict::Refused(refusal) => text::put_count(model::refusal_number(refusal) as u64),
+        Err(refusal) => text::put_count(model::refusal_number(refusal) as u64),
     }
     text::end_line();
 }
@@ -98,12 +98,10 @@ fn next_call() {
 }
 
 fn main() {
-    let mut i: usize = 0;
-    while i < 1000 {
+    for i in 0usize..1000 {
         if !fed::put_name() {
             return;
         }
         next_call();
-        i += 1;
     }
 }

@@ -6,7 +6,6 @@
 ghost use Rattle.std.specs.Prelude.{◌≡◌, length};
 
 use model::Account;
-use tries::{TriesEnd, Try};
 
 fn put_account(account: Account) {
     text::put_count(account.fits);
@@ -20,23 +19,23 @@ fn put_account(account: Account) {
 }
 
 // Their account, and the PWRSS where one was accepted.
-fn put_tries(t: TriesEnd) {
+fn put_tries(t: Result<(f64, Account), Account>) {
     match t {
-        TriesEnd::Moved(p, made) => {
+        Ok((p, made)) => {
             put_account(made);
             text::put_double(p);
         }
-        TriesEnd::NoMove(made) => put_account(made),
+        Err(made) => put_account(made),
     }
 }
 
 // The number of the test that refused it, or 0 and its PWRSS.
-fn put_try(t: Try) {
+fn put_try(t: Result<f64, TryRefusal>) {
     match t {
-        Try::EtaRefused => text::put_count(1),
-        Try::MeanRefused => text::put_count(2),
-        Try::PwrssRefused => text::put_count(3),
-        Try::Accepted(p) => {
+        Err(TryRefusal::Eta) => text::put_count(1),
+        Err(TryRefusal::Mean) => text::put_count(2),
+        Err(TryRefusal::Pwrss) => text::put_count(3),
+        Ok(p) => {
             text::put_count(0);
             text::put_double(p);
         }
@@ -71,12 +70,10 @@ fn next_case() {
 }
 
 fn main() {
-    let mut i: usize = 0;
-    while i < 1000 {
+    for i in 0usize..1000 {
         if !fed::put_name() {
             return;
         }
         next_case();
-        i += 1;
     }
 }

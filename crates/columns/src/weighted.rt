@@ -12,10 +12,8 @@ fn add_weighted(w: f64, v: f64, x: &[f64], o: usize, count: usize, sums: &mut [f
     requires { (o + count ≤ length x.now) × (count ≤ length sums.old) }
     ensures { sums.new ≡ fill_to count (weighted_more w v x.now o sums.old) sums.old }
 {
-    let mut k = 0;
-    while k < count {
+    for k in 0..count {
         sums[k] = sums[k] + v * (x[o + k] * w);
-        k += 1;
     }
 }
 
@@ -34,11 +32,9 @@ fn observation_sums(
     requires count_bound { (b + count ≤ p) × (sums.old ≡ replicate count zero_f) }
     ensures { sums.new ≡ build (starting_at (weighted_dot x.now p n w.now v.now) b) count }
 {
-    let mut i = 0;
-    while i < n {
+    for i in 0..n {
         let o = base::offset(i, n, p);
         add_weighted(w[i], v[i], x, o + b, count, sums);
-        i += 1;
     }
 }
 
@@ -133,12 +129,10 @@ fn entry_sums(
     ensures { sums.new
         ≡ build (starting_at (entries_side columns.now values.now x.now p w.now begin end) b) count }
 {
-    let mut k = begin;
-    while k < end {
+    for k in begin..end {
         let i = columns[k];
         let o = base::offset(i, n, p);
         add_weighted(w[i], values[k], x, o + b, count, sums);
-        k += 1;
     }
 }
 
@@ -292,13 +286,11 @@ pub fn weighted_rows(
         (weighted_side (sparse starts.now columns.now values.now) x.now p n w.now)
         out.old }
 {
-    let mut g = 0;
-    while g < q {
+    for g in 0..q {
         let o = base::offset(g, q, p);
         let e = o + p;
         let begin = starts[g];
         let end = starts[g + 1];
         row_sides(begin, end, columns, values, x, w, n, p, &mut out[o..e]);
-        g += 1;
     }
 }

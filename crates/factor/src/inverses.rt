@@ -30,12 +30,10 @@ fn ldl_columns(l: &[f64], s: usize, out: &mut [f64])
     requires { (s * s ≤ length l.now) × (s * s ≤ length out.old) }
     ensures { out.new ≡ grid_to s s (ldl_column_at s l.now) out.old }
 {
-    let mut c = 0;
-    while c < s {
+    for c in 0..s {
         let o = base::offset(c, s, s);
         let e = o + s;
         ldl_column(l, s, c, &mut out[o..e]);
-        c += 1;
     }
 }
 
@@ -45,13 +43,11 @@ fn turn_row(x: &mut [f64], s: usize, i: usize)
     ensures { x.new ≡ row_turned s i i x.old }
 {
     let io = base::offset(i, s, s);
-    let mut j = 0;
-    while j < i {
+    for j in 0..i {
         let jo = base::offset(j, s, s);
         let below = x[io + j];
         x[io + j] = x[jo + i];
         x[jo + i] = below;
-        j += 1;
     }
 }
 
@@ -60,10 +56,8 @@ fn transpose(x: &mut [f64], s: usize)
     requires { s * s ≤ length x.old }
     ensures { x.new ≡ grid_to s s (turned_at s x.old) x.old }
 {
-    let mut i = 0;
-    while i < s {
+    for i in 0..s {
         turn_row(x, s, i);
-        i += 1;
     }
 }
 
@@ -90,12 +84,10 @@ pub fn cholesky_inverse(l: &[f64], s: usize, out: &mut [f64])
     requires { (s * s ≤ length l.now) × (s * s ≤ length out.old) }
     ensures { out.new ≡ grid_to s s (cholesky_column_at s l.now) out.old }
 {
-    let mut c = 0;
-    while c < s {
+    for c in 0..s {
         let o = base::offset(c, s, s);
         let e = o + s;
         cholesky_column(l, s, c, &mut out[o..e]);
-        c += 1;
     }
 }
 

@@ -10,7 +10,6 @@ mod substitution;
 
 pub use factors::{cholesky, ldl};
 pub use inverses::{cholesky_inverse, ldl_inverse, v_at};
-pub use pivots::Factored;
 pub use sides::ldl_solve_columns;
 pub use substitution::{
     backward, cholesky_solve, forward, ldl_solve, over_d, unit_backward, unit_forward,

@@ -2,13 +2,6 @@
 ghost use Rattle.std.specs.Prelude.{◌≡◌};
 ghost use Rattle.factor.specs.Triangle.{usable, positive};
 
-// Every pivot passed its test, or this is the first that did not.
-#[derive(Clone, Copy)]
-pub enum Factored {
-    Done,
-    Bad(usize),
-}
-
 // Whether LDL' can divide by d: finite and not zero.
 pub fn usable_pivot(d: f64) -> bool
     ensures { result ≡ usable d }

@@ -74,13 +74,11 @@ fn forward_row(l: &[f64], s: usize, i: usize, head: usize, count: usize, x: &mut
     ensures { RowEntered (unit_forward_rule s l.now) i s count x.old result x.new }
 {
     let mut fine = true;
-    let mut a = 0;
-    while a < count {
+    for a in 0..count {
         let o = base::offset(a, count, s);
         let e = o + s;
         let one = forward_entry(l, s, i, head, &mut x[o..e]);
         fine = both(fine, one);
-        a += 1;
     }
     fine
 }
@@ -91,12 +89,10 @@ fn forward_columns(l: &[f64], s: usize, count: usize, x: &mut [f64])
     ensures { x.new ≡ each_column (unit_forward s l.now) s count x.old }
 {
     let mut fine = true;
-    let mut i = 0;
-    while i < s {
+    for i in 0..s {
         let head = row_head(l, s, i, fine);
         let row = forward_row(l, s, i, head, count, x);
         fine = both(fine, row);
-        i += 1;
     }
 }
 
@@ -105,12 +101,10 @@ fn over_d_columns(l: &[f64], s: usize, count: usize, x: &mut [f64])
     requires { (s * s ≤ length l.now) × (count * s ≤ length x.old) }
     ensures { x.new ≡ each_column (over_d s l.now) s count x.old }
 {
-    let mut a = 0;
-    while a < count {
+    for a in 0..count {
         let o = base::offset(a, count, s);
         let e = o + s;
         over_d(l, s, &mut x[o..e]);
-        a += 1;
     }
 }
 
@@ -130,13 +124,11 @@ fn backward_row(l: &[f64], s: usize, i: usize, head: usize, count: usize, x: &mu
     ensures { RowEntered (unit_backward_rule s l.now) i s count x.old result x.new }
 {
     let mut fine = true;
-    let mut a = 0;
-    while a < count {
+    for a in 0..count {
         let o = base::offset(a, count, s);
         let e = o + s;
         let one = backward_entry(l, s, i, head, &mut x[o..e]);
         fine = both(fine, one);
-        a += 1;
     }
     fine
 }

@@ -1,4 +1,7 @@
 -- Laws of the list functions: what one turn writes, and the two answers. Assumes nothing.
+use Rattle.family_lists.specs.declared.lists.ListError.TheVariants.{LengthsDiffer}
+use Rattle.std.specs.Prelude.{Ok, Err}
+use Prim.{tt}
 use Rattle.std.proofs.Common.{◌≡◌, ℕ, zero, suc, ◌+◌, ◌<◌, Bool, true, false, eqb, List, [], ◌∷◌, length, get_or, set, sym, refl, le_of_suc-le-suc, not-suc-le-zero, eqb-true}
 use lib.Ieee.{Float}
 use Rattle.base.specs.Sum.{◌!◌}
@@ -6,7 +9,6 @@ use Rattle.base.specs.List.{fill_to}
 use Rattle.base.proofs.Fills.{fill_step}
 use Rattle.base.proofs.Sums.{and_true}
 use Rattle.family_lists.specs.Lists.{Listed, each, lengths_agree}
-use Rattle.family_lists.specs.declared.lists.ListAnswer.TheVariants.{Written, LengthsDiffer}
 
 -- ---- one entry more
 pub each_step : (f : Float → Float) (xs b : List Float) (i : ℕ) (s : List Float) (x : Float)
@@ -15,10 +17,10 @@ unfolding each
 each_step f xs b i s x h e = rw h (fill_step (each f xs) b i s e)
 
 -- ---- the two answers
-pub refused : (agree : Bool) (n : ℕ) (f : ℕ → Float) (b : List Float) → agree ≡ false → Listed agree n f b b LengthsDiffer
+pub refused : (agree : Bool) (n : ℕ) (f : ℕ → Float) (b : List Float) → agree ≡ false → Listed agree n f b b (Err LengthsDiffer)
 refused agree n f b h = record { number = rw h; output = rw h }
 
-pub written : (agree : Bool) (n : ℕ) (f : ℕ → Float) (b a : List Float) → agree ≡ true → a ≡ fill_to n f b → Listed agree n f b a Written
+pub written : (agree : Bool) (n : ℕ) (f : ℕ → Float) (b a : List Float) → agree ≡ true → a ≡ fill_to n f b → Listed agree n f b a (Ok tt)
 written agree n f b a h e = record { number = rw h; output = rw h e }
 
 -- ---- where the lengths agree, the means are as many as the responses

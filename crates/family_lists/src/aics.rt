@@ -13,13 +13,6 @@ use family::{CarriedFamily, ln_dgamma};
 
 const PI: f64 = 3.141592653589793;
 
-// The AIC, or that the lists differ in length.
-#[derive(Clone, Copy)]
-pub enum AicAnswer {
-    Value(f64),
-    LengthsDiffer,
-}
-
 // A weight that is not above zero adds no logarithm.
 fn add_log(sum: f64, w: f64) -> f64
     ensures { result ≡ add_where (lt zero_f w) sum (ln_of w) }
@@ -35,10 +28,8 @@ fn log_weights(wt: &[f64]) -> f64
     ensures { result ≡ log_weights wt.now }
 {
     let mut sum = 0.0;
-    let mut i = 0;
-    while i < wt.len() {
+    for i in 0..wt.len() {
         sum = add_log(sum, wt[i]);
-        i += 1;
     }
     sum
 }
@@ -83,11 +74,9 @@ fn densities(y: &[f64], mu: &[f64], wt: &[f64], phi: f64) -> f64
 {
     let shape = 1.0 / phi;
     let mut sum = 0.0;
-    let mut i = 0;
-    while i < y.len() {
+    for i in 0..y.len() {
         let scale = max(mean_at(mu, i), EPSILON) * phi;
         sum = sum + weight_at(wt, i) * ln_dgamma(y[i], shape, scale);
-        i += 1;
     }
     sum
 }
@@ -122,11 +111,11 @@ pub fn aic_of(family: CarriedFamily, y: &[f64], mu: &[f64], wt: &[f64], dev: f64
 }
 
 // `aic_of`, for any lists.
-pub fn aic(family: CarriedFamily, y: &[f64], mu: &[f64], wt: &[f64], dev: f64) -> AicAnswer
+pub fn aic(family: CarriedFamily, y: &[f64], mu: &[f64], wt: &[f64], dev: f64) -> Result<f64, ListError>
     ensures { result ≡ aic_answer family y.now mu.now wt.now dev }
 {
     if lengths_agree(y.len(), mu.len(), wt.len()) {
-        return AicAnswer::Value(aic_of(family, y, mu, wt, dev));
+        return Ok(aic_of(family, y, mu, wt, dev));
     }
-    AicAnswer::LengthsDiffer
+    Err(ListError::LengthsDiffer)
 }

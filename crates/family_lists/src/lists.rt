@@ -8,96 +8,85 @@ use family::{
     CarriedFamily, CarriedLink, dev_resid, initialize_mu, link_fun, link_inv, mu_eta, variance,
 };
 
-// What became of the output: written whole, or, as the lists differ in length, not touched.
+// Why a list function did nothing.
 #[derive(Clone, Copy)]
-pub enum ListAnswer {
-    Written,
+pub enum ListError {
     LengthsDiffer,
 }
 
 // The number under which the answer is told.
-pub fn list_number(answer: ListAnswer) -> usize
+pub fn list_number(answer: Result<(), ListError>) -> usize
     ensures { result ≡ list_number answer }
 {
     match answer {
-        ListAnswer::Written => 0,
-        ListAnswer::LengthsDiffer => 2,
+        Ok(()) => 0,
+        Err(ListError::LengthsDiffer) => 2,
     }
 }
 
 // The predictor of each mean.
-pub fn link_fun_list(link: CarriedLink, mu: &[f64], out: &mut [f64]) -> ListAnswer
+pub fn link_fun_list(link: CarriedLink, mu: &[f64], out: &mut [f64]) -> Result<(), ListError>
     ensures { ListedEach (link_fun link) mu.now out.old out.new result }
 {
     if mu.len() != out.len() {
-        return ListAnswer::LengthsDiffer;
+        return Err(ListError::LengthsDiffer);
     }
-    let mut i = 0;
-    while i < mu.len() {
+    for i in 0..mu.len() {
         out[i] = link_fun(link, mu[i]);
-        i += 1;
     }
-    ListAnswer::Written
+    Ok(())
 }
 
 // The mean of each predictor.
-pub fn link_inv_list(link: CarriedLink, eta: &[f64], out: &mut [f64]) -> ListAnswer
+pub fn link_inv_list(link: CarriedLink, eta: &[f64], out: &mut [f64]) -> Result<(), ListError>
     ensures { ListedEach (link_inv link) eta.now out.old out.new result }
 {
     if eta.len() != out.len() {
-        return ListAnswer::LengthsDiffer;
+        return Err(ListError::LengthsDiffer);
     }
-    let mut i = 0;
-    while i < eta.len() {
+    for i in 0..eta.len() {
         out[i] = link_inv(link, eta[i]);
-        i += 1;
     }
-    ListAnswer::Written
+    Ok(())
 }
 
 // The derivative of the mean at each predictor.
-pub fn mu_eta_list(link: CarriedLink, eta: &[f64], out: &mut [f64]) -> ListAnswer
+pub fn mu_eta_list(link: CarriedLink, eta: &[f64], out: &mut [f64]) -> Result<(), ListError>
     ensures { ListedEach (mu_eta link) eta.now out.old out.new result }
 {
     if eta.len() != out.len() {
-        return ListAnswer::LengthsDiffer;
+        return Err(ListError::LengthsDiffer);
     }
-    let mut i = 0;
-    while i < eta.len() {
+    for i in 0..eta.len() {
         out[i] = mu_eta(link, eta[i]);
-        i += 1;
     }
-    ListAnswer::Written
+    Ok(())
 }
 
 // The variance at each mean.
-pub fn variance_list(family: CarriedFamily, mu: &[f64], out: &mut [f64]) -> ListAnswer
+pub fn variance_list(family: CarriedFamily, mu: &[f64], out: &mut [f64]) -> Result<(), ListError>
     ensures { ListedEach (variance_of family) mu.now out.old out.new result }
 {
     if mu.len() != out.len() {
-        return ListAnswer::LengthsDiffer;
+        return Err(ListError::LengthsDiffer);
     }
-    let mut i = 0;
-    while i < mu.len() {
+    for i in 0..mu.len() {
         out[i] = variance(family, mu[i]);
-        i += 1;
     }
-    ListAnswer::Written
+    Ok(())
 }
 
 // The mean that a fit starts from, for each response.
-pub fn initialize_mu_list(family: CarriedFamily, y: &[f64], out: &mut [f64]) -> ListAnswer
+pub fn initialize_mu_list(family: CarriedFamily, y: &[f64], out: &mut [f64]) -> Result<(), ListError>
     ensures { ListedEach (initialize_mu family) y.now out.old out.new result }
 {
     if y.len() != out.len() {
-        return ListAnswer::LengthsDiffer;
+        return Err(ListError::LengthsDiffer);
     }
-    let mut i = 0;
-    while i < y.len() {
+    for i in 0..y.len() {
         out[i] = initialize_mu(family, y[i]);
-        i += 1;
     }
-    ListAnswer::Written
+    Ok(())
 }
 
 // Weight i, and 1 where the weights are absent: then the list is empty.
@@ -115,10 +104,8 @@ pub fn weight_sum(wt: &[f64], n: usize) -> f64
     ensures { result ≡ weight_sum n wt.now }
 {
     let mut sum = 0.0;
-    let mut i = 0;
-    while i < n {
+    for i in 0..n {
         sum = sum + weight_at(wt, i);
-        i += 1;
     }
     sum
 }
@@ -143,19 +130,17 @@ pub fn dev_resid_list(
     mu: &[f64],
     wt: &[f64],
     out: &mut [f64],
-) -> ListAnswer
+) -> Result<(), ListError>
     ensures { ListedDeviances family y.now mu.now wt.now out.old out.new result }
 {
     if !lengths_agree(y.len(), mu.len(), wt.len()) {
-        return ListAnswer::LengthsDiffer;
+        return Err(ListError::LengthsDiffer);
     }
     if y.len() != out.len() {
-        return ListAnswer::LengthsDiffer;
+        return Err(ListError::LengthsDiffer);
     }
-    let mut i = 0;
-    while i < y.len() {
+    for i in 0..y.len() {
         out[i] = dev_resid(family, y[i], mu[i], weight_at(wt, i));
-        i += 1;
     }
-    ListAnswer::Written
+    Ok(())
 }

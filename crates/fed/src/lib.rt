@@ -4,7 +4,7 @@
 
 ghost use Rattle.std.specs.Prelude.{◌≤◌};
 
-use model::{Family, FamilyFound, Limit, Link, LinkFound, Start, StartFound};
+use model::{Family, Link, Start};
 
 // The lesser of two: a, or b where a is past it.
 fn least(a: usize, b: usize) -> usize
@@ -36,20 +36,16 @@ pub fn number() -> f64 {
 // As many counts as the slice has room for.
 pub fn counts(out: &mut [usize]) {
     let n = out.len();
-    let mut i = 0;
-    while i < n {
+    for i in 0..n {
         out[i] = count();
-        i += 1;
     }
 }
 
 // As many doubles as the slice has room for.
 pub fn numbers(out: &mut [f64]) {
     let n = out.len();
-    let mut i = 0;
-    while i < n {
+    for i in 0..n {
         out[i] = number();
-        i += 1;
     }
 }
 
@@ -91,32 +87,32 @@ pub fn part_counts<'a>(xs: &'a [usize], at: usize) -> &'a [usize] {
 // The family of the next code; Gamma stands for every code of none.
 pub fn family() -> Family {
     match model::family_coded(count()) {
-        FamilyFound::Found(family) => family,
-        FamilyFound::NoSuch => Family::Gamma,
+        Some(family) => family,
+        None => Family::Gamma,
     }
 }
 
 // The link of the next code; probit stands for every code of none.
 pub fn link() -> Link {
     match model::link_coded(count()) {
-        LinkFound::Found(link) => link,
-        LinkFound::NoSuch => Link::Probit,
+        Some(link) => link,
+        None => Link::Probit,
     }
 }
 
 // The start of the next code; the usual one stands for every code of none.
 pub fn start() -> Start {
     match model::start_coded(count()) {
-        StartFound::Found(start) => start,
-        StartFound::NoSuch => Start::Usual,
+        Some(start) => start,
+        None => Start::Usual,
     }
 }
 
 // The next limit; the largest count stands for one that is not given.
-pub fn limit() -> Limit {
+pub fn limit() -> Option<usize> {
     let limit = count();
     if limit == 18446744073709551615 {
-        return Limit::NotGiven;
+        return None;
     }
-    Limit::Given(limit)
+    Some(limit)
 }

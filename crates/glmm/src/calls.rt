@@ -5,7 +5,7 @@ ghost use Rattle.call.specs.Call.{lent, left, call_of};
 
 use crate::accepted::fit_accepted;
 use model::{Answer, Settings, Shape};
-use table::{LentLengths, Verdict, verdict_of};
+use table::{LentLengths, verdict_of};
 
 // Nothing is asked of the arguments: what cannot be fitted is refused, and then every slice stays as it is.
 pub fn fit(
@@ -59,7 +59,7 @@ pub fn fit(
         1, settings, shape, theta, y, weights, offset, x, starts, columns, values, lengths,
     );
     match verdict {
-        Verdict::Accepted(f, l) => {
+        Ok((f, l)) => {
             let given = settings.limit;
             let link = settings.link;
             let start = settings.start;
@@ -96,6 +96,6 @@ pub fn fit(
                 terms,
             )
         }
-        Verdict::Refused(refusal) => Answer::refused(refusal),
+        Err(refusal) => Answer::refused(refusal),
     }
 }

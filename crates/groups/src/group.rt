@@ -14,9 +14,9 @@ use layout::{inverse_at, mark_row, trial_u_at, u_at, xbeta_row};
 use model::Shape;
 use points::mark_group;
 use quadrature::{Order, gh_rule};
-use scale::{Scaling, block_scale, copy_row};
+use scale::{block_scale, copy_row};
 use several::group_terms;
-use sums::{GroupSum, Summed, inverse_phi, log_sum, power};
+use sums::{GroupSum, inverse_phi, log_sum, power};
 
 // The log sum of the group whose k effects begin at s, L standing at the place of the inverse: the marks of its observations and û go where the points look for them.
 fn several_sums(
@@ -100,11 +100,11 @@ pub fn several_group(
         m.old m.new t.old t.new result }
 {
     match block_scale(q, s, k, m, t) {
-        Scaling::Unscaled(d) => GroupSum {
-            sum: Summed::NoSum(d),
+        Err(d) => GroupSum {
+            sum: Err(d),
             points: 0,
         },
-        Scaling::Scaled => several_sums(
+        Ok(()) => several_sums(
             family, link, shape, theta, starts, columns, values, y, weights, offset, n, p, q,
             order, node_logs, s, k, phi, r, m, t,
         ),

@@ -8,12 +8,11 @@ ghost use Rattle.sums.specs.Summed.{GroupLeft, StepLeft};
 ghost use Rattle.groups.specs.Rules.{Grouped, group_rule, product_rule};
 
 use crate::group::several_group;
-use agq_rule::Integral;
 use family::{CarriedFamily, CarriedLink};
 use model::Shape;
 use points::log_weights;
 use quadrature::{Order, gh_rule};
-use sums::{GroupSum, Quadrature, Summed, one_group};
+use sums::{GroupSum, Quadrature, one_group};
 
 // The log sum of group g of k effects.
 fn group(
@@ -97,8 +96,7 @@ pub fn product_step(
     log_weights(&node_weights, size, &mut node_logs);
     let mut total = 0.0;
     let mut points = 0;
-    let mut g = 0;
-    while g < groups {
+    for g in 0..groups {
         let a = group(
             family, link, shape, theta, starts, columns, values, y, weights, offset, n, p, q,
             order, &node_logs, k, g, phi, r, m, t,
@@ -106,20 +104,19 @@ pub fn product_step(
         points += a.points;
         let sum = a.sum;
         match sum {
-            Summed::NoSum(d) => {
+            Err(d) => {
                 return Quadrature {
-                    answer: Integral::Declined(d),
+                    answer: Err(d),
                     points,
                 };
             }
-            Summed::LogSum(s) => {
+            Ok(s) => {
                 total = total + -2.0 * s;
             }
         }
-        g += 1;
     }
     Quadrature {
-        answer: Integral::Deviance(fit + total, order),
+        answer: Ok((fit + total, order)),
         points,
     }
 }

@@ -1,4 +1,6 @@
 -- The run's ending decides the answer: without a mode it is the run's, with one the quadrature's answer is added and the rows of the results stay. Assumes nothing.
+use Rattle.std.specs.Prelude.{Ok, Err}
+use Prim.{tt}
 use mathlib.Core.Path.{◌≡◌, refl, sym, ap, ◌∙◌}
 use mathlib.Core.Bool.{true}
 use mathlib.Core.List.{List, ◌++◌}
@@ -32,7 +34,6 @@ use Rattle.stages.specs.Held.{eta_row}
 use Rattle.iteration.specs.Iterated.{Asked}
 use Rattle.iteration.proofs.IterationMade.{eta_before}
 use Rattle.pirls.specs.Inner.{HoldsResults, HoldsMode, EndingTold, InnerLeft}
-use Rattle.pirls.specs.declared.run.Ended.TheVariants.{Stopped, Failed}
 use Rattle.pirls.specs.declared.run.InnerFit.{InnerFit}
 use Rattle.agq_rule.specs.Steps.{quadrature_of}
 use Rattle.agq_rule.specs.Inner.{with_mode, without_mode, deviance_by, with_points, after_run, inner_with, inner_of}
@@ -84,20 +85,20 @@ module _ (G : Given) (wish : ℕ) (phi : Float) (L : ℕ) (mu r r1 m m1 t t1 : L
       }
 
   -- ---- without a mode
-  run_failed : (o : Ending) (e : End) → EndingTold o G r1 m1 fit → fit.end ≡ Failed e → o ≡ failed e
+  run_failed : (o : Ending) (e : End) → EndingTold o G r1 m1 fit → fit.end ≡ Err e → o ≡ failed e
   run_failed (failed e') e h d =
-      let i : Failed e' ≡ Failed e = sym (ap (λ (f : InnerFit). f.end) h) ∙ d in
+      let i : Err e' ≡ Err e = sym (ap (λ (f : InnerFit). f.end) h) ∙ d in
       let j : e' ≡ e = cc in
       ap failed j
   run_failed (stopped k) e h d =
-      let i : Stopped ≡ Failed e = sym h.end ∙ d in
+      let i : (Ok tt) ≡ Err e = sym h.end ∙ d in
       absurd (let z : ◌≡◌ {A = ℕ} 0 1 = cc in omega arith)
 
   failed_is : (e : End) → (run_of G phi L mu).ending ≡ failed e → inner_of G wish phi L mu ≡ record { ending = without_mode e; items = (run_of G phi L mu).items }
   unfolding inner_of inner_with after_run
   failed_is e h = rw h refl
 
-  pub failed_left : (e : End) (a : InnerAnswer) → fit.end ≡ Failed e → a ≡ failed_answer e fit.account → AnswerLeft G wish phi L mu r r1 m m1 t t1 a
+  pub failed_left : (e : End) (a : InnerAnswer) → fit.end ≡ Err e → a ≡ failed_answer e fit.account → AnswerLeft G wish phi L mu r r1 m m1 t t1 a
   failed_left e a d ha =
       let i = failed_is e (run_failed (run_of G phi L mu).ending e x.told d) in
       rw ha
@@ -109,10 +110,10 @@ module _ (G : Given) (wish : ℕ) (phi : Float) (L : ℕ) (mu r r1 m m1 t t1 : L
     ending : (run_of G phi L mu).ending ≡ stopped mode
     holds : HoldsMode G mode r1 m1 fit
 
-  run_stopped : (o : Ending) → (run_of G phi L mu).ending ≡ o → EndingTold o G r1 m1 fit → fit.end ≡ Stopped → Held
+  run_stopped : (o : Ending) → (run_of G phi L mu).ending ≡ o → EndingTold o G r1 m1 fit → fit.end ≡ (Ok tt) → Held
   run_stopped (stopped k) e h d = record { mode = k; ending = e; holds = h }
   run_stopped (failed f) e h d =
-      let i : Failed f ≡ Stopped = sym (ap (λ (f : InnerFit). f.end) h) ∙ d in
+      let i : Err f ≡ (Ok tt) = sym (ap (λ (f : InnerFit). f.end) h) ∙ d in
       absurd (let z : ◌≡◌ {A = ℕ} 0 1 = cc in omega arith)
 
   reads : (k : Mode) → HoldsMode G k r1 m1 fit → Reads G k fit.fit r1 m1
@@ -177,7 +178,7 @@ module _ (G : Given) (wish : ℕ) (phi : Float) (L : ℕ) (mu r r1 m m1 t t1 : L
             terms_only = only_trans x.terms_only s.terms_only;
           })
 
-    pub stopped_left : (b : InnerAnswer) → fit.end ≡ Stopped → b ≡ stopped_answer fit a → AnswerLeft G wish phi L mu r r2 m m2 t t2 b
+    pub stopped_left : (b : InnerAnswer) → fit.end ≡ (Ok tt) → b ≡ stopped_answer fit a → AnswerLeft G wish phi L mu r r2 m m2 t t2 b
     stopped_left b d hb =
         let h : Held = run_stopped (run_of G phi L mu).ending refl x.told d in
         mode_left h.mode h.ending h.holds b hb

@@ -1,4 +1,7 @@
 -- The contract leaves one answer, and one content of what the results are read from. Assumes nothing.
+use Rattle.quadrature.specs.declared.orders.Decline.{Decline}
+use Rattle.quadrature.specs.declared.orders.Order.{Order}
+use Rattle.std.specs.Prelude.{Result}
 use mathlib.Core.Path.{◌≡◌, refl, sym, ◌∙◌}
 use mathlib.Core.List.{List, []}
 use Prim.Native.Nat.{ℕ, ◌*◌}
@@ -11,7 +14,6 @@ use Rattle.rule.specs.Given.{Given, n_of, q_of}
 use Rattle.rule.specs.Stop.{Mode}
 use Rattle.agq_rule.specs.Steps.{Integrated}
 use Rattle.agq_rule.specs.Inner.{InnerEnd, with_mode, without_mode, inner_of}
-use Rattle.agq_rule.specs.declared.answers.Integral.{Integral}
 use Rattle.sums.specs.declared.answers.Quadrature.{Quadrature}
 use Rattle.sums.proofs.Unique.{same_integrated}
 use Rattle.pirls.proofs.Unique.{SameResults, results_once}
@@ -36,7 +38,7 @@ answer_once G wish phi L mu r r' r'' m m' m'' t t' t'' a b x y =
     told_once (inner_of G wish phi L mu).ending G r' r'' m' m'' a b (x.counted ∙ sym y.counted) x.told y.told
 
 -- where the inner fit has a mode, two such answers leave the same for the results
-pub left_once : (G : Given) (wish : ℕ) (phi : Float) (L : ℕ) (mu r r' r'' m m' m'' t t' t'' : List Float) (a b : InnerAnswer) (k : Mode) (i : Integral) → (inner_of G wish phi L mu).ending ≡ with_mode k i
+pub left_once : (G : Given) (wish : ℕ) (phi : Float) (L : ℕ) (mu r r' r'' m m' m'' t t' t'' : List Float) (a b : InnerAnswer) (k : Mode) (i : Result (Float × Order) Decline) → (inner_of G wish phi L mu).ending ≡ with_mode k i
     → AnswerLeft G wish phi L mu r r' m m' t t' a → AnswerLeft G wish phi L mu r r'' m m'' t t'' b → SameResults G a.in_second b.in_second r' r'' m' m''
 left_once G wish phi L mu r r' r'' m m' m'' t t' t'' a b k i e x y =
     let x' : AnswerTold (with_mode k i) G r' m' a = rw e at x.told in

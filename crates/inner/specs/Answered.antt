@@ -1,4 +1,8 @@
 -- What the inner fit with its quadrature answers and leaves. Document 01, "The inner fit"; document 02, P5. Assumes nothing.
+use Rattle.quadrature.specs.declared.orders.Decline.{Decline}
+use Rattle.quadrature.specs.declared.orders.Order.{Order}
+use Rattle.std.specs.Prelude.{Result, Ok, Err}
+use Prim.{tt}
 use Rattle.std.specs.Prelude.{◌≡◌, List, false, ℕ, Float}
 use Rattle.base.specs.Number.{zero_f}
 use Rattle.base.specs.Rows.{Only}
@@ -12,24 +16,22 @@ use Rattle.model.specs.declared.ends.End.{End}
 use Rattle.rule.specs.Given.{Given, n_of, q_of}
 use Rattle.rule.specs.Stop.{Mode}
 use Rattle.pirls.specs.Inner.{HoldsResults}
-use Rattle.pirls.specs.declared.run.Ended.TheVariants.{Stopped, Failed}
 use Rattle.pirls.specs.declared.run.InnerFit.{InnerFit}
 use Rattle.agq_rule.specs.Inner.{InnerEnd, with_mode, without_mode, deviance_by, order_by, why_by, inner_of}
-use Rattle.agq_rule.specs.declared.answers.Integral.{Integral}
 use Rattle.sums.specs.declared.answers.Quadrature.{Quadrature}
 use Rattle.inner.specs.declared.answers.InnerAnswer.{InnerAnswer}
 
 -- an inner fit without a result: its end and its account, and zero everywhere else
 abbrev pub failed_answer : End → Account → InnerAnswer
-failed_answer e a = record { end = Failed e; iterations = 0; in_second = false; deviance_sum = zero_f; deviance = zero_f; order = 0; why = 0; account = a }
+failed_answer e a = record { end = Err e; iterations = 0; in_second = false; deviance_sum = zero_f; deviance = zero_f; order = 0; why = 0; account = a }
 
 -- a fit that stopped, with what its quadrature answers: the points are counted, whatever became of them
 abbrev pub stopped_answer : InnerFit → Quadrature → InnerAnswer
-stopped_answer f a = record { end = Stopped; iterations = f.iterations; in_second = f.in_second; deviance_sum = f.deviance_sum; deviance = deviance_by a.answer f.laplace; order = order_by a.answer; why = why_by a.answer; account = f.account ⊞ points_of a.points }
+stopped_answer f a = record { end = (Ok tt); iterations = f.iterations; in_second = f.in_second; deviance_sum = f.deviance_sum; deviance = deviance_by a.answer f.laplace; order = order_by a.answer; why = why_by a.answer; account = f.account ⊞ points_of a.points }
 
 -- the answer holds the mode k with what the quadrature answered, i; the work slices hold what the results are made of
-pub record HoldsAnswer (G : Given) (k : Mode) (i : Integral) (rows matrices : List Float) (a : InnerAnswer) : Type 0 where
-  pub end : a.end ≡ Stopped
+pub record HoldsAnswer (G : Given) (k : Mode) (i : Result (Float × Order) Decline) (rows matrices : List Float) (a : InnerAnswer) : Type 0 where
+  pub end : a.end ≡ (Ok tt)
   pub iterations : a.iterations ≡ k.iterations
   pub results : HoldsResults G k a.in_second rows matrices
   pub sum : a.deviance_sum ≡ k.dev_sum

@@ -5,13 +5,13 @@ ghost use Rattle.inner.specs.Answered.{failed_answer, stopped_answer};
 
 use agq_rule::{deviance_by, order_by, why_by};
 use model::{Account, End};
-use pirls::{Ended, InnerFit};
+use pirls::InnerFit;
 use sums::Quadrature;
 
 // What an inner fit answers beside what stands in the work slices; without a result all but end and account is zero.
 #[derive(Clone, Copy)]
 pub struct InnerAnswer {
-    pub end: Ended,
+    pub end: Result<(), End>,
     pub iterations: usize,
     pub in_second: bool,
     pub deviance_sum: f64,
@@ -26,7 +26,7 @@ pub fn failed_answer(end: End, account: Account) -> InnerAnswer
     ensures { result ≡ failed_answer end account }
 {
     InnerAnswer {
-        end: Ended::Failed(end),
+        end: Err(end),
         iterations: 0,
         in_second: false,
         deviance_sum: 0.0,
@@ -49,7 +49,7 @@ pub fn answer_of(fit: InnerFit, quadrature: Quadrature) -> InnerAnswer
     let order = order_by(integral);
     let why = why_by(integral);
     InnerAnswer {
-        end: Ended::Stopped,
+        end: Ok(()),
         iterations: fit.iterations,
         in_second: fit.in_second,
         deviance_sum: fit.deviance_sum,

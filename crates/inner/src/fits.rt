@@ -11,7 +11,7 @@ use crate::answers::{InnerAnswer, answer_of, failed_answer};
 use crate::quadratures::quadrature_at;
 use family::{CarriedFamily, CarriedLink};
 use model::Shape;
-use pirls::{Ended, inner_fit};
+use pirls::inner_fit;
 
 // The inner fit from the means that stand in their row; where it stops, with its quadrature.
 pub fn inner_answer(
@@ -50,8 +50,8 @@ pub fn inner_answer(
     );
     let end = fit.end;
     match end {
-        Ended::Failed(why) => failed_answer(why, fit.account),
-        Ended::Stopped => {
+        Err(why) => failed_answer(why, fit.account),
+        Ok(()) => {
             let quadrature = quadrature_at(
                 family, link, wish, shape, theta, starts, columns, values, offset, x, y, weights,
                 n, p, q, phi, fit.fit, r, m, t,

@@ -11,13 +11,12 @@ ghost use Rattle.iteration.specs.Iterated.{Asked};
 ghost use Rattle.sums.specs.Stands.{given_with};
 ghost use Rattle.inner.specs.Read.{declined_for, ProductAt, JointAt, QuadratureAt};
 
-use agq_rule::Integral;
 use family::{CarriedFamily, CarriedLink};
 use groups::product_step;
 use joint::joint_step;
 use linear::x_beta;
 use model::Shape;
-use quadrature::{Choice, Decline, resolve_gh_order_joint, resolve_gh_order_product};
+use quadrature::{Decline, resolve_gh_order_joint, resolve_gh_order_product};
 use sums::Quadrature;
 
 // No step is made.
@@ -25,7 +24,7 @@ fn declined(why: Decline) -> Quadrature
     ensures { result ≡ declined_for why }
 {
     Quadrature {
-        answer: Integral::Declined(why),
+        answer: Err(why),
         points: 0,
     }
 }
@@ -76,8 +75,8 @@ fn product_at(
 {
     let choice = resolve_gh_order_product(wish, k);
     match choice {
-        Choice::Without(why) => declined(why),
-        Choice::Use(order) => {
+        Err(why) => declined(why),
+        Ok(order) => {
             fixed_row(x, n, p, q, r, m);
             product_step(
                 family, link, shape, theta, starts, columns, values, y, weights, offset, n, p, q,
@@ -118,8 +117,8 @@ fn joint_at(
 {
     let choice = resolve_gh_order_joint(wish, q);
     match choice {
-        Choice::Without(why) => declined(why),
-        Choice::Use(order) => {
+        Err(why) => declined(why),
+        Ok(order) => {
             fixed_row(x, n, p, q, r, m);
             joint_step(
                 family, link, shape, theta, starts, columns, values, y, weights, offset, n, p, q,

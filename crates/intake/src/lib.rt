@@ -6,10 +6,9 @@ ghost use Rattle.intake.specs.Intake.{after_bytes, after_read, Brought};
 
 use std::io::Read;
 
-// What an input came to: it ended behind so many bytes, it goes on behind a full space, or it could not be read.
+// Why an input is not held whole: it goes on behind a full space, or it could not be read.
 #[derive(Clone, Copy)]
-pub enum Input {
-    Held(usize),
+pub enum InputError {
     TooLong,
     Failed,
 }
@@ -18,7 +17,7 @@ pub enum Input {
 #[derive(Clone, Copy)]
 pub enum Step {
     More(usize),
-    Ended(Input),
+    Ended(Result<usize, InputError>),
 }
 
 // A count that is not negative, as a number of bytes.
@@ -34,14 +33,14 @@ fn after_bytes(room: usize, held: usize, n: usize) -> Step
     ensures { result ≡ after_bytes room held n }
 {
     if n == 0 {
-        return Step::Ended(Input::Held(held));
+        return Step::Ended(Ok(held));
     }
     if room < held {
-        return Step::Ended(Input::TooLong);
+        return Step::Ended(Err(InputError::TooLong));
     }
     let free = room - held;
     if free < n {
-        return Step::Ended(Input::TooLong);
+        return Step::Ended(Err(InputError::TooLong));
     }
     let all = held + n;
     Step::More(all)
@@ -52,7 +51,7 @@ pub fn after_read(room: usize, held: usize, got: isize) -> Step
     ensures { result ≡ after_read room held got }
 {
     if got < 0 {
-        return Step::Ended(Input::Failed);
+        return Step::Ended(Err(InputError::Failed));
     }
     let n = bytes_of(got);
     after_bytes(room, held, n)

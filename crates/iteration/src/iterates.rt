@@ -8,12 +8,11 @@ ghost use Rattle.stages.specs.Held.{eta_row};
 ghost use Rattle.working.specs.Met.{Met};
 ghost use Rattle.iteration.specs.Iterated.{Asked, IterationLeft};
 
-use crate::solving::{Solving, solve_into};
+use crate::solving::solve_into;
 use crate::steps::step;
 use family::{CarriedFamily, CarriedLink};
 use model::{Account, End, Shape};
 use stages::weigh;
-use tries::TriesEnd;
 
 // What became of an iteration: no solve, with its end; no step accepted, with the account of the tries; or moved, with PWRSS and that account.
 #[derive(Clone, Copy)]
@@ -62,17 +61,17 @@ pub fn iterate(
         shape, theta, starts, columns, values, offset, x, n, p, q, r, m, t,
     );
     match solving {
-        Solving::Unsolved(e) => {
+        Err(e) => {
             return Iteration::Unsolvable(e);
         }
-        Solving::Found => {}
+        Ok(()) => {}
     }
     let end = step(link, n, p, q, in_second, m, t, r);
     match end {
-        TriesEnd::Moved(pwrss, made) => {
+        Ok((pwrss, made)) => {
             return Iteration::Moved(pwrss, made);
         }
-        TriesEnd::NoMove(made) => {
+        Err(made) => {
             return Iteration::Stuck(made);
         }
     }

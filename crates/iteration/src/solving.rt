@@ -10,17 +10,9 @@ ghost use Rattle.iteration.specs.Solving.{SolvesWorking};
 use crate::raws::raw_into;
 use crate::roots::solve_root;
 use crate::sides::right_sides;
-use factor::Factored;
 use layout::w_at;
 use model::{End, Shape};
 use solve::factor_system;
-
-// A solve found u, or has the end 10 or 11.
-#[derive(Clone, Copy)]
-pub enum Solving {
-    Found,
-    Unsolved(End),
-}
 
 // From w and z to the raw predictor: A and its factor, the right sides, the normal matrix's factor and β, u and b.
 pub fn solve_into(
@@ -37,7 +29,7 @@ pub fn solve_into(
     r: &mut [f64],
     m: &mut [f64],
     t: &mut [f64],
-) -> Solving
+) -> Result<(), End>
     requires ready { Ready shape theta.now starts.now columns.now values.now q n }
     requires work_room { WorkRoom n p q r.old m.old t.old }
     requires optional { (Optional n offset.now) × (n * p ≤ length x.now) }
@@ -48,21 +40,21 @@ pub fn solve_into(
 {
     let factored = factor_system(shape, theta, starts, columns, values, n, q, w_at(q), t, m);
     match factored {
-        Factored::Bad(_) => {
-            return Solving::Unsolved(End::SystemPivot);
+        Err(_) => {
+            return Err(End::SystemPivot);
         }
-        Factored::Done => {}
+        Ok(()) => {}
     }
     right_sides(shape, theta, starts, columns, values, x, n, p, q, r, m, t);
     let rooted = solve_root(n, p, q, m, t);
     match rooted {
-        Factored::Bad(_) => {
-            return Solving::Unsolved(End::NormalPivot);
+        Err(_) => {
+            return Err(End::NormalPivot);
         }
-        Factored::Done => {}
+        Ok(()) => {}
     }
     raw_into(
         shape, theta, starts, columns, values, offset, x, n, p, q, r, m, t,
     );
-    Solving::Found
+    Ok(())
 }

@@ -1,4 +1,5 @@
 -- Jobs read by computation: case J of document 01 whole, and each refusal at its byte. Assumes nothing.
+use Rattle.std.specs.Prelude.{Some}
 use mathlib.Core.Path.{◌≡◌, refl}
 use mathlib.Core.List.{List, [], ◌∷◌, ◌++◌}
 use Prim.Native.Nat.{ℕ}
@@ -11,7 +12,6 @@ use Rattle.model.specs.Names.{family_coded, link_coded, start_coded}
 use Rattle.model.specs.Shape.{total_to, block_effects, block_thetas, good_block, good_shape}
 use Rattle.model.specs.declared.names.Family.TheVariants.{Poisson}
 use Rattle.model.specs.declared.names.Link.TheVariants.{Log}
-use Rattle.model.specs.declared.names.Limit.TheVariants.{Given}
 use Rattle.model.specs.declared.names.Start.{Start}
 use Rattle.model.specs.declared.names.Start.TheVariants.{Usual, Trials}
 use Rattle.job.specs.declared.faults.Fault.TheVariants.{Sound, At}
@@ -39,7 +39,7 @@ case_j = 21 ∷ 129 ∷ 0 ∷ 8 ∷ 68 ∷ 0 ∷ rest
 abbrev pub started_j : Start → Job
 started_j t =
     record {
-      settings = record { family = Poisson; link = Log; n_agq = 1; limit = Given 0; n = 1; p = 1; rows = 1; entries = 1; start = t };
+      settings = record { family = Poisson; link = Log; n_agq = 1; limit = Some 0; n = 1; p = 1; rows = 1; entries = 1; start = t };
       shape = record { count = 1; m = 1 ∷ 0 ∷ 0 ∷ 0 ∷ 0 ∷ 0 ∷ 0 ∷ 0 ∷ []; k = 1 ∷ 0 ∷ 0 ∷ 0 ∷ 0 ∷ 0 ∷ 0 ∷ 0 ∷ [] };
       theta = bits 0x3ff0_0000_0000_0000 ∷ [];
       y = bits 0x4000_0000_0000_0000 ∷ [];

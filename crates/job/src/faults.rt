@@ -136,15 +136,13 @@ fn blocks_fault(s: &[u8], p: usize, n: usize) -> Fault
     ensures { result ≡ blocks_fault s.now p n }
 {
     let mut at = p;
-    let mut i = 0;
-    while i < n {
+    for i in 0..n {
         let f = block_fault(s, at);
         let ok = is_sound(f);
         if !ok {
             return f;
         }
         at += 2;
-        i += 1;
     }
     Fault::Sound
 }
@@ -172,15 +170,13 @@ fn entries_fault(s: &[u8], p: usize, n: usize) -> Fault
     ensures { result ≡ entries_fault s.now p n }
 {
     let mut at = p;
-    let mut i = 0;
-    while i < n {
+    for i in 0..n {
         let f = entry_fault(s, at);
         let ok = is_sound(f);
         if !ok {
             return f;
         }
         at += 10;
-        i += 1;
     }
     Fault::Sound
 }
@@ -205,8 +201,7 @@ fn rows_fault(s: &[u8], p: usize, n: usize) -> Fault
     ensures { result ≡ rows_fault s.now p n }
 {
     let mut at = p;
-    let mut i = 0;
-    while i < n {
+    for i in 0..n {
         let f = row_fault(s, at);
         let ok = is_sound(f);
         if !ok {
@@ -214,7 +209,6 @@ fn rows_fault(s: &[u8], p: usize, n: usize) -> Fault
         }
         let count = bits::field_at(s, 8 * at, 13);
         at = at + 2 + 10 * count;
-        i += 1;
     }
     if at < s.len() {
         return Fault::At(23, at);

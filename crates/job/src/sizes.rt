@@ -64,12 +64,10 @@ pub fn shape_in(s: &[u8], head: Head) -> Shape
     let first = blocks_at(s);
     let mut m = [0usize; 8];
     let mut k = [0usize; 8];
-    let mut i = 0;
-    while i < count {
+    for i in 0..count {
         let piece = piece_in(s, 8 * (first + 2 * i));
         m[i] = piece.m;
         k[i] = piece.k;
-        i += 1;
     }
     Shape { count, m, k }
 }

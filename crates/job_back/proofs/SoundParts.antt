@@ -1,4 +1,5 @@
 -- When each part of a job has no fault. Assumes nothing.
+use Rattle.std.specs.Prelude.{Option, Some, None}
 use mathlib.Core.Path.{◌≡◌, refl}
 use mathlib.Core.Bool.{true, false, ◌&&◌, ◌||◌}
 use mathlib.Core.List.{List}
@@ -10,8 +11,6 @@ use lib.Dec.{ltb, eqb}
 use lib.ListN.{length}
 use Rattle.bits.specs.Bits.{bits_of}
 use Rattle.model.specs.Settings.{good_limit}
-use Rattle.model.specs.declared.names.Limit.{Limit}
-use Rattle.model.specs.declared.names.Limit.TheVariants.{Given, NotGiven}
 use Rattle.job.specs.declared.faults.Fault.TheVariants.{Sound}
 use Rattle.job.specs.Format.{version, link_field, limit_field, is_second, short, row_at}
 use Rattle.job.specs.Faults.{demand, ◌▹◌, common_fault, second_fault, head_fault, pair_fault, blocks_fault, entry_fault, entries_fault, row_fault, rows_fault}
@@ -39,10 +38,10 @@ head_sound version2 s l e z k m =
     rw (common_sound s (omega arith) (rw e) k m, e, reach_yes s 56 (omega arith), spare_yes s 49 7 0 (rw (z refl)) refl)
 
 -- a limit in range, and one that is not given
-pub limit_in : (l : Limit) (c : ℕ) → good_limit l ≡ true → c ≡ limit_code l → ltb 1000 c && ltb c 1023 ≡ false
+pub limit_in : (l : Option ℕ) (c : ℕ) → good_limit l ≡ true → c ≡ limit_code l → ltb 1000 c && ltb c 1023 ≡ false
 unfolding good_limit limit_code
-limit_in (Given k) c g e = rw (le-ltb 1000 c (omega (arith, leb-true k 1000 g)))
-limit_in NotGiven c g e = rw e
+limit_in (Some k) c g e = rw (le-ltb 1000 c (omega (arith, leb-true k 1000 g)))
+limit_in None c g e = rw e
 
 -- two bytes, the last w bits of which are zero bits
 pub pair_sound : (s : List ℕ) (p w : ℕ) → p + 2 ≤ length s → bits_of s (8 * p + (16 - w)) w ≡ 0 → pair_fault s p w ≡ Sound

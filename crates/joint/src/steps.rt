@@ -8,15 +8,14 @@ ghost use Rattle.sums.specs.Stands.{Roomy, given_with};
 ghost use Rattle.sums.specs.Summed.{SumLeft, StepLeft};
 ghost use Rattle.joint.specs.Joint.{joint_terms, joint_rule, joint_answer};
 
-use agq_rule::Integral;
 use family::{CarriedFamily, CarriedLink};
 use layout::{inverse_at, mark_row, trial_u_at, u_at, xbeta_row};
 use model::Shape;
 use points::{log_weights, mark_all};
 use quadrature::{Order, gh_rule};
-use scale::{Scaling, block_scale};
+use scale::block_scale;
 use several::joint_terms;
-use sums::{GroupSum, Quadrature, Summed, inverse_phi, log_sum, power};
+use sums::{GroupSum, Quadrature, inverse_phi, log_sum, power};
 
 // The log sum over all effects, L standing at the place of the inverse: every observation enters.
 fn joint_sums(
@@ -73,12 +72,12 @@ fn joint_answer(a: GroupSum, order: Order, fit: f64) -> Quadrature
 {
     let sum = a.sum;
     match sum {
-        Summed::NoSum(d) => Quadrature {
-            answer: Integral::Declined(d),
+        Err(d) => Quadrature {
+            answer: Err(d),
             points: a.points,
         },
-        Summed::LogSum(s) => Quadrature {
-            answer: Integral::Deviance(fit + -2.0 * s, order),
+        Ok(s) => Quadrature {
+            answer: Ok((fit + -2.0 * s, order)),
             points: a.points,
         },
     }
@@ -114,11 +113,11 @@ pub fn joint_step(
         t.old t.new result }
 {
     match block_scale(q, 0, q, m, t) {
-        Scaling::Unscaled(d) => Quadrature {
-            answer: Integral::Declined(d),
+        Err(d) => Quadrature {
+            answer: Err(d),
             points: 0,
         },
-        Scaling::Scaled => {
+        Ok(()) => {
             let a = joint_sums(
                 family, link, shape, theta, starts, columns, values, y, weights, offset, n, p, q,
                 order, phi, r, m, t,

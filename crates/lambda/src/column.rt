@@ -18,10 +18,8 @@ fn column_start(k: usize, c: usize) -> usize
     ensures { result ≡ column_start k c }
 {
     let mut start = 0;
-    let mut i = 0;
-    while i < c {
+    for i in 0..c {
         start += k - i;
-        i += 1;
     }
     start
 }

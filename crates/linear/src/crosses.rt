@@ -10,10 +10,8 @@ fn add_products(v: f64, x: &[f64], o: usize, count: usize, sums: &mut [f64])
     requires { (o + count ≤ length x.now) × (count ≤ length sums.old) }
     ensures { sums.new ≡ fill_to count (added_at v x.now o sums.old) sums.old }
 {
-    let mut k = 0;
-    while k < count {
+    for k in 0..count {
         sums[k] = sums[k] + v * x[o + k];
-        k += 1;
     }
 }
 
@@ -31,13 +29,11 @@ fn crosses(
     requires { (n * p ≤ length x.now) × (n ≤ length w.now) × (a < p) × (b + count ≤ p) × (sums.old ≡ build zero_at count) }
     ensures { sums.new ≡ build (cross_from x.now p n w.now a b) count }
 {
-    let mut i = 0;
-    while i < n {
+    for i in 0..n {
         let o = base::offset(i, n, p);
         let v = x[o + a] * w[i];
         let c = o + b;
         add_products(v, x, c, count, sums);
-        i += 1;
     }
 }
 
@@ -145,11 +141,9 @@ pub fn cross_rows(x: &[f64], w: &[f64], n: usize, p: usize, out: &mut [f64])
     requires { (n * p ≤ length x.now) × (n ≤ length w.now) × (length out.old ≡ p * p) }
     ensures { CrossLeft p (cross_at x.now p n w.now) out.old out.new }
 {
-    let mut a = 0;
-    while a < p {
+    for a in 0..p {
         let o = base::offset(a, p, p);
         let e = o + p;
         cross_row(x, w, n, p, a, &mut out[o..e]);
-        a += 1;
     }
 }

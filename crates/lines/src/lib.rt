@@ -43,10 +43,8 @@ fn put_bytes(out: &mut [u8], at: usize, bytes: &[u8]) -> usize
     ensures { Appended bytes.now at out.old result out.new }
 {
     let n = bytes.len();
-    let mut i = 0;
-    while i < n {
+    for i in 0..n {
         out[at + i] = bytes[i];
-        i += 1;
     }
     at + n
 }

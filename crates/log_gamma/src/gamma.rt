@@ -70,14 +70,12 @@ fn below_eight(x: f64) -> f64
 {
     let mut v = x;
     let mut z = 1.0;
-    let mut i: u64 = 0;
-    while i < 5 {
+    for i in 0u64..5 {
         if v < 3.0 {
             return product(v, z);
         }
         v = v - 1.0;
         z = z * v;
-        i += 1;
     }
     product(v, z)
 }

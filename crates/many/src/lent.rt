@@ -9,7 +9,7 @@ ghost use Rattle.many.specs.Room.{DesignFronts, many_fronts};
 use jobfit::results_length;
 use model::{Settings, Shape};
 use reader::Header;
-use table::{LentLengths, Verdict};
+use table::LentLengths;
 
 // How much of beta the table is told of: none where the results or the counts have no room for all responses.
 fn beta_for(responses: usize, settings: Settings, results: usize, counts: usize) -> usize
@@ -76,7 +76,7 @@ pub fn verdict_fronts(
     columns: &[usize],
     values: &[f64],
     lent: LentLengths,
-) -> Verdict
+) -> Result<(CarriedFamily, CarriedLink), Refusal>
     requires { DesignFronts header (inputs theta.now y.now weights.now offset.now x.now starts.now columns.now values.now) }
     ensures { result
         ≡ table_of responses header.settings shape

@@ -96,12 +96,10 @@ pub fn fit_each(
         values.now)) responses
         (buffers rows.old matrices.old terms.old results.old counts.old) }
 {
-    let mut i = 0;
-    while i < responses {
+    for i in 0..responses {
         fit_response(
             i, responses, header, shape, theta, y, weights, offset, x, starts, columns, values,
             rows, matrices, terms, results, counts,
         );
-        i += 1;
     }
 }

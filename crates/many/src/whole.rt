@@ -12,7 +12,6 @@ use crate::responses::fit_each;
 use jobcall::put_refusal;
 use model::Shape;
 use reader::{Header, Reading};
-use table::Verdict;
 
 // No product is formed of more responses than these; where there are more the table refuses them before it looks at a length.
 fn few_of(responses: usize) -> usize
@@ -67,12 +66,12 @@ pub fn fit_fronts_many(
         responses, header, shape, theta, y, weights, offset, x, starts, columns, values, lent,
     );
     match verdict {
-        Verdict::Refused(refusal) => {
+        Err(refusal) => {
             let number = model::refusal_number(refusal) as u64;
             put_refusal(number, 0, counts);
             number
         }
-        Verdict::Accepted(_, _) => {
+        Ok((_, _)) => {
             fit_each(
                 responses, header, shape, theta, y, weights, offset, x, starts, columns, values,
                 rows, matrices, terms, results, counts,

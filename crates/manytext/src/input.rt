@@ -34,11 +34,9 @@ fn read_doubles(bytes: &[u8], out: &mut [f64])
     ensures { out.new ≡ laid (build (word_at bytes.now) (length bytes.now / 8)) out.old }
 {
     let n = bytes.len() / 8;
-    let mut i = 0;
-    while i < n {
+    for i in 0..n {
         let v = bits::double_at(bytes, 8 * i);
         out[i] = v;
-        i += 1;
     }
 }
 

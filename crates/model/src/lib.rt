@@ -9,7 +9,7 @@ mod sizes;
 pub use counts::Account;
 pub use ends::{Answer, End, Refusal, end_number, is_end, refusal_number};
 pub use names::{
-    Family, FamilyFound, Limit, Link, LinkFound, Start, StartFound, family_code, family_coded,
+    Family, Link, Start, family_code, family_coded,
     is_inverse, limit_of, link_code, link_coded, start_code, start_coded,
 };
 pub use sizes::{

@@ -23,39 +23,11 @@ pub enum Link {
     Sqrt,
 }
 
-// What a code or a name stands for, which may be no family.
-#[derive(Clone, Copy)]
-pub enum FamilyFound {
-    Found(Family),
-    NoSuch,
-}
-
-// What a code or a name stands for, which may be no link.
-#[derive(Clone, Copy)]
-pub enum LinkFound {
-    Found(Link),
-    NoSuch,
-}
-
 // How the starting means are made: by the family's rule, or with the weights as trial counts. A start's code is its place here.
 #[derive(Clone, Copy)]
 pub enum Start {
     Usual,
     Trials,
-}
-
-// What a code stands for, which may be no start.
-#[derive(Clone, Copy)]
-pub enum StartFound {
-    Found(Start),
-    NoSuch,
-}
-
-// The limit of iterations: a number, or left to the link.
-#[derive(Clone, Copy)]
-pub enum Limit {
-    Given(usize),
-    NotGiven,
 }
 
 // For a job's header.
@@ -71,15 +43,15 @@ pub fn family_code(family: Family) -> usize
 }
 
 // From a job's header.
-pub fn family_coded(code: usize) -> FamilyFound
+pub fn family_coded(code: usize) -> Option<Family>
     ensures { result ≡ family_coded code }
 {
     match code {
-        0 => FamilyFound::Found(Family::Binomial),
-        1 => FamilyFound::Found(Family::Poisson),
-        2 => FamilyFound::Found(Family::Gaussian),
-        3 => FamilyFound::Found(Family::Gamma),
-        _ => FamilyFound::NoSuch,
+        0 => Some(Family::Binomial),
+        1 => Some(Family::Poisson),
+        2 => Some(Family::Gaussian),
+        3 => Some(Family::Gamma),
+        _ => None,
     }
 }
 
@@ -99,18 +71,18 @@ pub fn link_code(link: Link) -> usize
 }
 
 // From a job's header, whose three bits can be 7.
-pub fn link_coded(code: usize) -> LinkFound
+pub fn link_coded(code: usize) -> Option<Link>
     ensures { result ≡ link_coded code }
 {
     match code {
-        0 => LinkFound::Found(Link::Logit),
-        1 => LinkFound::Found(Link::Probit),
-        2 => LinkFound::Found(Link::Cloglog),
-        3 => LinkFound::Found(Link::Log),
-        4 => LinkFound::Found(Link::Identity),
-        5 => LinkFound::Found(Link::Inverse),
-        6 => LinkFound::Found(Link::Sqrt),
-        _ => LinkFound::NoSuch,
+        0 => Some(Link::Logit),
+        1 => Some(Link::Probit),
+        2 => Some(Link::Cloglog),
+        3 => Some(Link::Log),
+        4 => Some(Link::Identity),
+        5 => Some(Link::Inverse),
+        6 => Some(Link::Sqrt),
+        _ => None,
     }
 }
 
@@ -125,13 +97,13 @@ pub fn start_code(start: Start) -> usize
 }
 
 // From a caller's settings, whose number can be any.
-pub fn start_coded(code: usize) -> StartFound
+pub fn start_coded(code: usize) -> Option<Start>
     ensures { result ≡ start_coded code }
 {
     match code {
-        0 => StartFound::Found(Start::Usual),
-        1 => StartFound::Found(Start::Trials),
-        _ => StartFound::NoSuch,
+        0 => Some(Start::Usual),
+        1 => Some(Start::Trials),
+        _ => None,
     }
 }
 
@@ -151,12 +123,12 @@ pub fn is_inverse(link: Link) -> bool
 }
 
 // How many iterations an inner fit may take.
-pub fn limit_of(limit: Limit, link: Link) -> usize
+pub fn limit_of(limit: Option<usize>, link: Link) -> usize
     ensures { result ≡ limit_of limit link }
 {
     match limit {
-        Limit::Given(l) => l,
-        Limit::NotGiven => {
+        Some(l) => l,
+        None => {
             if is_inverse(link) {
                 return 1000;
             }

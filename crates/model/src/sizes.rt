@@ -3,7 +3,7 @@ ghost use Rattle.std.specs.Prelude.{◌≡◌, true, ◌&&◌, ◌≤◌, ◌<�
 ghost use Rattle.model.specs.Shape.{within, first_effect, first_theta, effects_of, theta_length, good_shape};
 ghost use Rattle.model.specs.Settings.{good_limit, good_sizes};
 
-use crate::names::{Family, Limit, Link, Start};
+use crate::names::{Family, Link, Start};
 
 // The blocks of random effects: block i has m[i] groups of k[i] effects. Only the first `count` of each row are looked at.
 #[derive(Clone, Copy)]
@@ -19,7 +19,7 @@ pub struct Settings {
     pub family: Family,
     pub link: Link,
     pub n_agq: usize,
-    pub limit: Limit,
+    pub limit: Option<usize>,
     pub n: usize,
     pub p: usize,
     pub rows: usize,
@@ -75,12 +75,10 @@ pub fn first_effect(shape: Shape, block: usize) -> usize
     ensures { result ≡ first_effect shape block }
 {
     let mut q = 0;
-    let mut i = 0;
-    while i < block {
+    for i in 0..block {
         let m = shape.m[i];
         let k = shape.k[i];
         q += m * k;
-        i += 1;
     }
     q
 }
@@ -91,11 +89,9 @@ pub fn first_theta(shape: Shape, block: usize) -> usize
     ensures { result ≡ first_theta shape block }
 {
     let mut t = 0;
-    let mut i = 0;
-    while i < block {
+    for i in 0..block {
         let k = shape.k[i];
         t += k * (k + 1) / 2;
-        i += 1;
     }
     t
 }
@@ -119,12 +115,12 @@ pub fn theta_length(shape: Shape) -> usize
 }
 
 // A limit that is not given is never too large.
-fn limit_ok(limit: Limit) -> bool
+fn limit_ok(limit: Option<usize>) -> bool
     ensures { result ≡ good_limit limit }
 {
     match limit {
-        Limit::Given(l) => l <= 1000,
-        Limit::NotGiven => true,
+        Some(l) => l <= 1000,
+        None => true,
     }
 }
 

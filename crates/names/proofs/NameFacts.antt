@@ -1,4 +1,5 @@
 -- What document 01 fixes of the names: which bytes are a link's name, and that nothing else is. Assumes nothing.
+use Rattle.std.specs.Prelude.{Some}
 use mathlib.Core.Path.{◌≡◌, refl, sym, ap, ◌∙◌}
 use mathlib.Core.Bool.{Bool, true, false, ◌&&◌, ◌||◌, cond, true≢false}
 use mathlib.Core.List.{List, [], ◌∷◌, map, reverse, reverse_aux, reverse-reverse}
@@ -13,11 +14,10 @@ use Rattle.base.proofs.Doubles.{ff}
 use Rattle.base.proofs.Sums.{and_true, lt_or_ge}
 use Rattle.model.specs.declared.names.Link.{Link}
 use Rattle.model.specs.declared.names.Link.TheVariants.{Logit, Probit, Cloglog, Log, Identity, Inverse, Sqrt}
-use Rattle.model.specs.declared.names.LinkFound.TheVariants.{Found}
 use Rattle.names.specs.Names.{is_blank, trim_front, trim_end, lower_of, name_of, same_bytes, named_among, all_links, parse_of, name_bytes}
 
 -- ---- `parse` of `name` gives the link back
-pub parse_of_name : (l : Link) → parse_of (name_of l) ≡ Found l
+pub parse_of_name : (l : Link) → parse_of (name_of l) ≡ Some l
 unfolding parse_of trim_end trim_front is_blank lower_of same_bytes named_among
 parse_of_name Logit = refl
 parse_of_name Probit = refl
@@ -28,7 +28,7 @@ parse_of_name Inverse = refl
 parse_of_name Sqrt = refl
 
 -- also as the bytes that the function `name` gives
-pub parse_of_bytes : (l : Link) → parse_of (take (name_bytes l).count (name_bytes l).bytes) ≡ Found l
+pub parse_of_bytes : (l : Link) → parse_of (take (name_bytes l).count (name_bytes l).bytes) ≡ Some l
 unfolding parse_of trim_end trim_front is_blank lower_of same_bytes named_among name_bytes
 parse_of_bytes Logit = refl
 parse_of_bytes Probit = refl
@@ -39,7 +39,7 @@ parse_of_bytes Inverse = refl
 parse_of_bytes Sqrt = refl
 
 -- ---- what is parsed to a link is its name, trimmed and in small letters, and that is parsed to it
-pub named_is_found : (s : List ℕ) (l : Link) → map lower_of (trim_end (trim_front s)) ≡ name_of l → parse_of s ≡ Found l
+pub named_is_found : (s : List ℕ) (l : Link) → map lower_of (trim_end (trim_front s)) ≡ name_of l → parse_of s ≡ Some l
 unfolding parse_of same_bytes named_among
 named_is_found s Logit e = rw e
 named_is_found s Probit e = rw e
@@ -60,16 +60,16 @@ same_bytes_lem (x ∷ xs) (y ∷ ys) h =
     let tail : xs ≡ ys = same_bytes_lem xs ys (sym p.1) in
     cc
 
-among_only : (ls : List Link) (w : List ℕ) (l : Link) → named_among ls w ≡ Found l → w ≡ name_of l
+among_only : (ls : List Link) (w : List ℕ) (l : Link) → named_among ls w ≡ Some l → w ≡ name_of l
 unfolding named_among
 among_only [] w l e = let z : ◌≡◌ {A = ℕ} 0 1 = cc in let never : ⊥ = omega arith in absurd never
 among_only (k ∷ ls) w l e = picked (same_bytes w (name_of k)) refl (among_only ls w l) e
   where
-    picked : (b : Bool) → same_bytes w (name_of k) ≡ b → (named_among ls w ≡ Found l → w ≡ name_of l) → cond b (Found k) (named_among ls w) ≡ Found l → w ≡ name_of l
+    picked : (b : Bool) → same_bytes w (name_of k) ≡ b → (named_among ls w ≡ Some l → w ≡ name_of l) → cond b (Some k) (named_among ls w) ≡ Some l → w ≡ name_of l
     picked true h rest q = let same : k ≡ l = cc in same_bytes_lem w (name_of k) h ∙ ap name_of same
     picked false h rest q = rest q
 
-pub found_is_named : (s : List ℕ) (l : Link) → parse_of s ≡ Found l → map lower_of (trim_end (trim_front s)) ≡ name_of l
+pub found_is_named : (s : List ℕ) (l : Link) → parse_of s ≡ Some l → map lower_of (trim_end (trim_front s)) ≡ name_of l
 unfolding parse_of
 found_is_named s l e = among_only all_links _ l e
 
@@ -127,5 +127,5 @@ name_ascii Identity = search rules
 name_ascii Inverse = search rules
 name_ascii Sqrt = search rules
 
-pub found_is_ascii : (s : List ℕ) (l : Link) → parse_of s ≡ Found l → Ascii s
+pub found_is_ascii : (s : List ℕ) (l : Link) → parse_of s ≡ Some l → Ascii s
 found_is_ascii s l e = front_ascii s (end_ascii (trim_front s) (low_ascii (trim_end (trim_front s)) (rw (found_is_named s l e) (name_ascii l))))

@@ -5,7 +5,7 @@ ghost use Rattle.std.specs.Prelude.{◌≡◌, map};
 ghost use Rattle.names.specs.Names.{is_blank, lower_of, same_bytes, all_links, named_among, parse_of, name_bytes};
 ghost use Rattle.names.specs.Trimmed.{FrontAt, EndAt};
 
-use model::{Link, LinkFound};
+use model::Link;
 
 // A name: the first `count` of the bytes, with zeros behind them.
 #[derive(Clone, Copy)]
@@ -75,46 +75,44 @@ fn spells(word: &[u8], name: &[u8]) -> bool
     if word.len() != name.len() {
         return false;
     }
-    let mut i = 0;
-    while i < name.len() {
+    for i in 0..name.len() {
         if lower(word[i]) != name[i] {
             return false;
         }
-        i += 1;
     }
     true
 }
 
 // The link of a word without blanks around it.
-fn named(word: &[u8]) -> LinkFound
+fn named(word: &[u8]) -> Option<Link>
     ensures { result ≡ named_among all_links (map lower_of word.now) }
 {
     if spells(word, b"logit") {
-        return LinkFound::Found(Link::Logit);
+        return Some(Link::Logit);
     }
     if spells(word, b"probit") {
-        return LinkFound::Found(Link::Probit);
+        return Some(Link::Probit);
     }
     if spells(word, b"cloglog") {
-        return LinkFound::Found(Link::Cloglog);
+        return Some(Link::Cloglog);
     }
     if spells(word, b"log") {
-        return LinkFound::Found(Link::Log);
+        return Some(Link::Log);
     }
     if spells(word, b"identity") {
-        return LinkFound::Found(Link::Identity);
+        return Some(Link::Identity);
     }
     if spells(word, b"inverse") {
-        return LinkFound::Found(Link::Inverse);
+        return Some(Link::Inverse);
     }
     if spells(word, b"sqrt") {
-        return LinkFound::Found(Link::Sqrt);
+        return Some(Link::Sqrt);
     }
-    LinkFound::NoSuch
+    None
 }
 
 // The link of a name, in letters of either case and with blanks around it or not.
-pub fn parse(s: &[u8]) -> LinkFound
+pub fn parse(s: &[u8]) -> Option<Link>
     ensures { result ≡ parse_of s.now }
 {
     let start = blanks_before(s);

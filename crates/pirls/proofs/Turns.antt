@@ -1,4 +1,6 @@
 -- One turn of the run, and what each of its ends leaves. Assumes nothing.
+use Rattle.std.specs.Prelude.{Ok}
+use Prim.{tt}
 use mathlib.Core.Path.{◌≡◌, refl, sym, ap, ◌∙◌}
 use mathlib.Core.List.{List, [], ◌∷◌, ◌++◌}
 use mathlib.Core.Bool.{Bool, true, false, not}
@@ -35,7 +37,6 @@ use Rattle.iteration.specs.Iterated.{StuckAfter, MovedAfter, iteration_cap}
 use Rattle.iteration.proofs.IterationMade.{eta_before}
 use Rattle.iteration.proofs.MovedMeans.{moved_met}
 use Rattle.pirls.specs.Inner.{turned, failed_fit, InnerLeft}
-use Rattle.pirls.specs.declared.run.Ended.TheVariants.{Stopped}
 
 -- the most that an inner fit has counted after k iterations
 abbrev pub run_to : ℕ → Account
@@ -251,7 +252,7 @@ module _ (G : Given) (phi : Float) (L : ℕ) (mu₀ : List Float) where
       matrix_kept c w a h = only_row c w (root_inverse_place p q) (p * p) a (omega (arith, lent.matrices_long)) sl.matrices_only
 
       pub fit_stopped : Only 0 (rows_length n) r₀ r'
-          → InnerLeft G phi L mu₀ r₀ r''' m₀ m''' t₀ t' (record { end = Stopped; iterations = k + 1; in_second = not second; deviance_sum = at.deviance_sum; fit = at.fit; laplace = at.laplace; account = more })
+          → InnerLeft G phi L mu₀ r₀ r''' m₀ m''' t₀ t' (record { end = (Ok tt); iterations = k + 1; in_second = not second; deviance_sum = at.deviance_sum; fit = at.fit; laplace = at.laplace; account = more })
       unfolding run_of items_before mode_of mode_devs mode_sum mode_fit
       fit_stopped or =
           let lr : rows_length n ≤ length r'' = lent.rows_long in

@@ -16,17 +16,10 @@ use rule::stops;
 use stages::{AtStop, stop};
 use working::start_eta;
 
-// Whether an inner fit has a result.
-#[derive(Clone, Copy)]
-pub enum Ended {
-    Stopped,
-    Failed(End),
-}
-
 // What an inner fit answers beside what stands in the work slices; without a result all but end and account is zero.
 #[derive(Clone, Copy)]
 pub struct InnerFit {
-    pub end: Ended,
+    pub end: Result<(), End>,
     pub iterations: usize,
     pub in_second: bool,
     pub deviance_sum: f64,
@@ -40,7 +33,7 @@ fn failed_fit(end: End, account: Account) -> InnerFit
     ensures { result ≡ failed_fit end account }
 {
     InnerFit {
-        end: Ended::Failed(end),
+        end: Err(end),
         iterations: 0,
         in_second: false,
         deviance_sum: 0.0,
@@ -55,7 +48,7 @@ fn stopped_fit(s: AtStop, iterations: usize, in_second: bool, account: Account) 
     ensures { result ≡ stopped_fit s iterations in_second account }
 {
     InnerFit {
-        end: Ended::Stopped,
+        end: Ok(()),
         iterations,
         in_second,
         deviance_sum: s.deviance_sum,

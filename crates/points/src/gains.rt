@@ -18,10 +18,8 @@ pub fn mark_all(n: usize, mark: usize, r: &mut [f64])
     requires { mark + n ≤ length r.old }
     ensures { Wrote mark n (build one_at n) r.old r.new }
 {
-    let mut i = 0;
-    while i < n {
+    for i in 0..n {
         r[mark + i] = 1.0;
-        i += 1;
     }
 }
 
@@ -41,11 +39,9 @@ fn mark_one(
     ensures { MarkedIn (sparse starts.now columns.now values.now) a mark n r.old r.new }
 {
     let end = starts[a + 1];
-    let mut k = starts[a];
-    while k < end {
+    for k in starts[a]..end {
         let i = columns[k];
         r[mark + i] = 1.0;
-        k += 1;
     }
 }
 
@@ -67,11 +63,9 @@ pub fn mark_group(
 {
     let e = mark + n;
     base::wipe(&mut r[mark..e], n);
-    let mut i = 0;
-    while i < k {
+    for i in 0..k {
         let a = s + i;
         mark_one(starts, columns, values, rows, n, a, mark, r);
-        i += 1;
     }
 }
 
@@ -117,11 +111,9 @@ pub fn point_means(
     ensures { Wrote zb n (build (mean_over link offset.now (row xbeta n r.old) (row zb n r.old) (row mark n r.old)) n)
         r.old r.new }
 {
-    let mut i = 0;
-    while i < n {
+    for i in 0..n {
         let mean = mean_over(link, offset, n, xbeta, zb, mark, r, i);
         r[zb + i] = mean;
-        i += 1;
     }
 }
 
@@ -168,10 +160,8 @@ pub fn deviance_gain(
         (entered family y.now weights.now (row means n r.now) (row devs n r.now)) }
 {
     let mut sum = 0.0;
-    let mut i = 0;
-    while i < n {
+    for i in 0..n {
         sum = add_gain(family, y, weights, n, devs, means, mark, r, i, sum);
-        i += 1;
     }
     sum
 }

@@ -1,4 +1,5 @@
 -- "refused 5" is printed of no job: neither the reader nor the table has that number. Document 02, P8. Assumes nothing.
+use Rattle.std.specs.Prelude.{Ok, Err}
 use mathlib.Core.Path.{◌≡◌, refl, sym, ap, ◌∙◌}
 use mathlib.Core.List.{List}
 use Prim.Native.Nat.{ℕ}
@@ -11,8 +12,6 @@ use Rattle.model.specs.declared.ends.Refusal.TheVariants.{OutOfRange, Responses,
 use Rattle.family.specs.declared.carried.CarriedFamily.{CarriedFamily}
 use Rattle.family.specs.declared.carried.CarriedLink.{CarriedLink}
 use Rattle.results.specs.Nine.{Results}
-use Rattle.table.specs.declared.verdicts.Verdict.{Verdict}
-use Rattle.table.specs.declared.verdicts.Verdict.TheVariants.{Accepted, Refused}
 use Rattle.dispersion.specs.Rounds.{Result, result, no_result, Dispersed}
 use Rattle.job.specs.declared.faults.Fault.{Fault}
 use Rattle.job.specs.declared.faults.Fault.TheVariants.{Sound, At}
@@ -75,13 +74,13 @@ no_end text b first e = let same = sym first ∙ ap (λ l. l !! 0) e ∙ five_fi
 
 -- ---- every job, by the reader, the table and the fit
 module _ (s : List ℕ) (b : ℕ) (printed : output_of s ≡ refused_line 5 b) where
-  by_fit : (f : CarriedFamily) (l : CarriedLink) → fault_of s ≡ Sound → verdict_on s ≡ Accepted f l → (x : Result (Dispersed Fitted)) → (fit_for f l s).outcome ≡ x → ⊥
+  by_fit : (f : CarriedFamily) (l : CarriedLink) → fault_of s ≡ Sound → verdict_on s ≡ Ok (f, l) → (x : Result (Dispersed Fitted)) → (fit_for f l s).outcome ≡ x → ⊥
   by_fit f l e v (no_result end) h = let told = unfitted_printed s f l e v end h in no_end _ b (end_first _) (sym told ∙ printed)
   by_fit f l e v (result d) h = let told = fitted_printed s f l e v d h in no_end _ b (fitted_first _ _) (sym told ∙ printed)
 
-  by_verdict : fault_of s ≡ Sound → (v : Verdict) → verdict_on s ≡ v → ⊥
-  by_verdict e (Refused r) v = refusal_other r 0 b (sym (table_refused s r e v) ∙ printed)
-  by_verdict e (Accepted f l) v = by_fit f l e v (fit_for f l s).outcome refl
+  by_verdict : fault_of s ≡ Sound → (v : Result (CarriedFamily × CarriedLink) Refusal) → verdict_on s ≡ v → ⊥
+  by_verdict e (Err r) v = refusal_other r 0 b (sym (table_refused s r e v) ∙ printed)
+  by_verdict e (Ok (f, l)) v = by_fit f l e v (fit_for f l s).outcome refl
 
   by_fault : (x : Fault) → fault_of s ≡ x → ⊥
   by_fault Sound e = by_verdict e (verdict_on s) refl

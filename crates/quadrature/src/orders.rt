@@ -26,27 +26,6 @@ pub enum Decline {
     Sum,
 }
 
-// An order, or why there is none.
-#[derive(Clone, Copy)]
-pub enum Choice {
-    Use(Order),
-    Without(Decline),
-}
-
-// What a number names: an order, or nothing that has a rule.
-#[derive(Clone, Copy)]
-pub enum Named {
-    Known(Order),
-    NoRule,
-}
-
-// One order below another, or nothing below the lowest.
-#[derive(Clone, Copy)]
-pub enum Lower {
-    To(Order),
-    Nothing,
-}
-
 // How many nodes the rule has.
 pub fn order_size(order: Order) -> usize
     ensures { result ≡ size_of order }
@@ -76,47 +55,47 @@ pub fn decline_number(decline: Decline) -> usize
 }
 
 // The order of this number of nodes.
-pub fn order_of(number: usize) -> Named
+pub fn order_of(number: usize) -> Option<Order>
     ensures { result ≡ order_of number }
 {
     if number == 3 {
-        return Named::Known(Order::Three);
+        return Some(Order::Three);
     }
     if number == 5 {
-        return Named::Known(Order::Five);
+        return Some(Order::Five);
     }
     if number == 7 {
-        return Named::Known(Order::Seven);
+        return Some(Order::Seven);
     }
     if number == 9 {
-        return Named::Known(Order::Nine);
+        return Some(Order::Nine);
     }
     if number == 11 {
-        return Named::Known(Order::Eleven);
+        return Some(Order::Eleven);
     }
-    Named::NoRule
+    None
 }
 
 // The first order not below the wish; above 11 it is 11, below 2 there is none.
-pub fn resolve_gh_order(wish: usize) -> Choice
+pub fn resolve_gh_order(wish: usize) -> Result<Order, Decline>
     ensures { result ≡ wished wish }
 {
     if wish < 2 {
-        return Choice::Without(Decline::Wish);
+        return Err(Decline::Wish);
     }
     if wish <= 3 {
-        return Choice::Use(Order::Three);
+        return Ok(Order::Three);
     }
     if wish <= 5 {
-        return Choice::Use(Order::Five);
+        return Ok(Order::Five);
     }
     if wish <= 7 {
-        return Choice::Use(Order::Seven);
+        return Ok(Order::Seven);
     }
     if wish <= 9 {
-        return Choice::Use(Order::Nine);
+        return Ok(Order::Nine);
     }
-    Choice::Use(Order::Eleven)
+    Ok(Order::Eleven)
 }
 
 // Whether size^dims is at most the cap. The power is never formed past the cap, so it ends after a few
@@ -126,32 +105,30 @@ fn within_cap(size: usize, dims: usize, cap: usize) -> bool
     ensures { result ≡ within_cap size dims cap }
 {
     let mut power: usize = 1;
-    let mut i = 0;
-    while i < dims {
+    for i in 0..dims {
         if cap < power {
             return false;
         }
         power = power * size;
-        i += 1;
     }
     power <= cap
 }
 
 // The next order down, if there is one.
-fn next_lower(order: Order) -> Lower
+fn next_lower(order: Order) -> Option<Order>
     ensures { result ≡ next_lower order }
 {
     match order {
-        Order::Three => Lower::Nothing,
-        Order::Five => Lower::To(Order::Three),
-        Order::Seven => Lower::To(Order::Five),
-        Order::Nine => Lower::To(Order::Seven),
-        Order::Eleven => Lower::To(Order::Nine),
+        Order::Three => None,
+        Order::Five => Some(Order::Three),
+        Order::Seven => Some(Order::Five),
+        Order::Nine => Some(Order::Seven),
+        Order::Eleven => Some(Order::Nine),
     }
 }
 
 // The first order from this one down with order^dims at most the cap.
-fn capped(order: Order, dims: usize, cap: usize) -> Choice
+fn capped(order: Order, dims: usize, cap: usize) -> Result<Order, Decline>
     requires { cap ≤ 7000 }
     ensures { result ≡ capped_from cap dims order }
 {
@@ -159,29 +136,29 @@ fn capped(order: Order, dims: usize, cap: usize) -> Choice
     loop {
         let size = order_size(at);
         if within_cap(size, dims, cap) {
-            return Choice::Use(at);
+            return Ok(at);
         }
         match next_lower(at) {
-            Lower::To(next) => {
+            Some(next) => {
                 at = next;
             }
-            Lower::Nothing => {
-                return Choice::Without(Decline::Cap);
+            None => {
+                return Err(Decline::Cap);
             }
         }
     }
 }
 
 // One block of k effects a group: k = 1 keeps the order, else order^k is at most 400.
-pub fn resolve_gh_order_product(wish: usize, k: usize) -> Choice
+pub fn resolve_gh_order_product(wish: usize, k: usize) -> Result<Order, Decline>
     ensures { result ≡ product_order wish k }
 {
     let base = resolve_gh_order(wish);
     match base {
-        Choice::Without(d) => Choice::Without(d),
-        Choice::Use(order) => {
+        Err(d) => Err(d),
+        Ok(order) => {
             if k == 1 {
-                return Choice::Use(order);
+                return Ok(order);
             }
             capped(order, k, 400)
         }
@@ -189,18 +166,18 @@ pub fn resolve_gh_order_product(wish: usize, k: usize) -> Choice
 }
 
 // All q effects at once: none for no effect or more than 8, else order^q is at most 7,000.
-pub fn resolve_gh_order_joint(wish: usize, q: usize) -> Choice
+pub fn resolve_gh_order_joint(wish: usize, q: usize) -> Result<Order, Decline>
     ensures { result ≡ joint_order wish q }
 {
     let base = resolve_gh_order(wish);
     match base {
-        Choice::Without(d) => Choice::Without(d),
-        Choice::Use(order) => {
+        Err(d) => Err(d),
+        Ok(order) => {
             if q == 0 {
-                return Choice::Without(Decline::Effects);
+                return Err(Decline::Effects);
             }
             if 8 < q {
-                return Choice::Without(Decline::Effects);
+                return Err(Decline::Effects);
             }
             capped(order, q, 7000)
         }

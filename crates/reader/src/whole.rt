@@ -11,7 +11,7 @@ ghost use Rattle.model.specs.Inputs.{inputs};
 
 use crate::lists::{read_numbers, read_rows};
 use job::{Counts, Fault, Head, Places};
-use model::{Family, FamilyFound, Limit, Link, LinkFound, Settings, Shape, Start, StartFound};
+use model::{Family, Link, Settings, Shape, Start};
 
 // What is told of an accepted job beside its lists: the plain numbers of the call, and the lengths of theta, weights and offset.
 #[derive(Clone, Copy)]
@@ -41,8 +41,8 @@ fn family_in(code: usize) -> Family
     ensures { result ≡ family_from (family_coded code) }
 {
     match model::family_coded(code) {
-        FamilyFound::Found(family) => family,
-        FamilyFound::NoSuch => Family::Binomial,
+        Some(family) => family,
+        None => Family::Binomial,
     }
 }
 
@@ -51,19 +51,19 @@ fn link_in(code: usize) -> Link
     ensures { result ≡ link_from (link_coded code) }
 {
     match model::link_coded(code) {
-        LinkFound::Found(link) => link,
-        LinkFound::NoSuch => Link::Logit,
+        Some(link) => link,
+        None => Link::Logit,
     }
 }
 
 // The code 1023 leaves the limit to the link.
-fn limit_in(code: usize) -> Limit
+fn limit_in(code: usize) -> Option<usize>
     ensures { result ≡ limit_from code }
 {
     if code == 1023 {
-        return Limit::NotGiven;
+        return None;
     }
-    Limit::Given(code)
+    Some(code)
 }
 
 // One bit always names a start.
@@ -71,8 +71,8 @@ fn start_named(code: usize) -> Start
     ensures { result ≡ start_from (start_coded code) }
 {
     match model::start_coded(code) {
-        StartFound::Found(start) => start,
-        StartFound::NoSuch => Start::Usual,
+        Some(start) => start,
+        None => Start::Usual,
     }
 }
 

@@ -24,11 +24,9 @@ fn put_values(out: &mut [u8], at: usize, name: &[u8], xs: &[f64]) -> usize
     ensures { Grown (value_lines name.now xs.now) (64 * length xs.now) at out.old result out.new }
 {
     let mut here = at;
-    let mut i = 0;
-    while i < xs.len() {
+    for i in 0..xs.len() {
         let x = xs[i];
         here = put_value(out, here, name, i, x);
-        i += 1;
     }
     here
 }

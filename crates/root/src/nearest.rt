@@ -55,11 +55,9 @@ fn by_digits(s: u64) -> u64
 {
     let mut q = 0;
     let mut b = 0x20_0000_0000_0000;
-    let mut k: u64 = 0;
-    while k < 53 {
+    for k in 0u64..53 {
         b = b / 2;
         q = with_digit(s, q, b);
-        k += 1;
     }
     q
 }
@@ -70,13 +68,11 @@ fn upwards(s: u64, q: u64) -> u64
     ensures { result ≡ nearest_from 53 0 (s * 0x10_0000_0000_0000) }
 {
     let mut r = q;
-    let mut k: u64 = 0;
-    while k < 4 {
+    for k in 0u64..4 {
         r += 1;
         if s <= pronic(r) {
             return r;
         }
-        k += 1;
     }
     by_digits(s)
 }
@@ -87,13 +83,11 @@ fn downwards(s: u64, q: u64) -> u64
     ensures { result ≡ nearest_from 53 0 (s * 0x10_0000_0000_0000) }
 {
     let mut r = q;
-    let mut k: u64 = 0;
-    while k < 4 {
+    for k in 0u64..4 {
         if pronic(r - 1) < s {
             return r;
         }
         r -= 1;
-        k += 1;
     }
     by_digits(s)
 }

@@ -11,7 +11,7 @@ ghost use Rattle.rounds.specs.Fitted.{FitLeft};
 
 use crate::starting::inner_at;
 use crate::totals::{Fit, fit_from, round_after};
-use dispersion::{Round, effective_n};
+use dispersion::effective_n;
 use family::{CarriedFamily, CarriedLink, uses_dispersion};
 use model::{Account, Shape, Start};
 
@@ -67,10 +67,10 @@ fn dispersed_fit(
         account = account.plus(a.account);
         let round = round_after(a, effective, phi);
         match round {
-            Round::Settled => {
+            None => {
                 return fit_from(a, phi, true, account);
             }
-            Round::Next(next) => {
+            Some(next) => {
                 phi = next;
                 k += 1;
             }

@@ -2,10 +2,9 @@
 ghost use Rattle.std.specs.Prelude.{◌≡◌};
 ghost use Rattle.rounds.specs.Totals.{round_after, fit_from};
 
-use dispersion::{Round, round_of};
+use dispersion::round_of;
 use inner::InnerAnswer;
 use model::{Account, Answer};
-use pirls::Ended;
 
 // What a fit answers, whether it has a result, and in which row its predictor stands then.
 #[derive(Clone, Copy)]
@@ -16,13 +15,13 @@ pub struct Fit {
 }
 
 // An inner fit without a result is the last.
-pub fn round_after(a: InnerAnswer, effective: f64, phi: f64) -> Round
+pub fn round_after(a: InnerAnswer, effective: f64, phi: f64) -> Option<f64>
     ensures { result ≡ round_after a.end effective phi a.deviance_sum }
 {
     let end = a.end;
     match end {
-        Ended::Stopped => round_of(effective, phi, a.deviance_sum),
-        Ended::Failed(_) => Round::Settled,
+        Ok(()) => round_of(effective, phi, a.deviance_sum),
+        Err(_) => None,
     }
 }
 
@@ -32,7 +31,7 @@ pub fn fit_from(a: InnerAnswer, phi: f64, converged: bool, account: Account) -> 
 {
     let end = a.end;
     match end {
-        Ended::Stopped => Fit {
+        Ok(()) => Fit {
             fitted: true,
             in_second: a.in_second,
             answer: Answer::fitted(
@@ -45,7 +44,7 @@ pub fn fit_from(a: InnerAnswer, phi: f64, converged: bool, account: Account) -> 
                 account,
             ),
         },
-        Ended::Failed(e) => Fit {
+        Err(e) => Fit {
             fitted: false,
             in_second: false,
             answer: Answer::unfitted(e, account),

@@ -98,13 +98,11 @@ pub fn joint_terms(
 {
     let end = u + q;
     let hats = dot(&m[u..end], &m[u..end], q);
-    let mut i = 0;
-    while i < count {
+    for i in 0..count {
         let term = joint_point(
             family, link, shape, theta, starts, columns, values, y, weights, offset, n, q, xbeta,
             r, nodes, node_logs, size, i, inv_phi, hats, l, u, trial, m,
         );
         terms[i] = term;
-        i += 1;
     }
 }

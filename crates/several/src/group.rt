@@ -101,13 +101,11 @@ pub fn group_terms(
         (row l (k * k) m.old) (row u q m.old) (row trial q m.old)) n q xbeta trial count r.old r.new
         m.old m.new terms.old terms.new }
 {
-    let mut i = 0;
-    while i < count {
+    for i in 0..count {
         let term = group_point(
             family, link, shape, theta, starts, columns, values, y, weights, offset, n, q, xbeta,
             r, nodes, node_logs, size, i, s, k, inv_phi, l, u, trial, m,
         );
         terms[i] = term;
-        i += 1;
     }
 }

@@ -5,7 +5,6 @@ ghost use Rattle.stored.specs.Stored.{sparse};
 ghost use Rattle.solve.specs.Ready.{Ready, Whatever};
 ghost use Rattle.solve.specs.System.{SystemLeaves};
 
-use factor::Factored;
 use model::Shape;
 
 // From the weights at w of t: Z'WZ into m, (Z'WZ)Λ by its columns into t, A into m, LDL' of A into t, each at the front.
@@ -20,7 +19,7 @@ pub fn factor_system(
     w: usize,
     t: &mut [f64],
     m: &mut [f64],
-) -> Factored
+) -> Result<(), usize>
     requires ready { Ready shape theta.now starts.now columns.now values.now q n }
     requires q_bound { (q * q ≤ w) × (w + n ≤ length t.old) × (q * q ≤ length m.old) }
     ensures { Whatever n shape theta.now (sparse starts.now columns.now values.now)

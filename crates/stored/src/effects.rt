@@ -21,11 +21,9 @@ fn add_row(
         ≡ fill_to n (added_at (sparse starts.now columns.now values.now) b.now a out.old) out.old }
 {
     let end = starts[a + 1];
-    let mut k = starts[a];
-    while k < end {
+    for k in starts[a]..end {
         let i = columns[k];
         out[i] = out[i] + values[k] * b[a];
-        k += 1;
     }
 }
 
@@ -44,9 +42,7 @@ pub fn z_times(
     ensures { out.new ≡ fill_to n (z_times_at (sparse starts.now columns.now values.now) rows b.now) out.old }
 {
     base::wipe(out, n);
-    let mut a = 0;
-    while a < rows {
+    for a in 0..rows {
         add_row(starts, columns, values, rows, n, b, a, out);
-        a += 1;
     }
 }

@@ -28,11 +28,9 @@ pub fn least_mark(columns: &[usize], begin: usize, end: usize, marks: &[u8]) -> 
     ensures { result ≡ least_mark columns.now begin (end - begin) marks.now }
 {
     let mut least = 255;
-    let mut k = begin;
-    while k < end {
+    for k in begin..end {
         let place = columns[k] % 512;
         least = lesser_mark(least, marks[place]);
-        k += 1;
     }
     least
 }
@@ -42,11 +40,9 @@ pub fn lower_marks(columns: &[usize], begin: usize, end: usize, x: u8, marks: &m
     requires { (begin ≤ end) × (end ≤ length columns.now) × (length marks.old ≡ 512) }
     ensures { marks.new ≡ lowered columns.now begin x (end - begin) marks.old }
 {
-    let mut k = begin;
-    while k < end {
+    for k in begin..end {
         let place = columns[k] % 512;
         let mark = lesser_mark(marks[place], x);
         marks[place] = mark;
-        k += 1;
     }
 }

@@ -20,11 +20,9 @@ fn row_times(
 {
     let end = starts[a + 1];
     let mut sum = 0.0;
-    let mut k = starts[a];
-    while k < end {
+    for k in starts[a]..end {
         let i = columns[k];
         sum = sum + values[k] * v[i];
-        k += 1;
     }
     sum
 }
@@ -44,9 +42,7 @@ pub fn zt_times(
     ensures { out.new
         ≡ fill_to rows (zt_times_at (sparse starts.now columns.now values.now) n v.now) out.old }
 {
-    let mut a = 0;
-    while a < rows {
+    for a in 0..rows {
         out[a] = row_times(starts, columns, values, rows, n, v, a);
-        a += 1;
     }
 }

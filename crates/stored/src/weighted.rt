@@ -93,13 +93,11 @@ fn ztwz_row(
         out.new }
 {
     let ao = base::offset(a, rows, rows);
-    let mut b = 0;
-    while b <= a {
+    for b in 0..=a {
         let bo = base::offset(b, rows, rows);
         let sum = ztwz_entry(starts, columns, values, rows, n, w, a, b, low, far);
         out[ao + b] = sum;
         out[bo + a] = sum;
-        b += 1;
     }
 }
 
@@ -120,8 +118,7 @@ pub fn ztwz(
 {
     let mut first = [255u8; 512];
     let mut last = [255u8; 512];
-    let mut a = 0;
-    while a < rows {
+    for a in 0..rows {
         let begin = starts[a];
         let end = starts[a + 1];
         let low = least_mark(columns, begin, end, &first);
@@ -140,6 +137,5 @@ pub fn ztwz(
         );
         lower_marks(columns, begin, end, mark_of(a), &mut first);
         lower_marks(columns, begin, end, mark_of(rows - 1 - a), &mut last);
-        a += 1;
     }
 }

@@ -7,14 +7,14 @@ ghost use Rattle.sums.specs.Stands.{Roomy, given_with};
 ghost use Rattle.sums.specs.Summed.{SumLeft, GroupLeft};
 ghost use Rattle.sums.specs.Rules.{one_terms, one_rule};
 
-use crate::answers::{GroupSum, Summed, inverse_phi, log_sum};
+use crate::answers::{GroupSum, inverse_phi, log_sum};
 use agq::one_terms;
 use family::{CarriedFamily, CarriedLink};
 use layout::{mark_row, trial_u_at, u_at, xbeta_row};
 use model::Shape;
 use points::mark_group;
 use quadrature::{Order, gh_rule};
-use scale::{OneScale, copy_row, one_sigma};
+use scale::{copy_row, one_sigma};
 
 // The log sum of group g, whose points lie sigma·z from û: the marks of its observations and û go where the points look for them.
 fn one_sums(
@@ -95,11 +95,11 @@ pub fn one_group(
         m.new t.old t.new result }
 {
     match one_sigma(q, g, m) {
-        OneScale::NoSigma(d) => GroupSum {
-            sum: Summed::NoSum(d),
+        Err(d) => GroupSum {
+            sum: Err(d),
             points: 0,
         },
-        OneScale::Sigma(sigma) => one_sums(
+        Ok(sigma) => one_sums(
             family, link, shape, theta, starts, columns, values, y, weights, offset, n, p, q,
             order, node_logs, g, sigma, phi, r, m, t,
         ),

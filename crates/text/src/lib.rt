@@ -71,10 +71,8 @@ pub fn put_list(word: &[u8], xs: &[f64], n: usize)
     requires { n ≤ length xs.now }
 {
     put_word(word);
-    let mut i = 0;
-    while i < n {
+    for i in 0..n {
         put_double(xs[i]);
-        i += 1;
     }
     end_line();
 }

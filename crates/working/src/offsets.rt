@@ -32,11 +32,9 @@ pub fn raw_row(offset: &[f64], x: &[f64], beta: &[f64], n: usize, p: usize, out:
     requires { (Optional n offset.now) × (n * p ≤ length x.now) × (p ≤ length beta.now) × (n ≤ length out.old) }
     ensures { out.new ≡ fill_to n (raw_at offset.now x.now p beta.now out.old) out.old }
 {
-    let mut i = 0;
-    while i < n {
+    for i in 0..n {
         let o = base::offset(i, n, p);
         let sum = base::dot_from(x, o, beta, p) + out[i];
         out[i] = plus_offset(offset, i, sum);
-        i += 1;
     }
 }

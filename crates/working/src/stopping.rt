@@ -24,11 +24,9 @@ pub fn mode_deviances(
     ensures { Wrote dev_at n (build (dev_resid_at family y.now (row mu_at n rows.old) weights.now) n) rows.old
         rows.new }
 {
-    let mut i = 0;
-    while i < n {
+    for i in 0..n {
         let wt = weight_at(weights, i);
         rows[dev_at + i] = dev_resid(family, y[i], rows[mu_at + i], wt);
-        i += 1;
     }
 }
 
@@ -38,10 +36,8 @@ pub fn deviance_sum(devs: &[f64], n: usize) -> f64
     ensures { result ≡ deviance_sum n devs.now }
 {
     let mut sum = 0.0;
-    let mut i = 0;
-    while i < n {
+    for i in 0..n {
         sum = sum + devs[i];
-        i += 1;
     }
     sum
 }
@@ -62,11 +58,9 @@ pub fn log_pivots(factor: &[f64], q: usize) -> f64
     ensures { result ≡ log_pivots q factor.now }
 {
     let mut sum = 0.0;
-    let mut i = 0;
-    while i < q {
+    for i in 0..q {
         let o = base::offset(i, q, q);
         sum = sum + ln(abs(factor[o + i]));
-        i += 1;
     }
     sum
 }

@@ -59,14 +59,12 @@ pub fn working_rows(
         ≡ fill_at z_at n (working_response_at link y.now eta.now mu.now)
         (fill_at w_at n (working_weight_at family link weights.now phi eta.now mu.now) t.old) }
 {
-    let mut i = 0;
-    while i < n {
+    for i in 0..n {
         let e = eta[i];
         let m = mu[i];
         let me = slope(link, e, m, met);
         let wt = weight_at(weights, i);
         t[w_at + i] = working_weight(phi, wt, me, variance(family, m));
         t[z_at + i] = working_response(e, y[i], m, me);
-        i += 1;
     }
 }
