@@ -1,7 +1,6 @@
 // Runs the numbers of the dispersion loop, and the loop itself over inner fits whose deviance sums are given, and prints every bit.
 #![tactic(auto)]
 
-
 // The sum of the weights, at least 1; 1 for each where there are none.
 fn count(weights: &[f64], n: usize) {
     text::put_word(b"count");

@@ -4,7 +4,6 @@
 
 ghost use Rattle.std.specs.Prelude.{◌*◌, ◌≤◌, ◌<◌};
 
-
 // How a factorisation ended: -, or the pivot that failed.
 fn put_end(end: Result<(), usize>) {
     match end {

@@ -3,6 +3,7 @@
 #![tactic(auto)]
 
 use family::{CarriedFamily, CarriedLink};
+use family_lists::ListError;
 
 fn next_family() -> CarriedFamily {
     match fed::count() {

@@ -6,9 +6,7 @@ ghost use Rattle.std.specs.Prelude.{◌≡◌, true, ◌≤◌};
 ghost use Rattle.model.specs.Account.{SumFits};
 ghost use Rattle.model.specs.Shape.{good_shape};
 
-use model::{
-    Account, Answer, End, Family, Link, Refusal, Settings, Shape,
-    Start, };
+use model::{Account, Answer, End, Family, Link, Refusal, Settings, Shape, Start};
 
 fn put_size(n: usize) {
     text::put_count(n as u64);

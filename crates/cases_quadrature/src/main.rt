@@ -1,7 +1,7 @@
 // Prints the five rules, the order choice over a grid of wishes, and some log sums, every bit, for comparison with the Rust.
 #![tactic(auto)]
 
-use quadrature::{Order, Rule};
+use quadrature::{Decline, Order, Rule};
 
 // The order chosen, or 0 where there is none.
 fn put_choice(choice: Result<Order, Decline>) {

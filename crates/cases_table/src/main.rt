@@ -2,8 +2,8 @@
 // Prints the number of each answer; of an accepted call also the codes of its family and link. A call is fed as tools/cases/table.py says.
 #![tactic(auto)]
 
-use family::CarriedFamily;
-use model::{Settings, Shape};
+use family::{CarriedFamily, CarriedLink};
+use model::{Refusal, Settings, Shape};
 use table::LentLengths;
 
 fn family_code(family: CarriedFamily) -> u64 {

@@ -6,6 +6,7 @@
 ghost use Rattle.std.specs.Prelude.{◌≡◌, length};
 
 use model::Account;
+use tries::TryRefusal;
 
 fn put_account(account: Account) {
     text::put_count(account.fits);

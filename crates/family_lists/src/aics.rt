@@ -6,7 +6,7 @@ ghost use Rattle.base.specs.Sum.{◌!◌, sum_to, add_where};
 ghost use Rattle.elementary.specs.Log.{ln_of};
 ghost use Rattle.family_lists.specs.Aic.{log_weights, gaussian_term, gaussian_aic, density_at, gamma_aic, aic_of, aic_answer};
 
-use crate::lists::{lengths_agree, weight_at, weight_sum};
+use crate::lists::{ListError, lengths_agree, weight_at, weight_sum};
 use base::{EPSILON, infinity, is_finite, max};
 use elementary::ln;
 use family::{CarriedFamily, ln_dgamma};
@@ -111,7 +111,13 @@ pub fn aic_of(family: CarriedFamily, y: &[f64], mu: &[f64], wt: &[f64], dev: f64
 }
 
 // `aic_of`, for any lists.
-pub fn aic(family: CarriedFamily, y: &[f64], mu: &[f64], wt: &[f64], dev: f64) -> Result<f64, ListError>
+pub fn aic(
+    family: CarriedFamily,
+    y: &[f64],
+    mu: &[f64],
+    wt: &[f64],
+    dev: f64,
+) -> Result<f64, ListError>
     ensures { result ≡ aic_answer family y.now mu.now wt.now dev }
 {
     if lengths_agree(y.len(), mu.len(), wt.len()) {

@@ -6,6 +6,6 @@ mod lists;
 
 pub use aics::{aic, aic_of};
 pub use lists::{
-    dev_resid_list, initialize_mu_list, lengths_agree, link_fun_list, link_inv_list,
+    ListError, dev_resid_list, initialize_mu_list, lengths_agree, link_fun_list, link_inv_list,
     list_number, mu_eta_list, variance_list, weight_at, weight_sum,
 };

@@ -77,7 +77,11 @@ pub fn variance_list(family: CarriedFamily, mu: &[f64], out: &mut [f64]) -> Resu
 }
 
 // The mean that a fit starts from, for each response.
-pub fn initialize_mu_list(family: CarriedFamily, y: &[f64], out: &mut [f64]) -> Result<(), ListError>
+pub fn initialize_mu_list(
+    family: CarriedFamily,
+    y: &[f64],
+    out: &mut [f64],
+) -> Result<(), ListError>
     ensures { ListedEach (initialize_mu family) y.now out.old out.new result }
 {
     if y.len() != out.len() {

@@ -4,7 +4,7 @@
 ghost use Rattle.std.specs.Prelude.{◌≤◌, length};
 ghost use Rattle.fitjob.specs.Input.{held_of, Printed};
 
-use intake::Step;
+use intake::{InputError, Step};
 use std::io::Read;
 
 // After a full space: whether the input ends there.
@@ -36,7 +36,12 @@ fn read_input<R: Read>(from: &mut R, space: &mut [u8]) -> Result<usize, InputErr
 }
 
 // What is to be printed of an input: it stands in the front of out, and its length is told.
-fn answer(input: Result<usize, InputError>, space: &[u8], terms: &mut [f64], out: &mut [u8]) -> usize
+fn answer(
+    input: Result<usize, InputError>,
+    space: &[u8],
+    terms: &mut [f64],
+    out: &mut [u8],
+) -> usize
     requires { held_of input ≤ length space.now }
     ensures { Printed input space.now terms.old out.old result terms.new out.new }
 {

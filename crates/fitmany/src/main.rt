@@ -7,7 +7,7 @@ ghost use Rattle.manytext.specs.Text.{response_room};
 ghost use Rattle.manytext.specs.Pieces.{PiecesFit};
 ghost use Rattle.fitmany.specs.Held.{held_of};
 
-use intake::Step;
+use intake::{InputError, Step};
 use manytext::Pieces;
 use std::io::Read;
 

@@ -60,19 +60,11 @@ pub fn iterate(
     let solving = solve_into(
         shape, theta, starts, columns, values, offset, x, n, p, q, r, m, t,
     );
-    match solving {
-        Err(e) => {
-            return Iteration::Unsolvable(e);
-        }
-        Ok(()) => {}
+    if let Err(end) = solving {
+        return Iteration::Unsolvable(end);
     }
-    let end = step(link, n, p, q, in_second, m, t, r);
-    match end {
-        Ok((pwrss, made)) => {
-            return Iteration::Moved(pwrss, made);
-        }
-        Err(made) => {
-            return Iteration::Stuck(made);
-        }
+    match step(link, n, p, q, in_second, m, t, r) {
+        Ok((pwrss, made)) => Iteration::Moved(pwrss, made),
+        Err(made) => Iteration::Stuck(made),
     }
 }

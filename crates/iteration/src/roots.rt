@@ -15,13 +15,7 @@ pub fn solve_root(n: usize, p: usize, q: usize, m: &mut [f64], t: &mut [f64]) ->
     ensures { RootSolved n p q m.old m.new t.old t.new result }
 {
     let normal = normal_at(n, p, q);
-    let found = factor_normal(p, normal, t);
-    match found {
-        Err(i) => {
-            return Err(i);
-        }
-        Ok(()) => {}
-    }
+    factor_normal(p, normal, t)?;
     let end = normal + p * p;
     let beta = beta_at(p, q);
     solve_beta(p, &t[normal..end], beta, m);

@@ -38,21 +38,11 @@ pub fn solve_into(
         (sparse starts.now columns.now values.now)) r.old r.new m.old m.new
         t.old t.new result }
 {
-    let factored = factor_system(shape, theta, starts, columns, values, n, q, w_at(q), t, m);
-    match factored {
-        Err(_) => {
-            return Err(End::SystemPivot);
-        }
-        Ok(()) => {}
-    }
+    factor_system(shape, theta, starts, columns, values, n, q, w_at(q), t, m).map_err(
+        |_| End::SystemPivot,
+    )?;
     right_sides(shape, theta, starts, columns, values, x, n, p, q, r, m, t);
-    let rooted = solve_root(n, p, q, m, t);
-    match rooted {
-        Err(_) => {
-            return Err(End::NormalPivot);
-        }
-        Ok(()) => {}
-    }
+    solve_root(n, p, q, m, t).map_err(|_| End::NormalPivot)?;
     raw_into(
         shape, theta, starts, columns, values, offset, x, n, p, q, r, m, t,
     );

@@ -10,6 +10,7 @@ ghost use Rattle.tries.specs.Told.{trial_in, TriesDone};
 
 use family::CarriedLink;
 use layout::{b_at, mu_row, raw_row, second_eta_row, u_at, unsolved_at, w_at, z_at};
+use model::Account;
 use tries::tries;
 
 // Where the row that holds the predictor begins.

@@ -6,8 +6,9 @@ ghost use Rattle.jobfit.specs.Room.{SizesFew};
 ghost use Rattle.many.specs.Many.{beta_for, lengths_for};
 ghost use Rattle.many.specs.Room.{DesignFronts, many_fronts};
 
+use family::{CarriedFamily, CarriedLink};
 use jobfit::results_length;
-use model::{Settings, Shape};
+use model::{Refusal, Settings, Shape};
 use reader::Header;
 use table::LentLengths;
 

@@ -58,22 +58,14 @@ pub fn decline_number(decline: Decline) -> usize
 pub fn order_of(number: usize) -> Option<Order>
     ensures { result ≡ order_of number }
 {
-    if number == 3 {
-        return Some(Order::Three);
+    match number {
+        3 => Some(Order::Three),
+        5 => Some(Order::Five),
+        7 => Some(Order::Seven),
+        9 => Some(Order::Nine),
+        11 => Some(Order::Eleven),
+        _ => None,
     }
-    if number == 5 {
-        return Some(Order::Five);
-    }
-    if number == 7 {
-        return Some(Order::Seven);
-    }
-    if number == 9 {
-        return Some(Order::Nine);
-    }
-    if number == 11 {
-        return Some(Order::Eleven);
-    }
-    None
 }
 
 // The first order not below the wish; above 11 it is 11, below 2 there is none.
@@ -153,33 +145,23 @@ fn capped(order: Order, dims: usize, cap: usize) -> Result<Order, Decline>
 pub fn resolve_gh_order_product(wish: usize, k: usize) -> Result<Order, Decline>
     ensures { result ≡ product_order wish k }
 {
-    let base = resolve_gh_order(wish);
-    match base {
-        Err(d) => Err(d),
-        Ok(order) => {
-            if k == 1 {
-                return Ok(order);
-            }
-            capped(order, k, 400)
-        }
+    let order = resolve_gh_order(wish)?;
+    if k == 1 {
+        return Ok(order);
     }
+    capped(order, k, 400)
 }
 
 // All q effects at once: none for no effect or more than 8, else order^q is at most 7,000.
 pub fn resolve_gh_order_joint(wish: usize, q: usize) -> Result<Order, Decline>
     ensures { result ≡ joint_order wish q }
 {
-    let base = resolve_gh_order(wish);
-    match base {
-        Err(d) => Err(d),
-        Ok(order) => {
-            if q == 0 {
-                return Err(Decline::Effects);
-            }
-            if 8 < q {
-                return Err(Decline::Effects);
-            }
-            capped(order, q, 7000)
-        }
+    let order = resolve_gh_order(wish)?;
+    if q == 0 {
+        return Err(Decline::Effects);
     }
+    if 8 < q {
+        return Err(Decline::Effects);
+    }
+    capped(order, q, 7000)
 }

@@ -2,7 +2,6 @@
 ghost use Rattle.std.specs.Prelude.{◌+◌, ◌*◌, ◌≤◌, length};
 ghost use Rattle.solve.specs.Root.{RootOf, SolvedBeta};
 
-
 // Cholesky of the normal matrix at `normal` of t, over it.
 pub fn factor_normal(p: usize, normal: usize, t: &mut [f64]) -> Result<(), usize>
     requires { normal + p * p ≤ length t.old }

@@ -5,7 +5,7 @@ ghost use Rattle.agq_rule.specs.Term.{inverse_phi};
 ghost use Rattle.sums.specs.Summed.{group_sum_of};
 
 use base::EPSILON;
-use quadrature::{Decline, log_sum_exp};
+use quadrature::{Decline, Order, log_sum_exp};
 
 // The log sum of a group, and how many points it took.
 #[derive(Clone, Copy)]

@@ -102,13 +102,8 @@ pub fn tries(
     while made.tries < cap {
         let t = one_try(link, n, q, prev, next, raw, mu, step, u, w, z, rows);
         made = made.plus(of_try(t));
-        match t {
-            Ok(p) => {
-                return Ok((p, made));
-            }
-            Err(TryRefusal::Eta) => {}
-            Err(TryRefusal::Mean) => {}
-            Err(TryRefusal::Pwrss) => {}
+        if let Ok(pwrss) = t {
+            return Ok((pwrss, made));
         }
         step = step * 0.5;
     }

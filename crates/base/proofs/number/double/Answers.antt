@@ -8,6 +8,3 @@ returns-then-n-gt9218868437227405312 c = no_quotient ∙ nan_pattern c.args.n c.
 
 pub float_from_bits-result : goal.float_from_bits-result
 float_from_bits-result c = rw (no_nan_pattern c.args.n c.if-n-gt9218868437227405312.false) tt
-
-pub returns : goal.returns
-returns c = refl

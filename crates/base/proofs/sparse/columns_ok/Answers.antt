@@ -9,27 +9,15 @@ use Rattle.base.proofs.Loops.{loops}
 use borrow.Author.Rules.{rules}
 use Rattle.base.proofs.sparse.columns_ok.Goals as goal
 
-pub overflow_sub-count : goal.overflow_sub-count
-overflow_sub-count c = search (rules, loops)
-
 pub loop-t-init : goal.loop-t-init
 loop-t-init c = search (rules, loops)
-
-pub column_fits-requires : goal.column_fits-requires
-column_fits-requires c = search (rules, loops)
 
 pub returns-then-not-column_fits : goal.returns-then-not-column_fits
 unfolding good_columns
 returns-then-not-column_fits c = all_fails _ _ _ c.loop-t-test.true (sym c.column_fits.ensures ∙ c.if-not-column_fits.true)
 
-pub overflow_add-t : goal.overflow_add-t
-overflow_add-t c = search (rules, loops)
-
-pub loop-t-smaller : goal.loop-t-smaller
-loop-t-smaller c = search (rules, loops)
-
 pub loop-t-preserved : goal.loop-t-preserved
-loop-t-preserved c = (omega arith, all_step _ _ c.loop-t.invariant.1 (sym c.column_fits.ensures ∙ c.if-not-column_fits.false))
+loop-t-preserved c = all_step _ _ c.loop-t.invariant (sym c.column_fits.ensures ∙ c.if-not-column_fits.false)
 
 pub returns : goal.returns
 unfolding good_columns

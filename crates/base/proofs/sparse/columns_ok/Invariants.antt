@@ -7,7 +7,4 @@ use Rattle.base.specs.Sparse.{column_fits}
 use Rattle.base.proofs.sparse.columns_ok.Given as goal
 
 abbrev pub invariant-loop-t : goal.invariant-loop-t
-invariant-loop-t l = (l.t ≤ l.count) × (true ≡ all_to l.t (column_fits l.columns l.n l.b))
-
-abbrev pub decreases-loop-t : goal.decreases-loop-t
-decreases-loop-t l = l.count - l.t
+invariant-loop-t l = (true ≡ all_to l.t (column_fits l.columns l.n l.b))

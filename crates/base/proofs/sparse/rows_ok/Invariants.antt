@@ -8,7 +8,4 @@ use Rattle.base.specs.Sparse.{good_starts, good_row}
 use Rattle.base.proofs.sparse.rows_ok.Given as goal
 
 abbrev pub invariant-loop-a : goal.invariant-loop-a
-invariant-loop-a l = (l.a ≤ l.rows) × (true ≡ good_starts l.starts l.rows (length l.columns)) × (true ≡ all_to l.a (good_row l.starts l.columns l.n))
-
-abbrev pub decreases-loop-a : goal.decreases-loop-a
-decreases-loop-a l = l.rows - l.a
+invariant-loop-a l = (true ≡ good_starts l.starts l.rows (length l.columns)) × (true ≡ all_to l.a (good_row l.starts l.columns l.n))

@@ -9,18 +9,9 @@ use Rattle.base.proofs.Loops.{loops}
 use borrow.Author.Rules.{rules}
 use Rattle.base.proofs.sparse.starts_ok.Goals as goal
 
-pub bounds-starts-0 : goal.bounds-starts-0
-bounds-starts-0 c = search (rules, loops)
-
 pub returns-then-starts-ne0 : goal.returns-then-starts-ne0
 unfolding good_starts
 returns-then-starts-ne0 c = rw (ne_eqb _ 0 c.if-starts-ne0.true)
-
-pub offset_bounds-starts-rows : goal.offset_bounds-starts-rows
-offset_bounds-starts-rows c = search (rules, loops)
-
-pub bounds-starts-rows : goal.bounds-starts-rows
-bounds-starts-rows c = search (rules, loops)
 
 pub returns-then-starts-rows : goal.returns-then-starts-rows
 unfolding good_starts
@@ -29,39 +20,18 @@ returns-then-starts-rows c = rw (eq-eqb _ 0 c.if-starts-ne0.false, ne_eqb _ _ c.
 pub loop-a-init : goal.loop-a-init
 loop-a-init c = search (rules, loops)
 
-pub overflow_add-a : goal.overflow_add-a
-overflow_add-a c = search (rules, loops)
-
-pub offset_bounds-starts-a : goal.offset_bounds-starts-a
-offset_bounds-starts-a c = search (rules, loops)
-
-pub bounds-starts-a : goal.bounds-starts-a
-bounds-starts-a c = search (rules, loops)
-
-pub offset_bounds-starts-a-in-loop-a : goal.offset_bounds-starts-a-in-loop-a
-offset_bounds-starts-a-in-loop-a c = search (rules, loops)
-
-pub bounds-starts-a-in-loop-a : goal.bounds-starts-a-in-loop-a
-bounds-starts-a-in-loop-a c = search (rules, loops)
-
 pub returns-then-starts-a : goal.returns-then-starts-a
 unfolding good_starts not_falling
 returns-then-starts-a c =
     rw (eq-eqb _ 0 c.if-starts-ne0.false, eq-eqb _ _ c.if-starts-rows.false)
     (all_fails _ _ _ c.loop-a-test.true (lt-leb _ _ c.if-starts-a.true))
 
-pub overflow_add-a-in-loop-a : goal.overflow_add-a-in-loop-a
-overflow_add-a-in-loop-a c = search (rules, loops)
-
-pub loop-a-smaller : goal.loop-a-smaller
-loop-a-smaller c = search (rules, loops)
-
 pub loop-a-preserved : goal.loop-a-preserved
 unfolding not_falling
-loop-a-preserved c = (omega arith, all_step _ _ c.loop-a.invariant.1 (le-leb _ _ c.if-starts-a.false))
+loop-a-preserved c = all_step _ _ c.loop-a.invariant (le-leb _ _ c.if-starts-a.false)
 
 pub returns : goal.returns
 unfolding good_starts
 returns c =
     rw (eq-eqb _ 0 c.if-starts-ne0.false, eq-eqb _ _ c.if-starts-rows.false)
-    (all_end _ _ _ c.loop-a.invariant.1 (omega arith) (omega arith))
+    (all_end _ _ _ c.loop-a.invariant (omega arith) (omega arith))

@@ -7,7 +7,4 @@ use Rattle.base.specs.Sparse.{not_falling}
 use Rattle.base.proofs.sparse.starts_ok.Given as goal
 
 abbrev pub invariant-loop-a : goal.invariant-loop-a
-invariant-loop-a l = (l.a ≤ l.rows) × (true ≡ all_to l.a (not_falling l.starts))
-
-abbrev pub decreases-loop-a : goal.decreases-loop-a
-decreases-loop-a l = l.rows - l.a
+invariant-loop-a l = (true ≡ all_to l.a (not_falling l.starts))

@@ -11,26 +11,8 @@ use Rattle.base.proofs.vector.all_finite.Goals as goal
 pub loop-i-init : goal.loop-i-init
 loop-i-init c = search (rules, loops)
 
-pub offset_bounds-a-i : goal.offset_bounds-a-i
-offset_bounds-a-i c = search (rules, loops)
-
-pub bounds-a-i : goal.bounds-a-i
-bounds-a-i c = search (rules, loops)
-
-pub is_finite-requires : goal.is_finite-requires
-is_finite-requires c = search (rules, loops)
-
 pub returns-then-not-is_finite : goal.returns-then-not-is_finite
 returns-then-not-is_finite c = all_fails _ _ _ c.loop-i-test.true (sym c.is_finite.ensures ∙ c.if-not-is_finite.true)
 
-pub overflow_add-i : goal.overflow_add-i
-overflow_add-i c = search (rules, loops)
-
-pub loop-i-smaller : goal.loop-i-smaller
-loop-i-smaller c = search (rules, loops)
-
 pub loop-i-preserved : goal.loop-i-preserved
-loop-i-preserved c = (omega arith, all_step _ _ c.loop-i.invariant.1 (sym c.is_finite.ensures ∙ c.if-not-is_finite.false))
-
-pub returns : goal.returns
-returns c = search (rules, loops)
+loop-i-preserved c = all_step _ _ c.loop-i.invariant (sym c.is_finite.ensures ∙ c.if-not-is_finite.false)

@@ -6,7 +6,4 @@ use Rattle.base.specs.Sum.{all_to, finite_at}
 use Rattle.base.proofs.vector.all_finite.Given as goal
 
 abbrev pub invariant-loop-i : goal.invariant-loop-i
-invariant-loop-i l = (l.i ≤ l.n) × (true ≡ all_to l.i (finite_at l.a))
-
-abbrev pub decreases-loop-i : goal.decreases-loop-i
-decreases-loop-i l = l.n - l.i
+invariant-loop-i l = (true ≡ all_to l.i (finite_at l.a))

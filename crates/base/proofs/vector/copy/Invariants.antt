@@ -6,7 +6,4 @@ use Rattle.base.specs.List.{fill_to, entry_of}
 use Rattle.base.proofs.vector.copy.Given as goal
 
 abbrev pub invariant-loop-i : goal.invariant-loop-i
-invariant-loop-i l = (l.i ≤ l.n) × (length l.out ≡ length l.initial.out) × (l.out ≡ fill_to l.i (entry_of l.a) l.initial.out)
-
-abbrev pub decreases-loop-i : goal.decreases-loop-i
-decreases-loop-i l = l.n - l.i
+invariant-loop-i l = (length l.out ≡ length l.initial.out) × (l.out ≡ fill_to l.i (entry_of l.a) l.initial.out)

@@ -5,7 +5,4 @@ use Rattle.base.specs.Sum.{sum_to, product_at}
 use Rattle.base.proofs.vector.dot.Given as goal
 
 abbrev pub invariant-loop-i : goal.invariant-loop-i
-invariant-loop-i l = (l.i ≤ l.n) × (l.sum ≡ sum_to l.i (product_at l.a l.b))
-
-abbrev pub decreases-loop-i : goal.decreases-loop-i
-decreases-loop-i l = l.n - l.i
+invariant-loop-i l = (l.sum ≡ sum_to l.i (product_at l.a l.b))

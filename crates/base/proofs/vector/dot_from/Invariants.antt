@@ -5,7 +5,4 @@ use Rattle.base.specs.Sum.{sum_to, product_from}
 use Rattle.base.proofs.vector.dot_from.Given as goal
 
 abbrev pub invariant-loop-i : goal.invariant-loop-i
-invariant-loop-i l = (l.i ≤ l.n) × (l.sum ≡ sum_to l.i (product_from l.a l.o l.b))
-
-abbrev pub decreases-loop-i : goal.decreases-loop-i
-decreases-loop-i l = l.n - l.i
+invariant-loop-i l = (l.sum ≡ sum_to l.i (product_from l.a l.o l.b))
