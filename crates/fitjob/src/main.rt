@@ -4,8 +4,9 @@
 ghost use Rattle.std.specs.Prelude.{◌≤◌, length};
 ghost use Rattle.fitjob.specs.Input.{held_of, Printed};
 
-use intake::{InputError, Step};
+use intake::InputError;
 use std::io::Read;
+use std::ops::ControlFlow;
 
 // After a full space: whether the input ends there.
 fn read_past<R: Read>(from: &mut R, room: usize) -> Result<usize, InputError>
@@ -14,8 +15,8 @@ fn read_past<R: Read>(from: &mut R, room: usize) -> Result<usize, InputError>
     let mut one = [0u8; 1];
     let got = intake::read_some(from, &mut one);
     match intake::after_read(room, room, got) {
-        Step::More(_) => Err(InputError::TooLong),
-        Step::Ended(input) => input,
+        ControlFlow::Continue(_) => Err(InputError::TooLong),
+        ControlFlow::Break(input) => input,
     }
 }
 
@@ -28,8 +29,8 @@ fn read_input<R: Read>(from: &mut R, space: &mut [u8]) -> Result<usize, InputErr
     while at < end {
         let got = intake::read_some(from, &mut space[at..end]);
         match intake::after_read(end, at, got) {
-            Step::More(n) => at = n,
-            Step::Ended(input) => return input,
+            ControlFlow::Continue(n) => at = n,
+            ControlFlow::Break(input) => return input,
         }
     }
     read_past(from, end)

@@ -7,9 +7,10 @@ ghost use Rattle.manytext.specs.Text.{response_room};
 ghost use Rattle.manytext.specs.Pieces.{PiecesFit};
 ghost use Rattle.fitmany.specs.Held.{held_of};
 
-use intake::{InputError, Step};
+use intake::InputError;
 use manytext::Pieces;
 use std::io::Read;
+use std::ops::ControlFlow;
 
 // Reads until the input ends or fails, or the space is full: what stands behind it changes nothing (`manytext`'s law `room_enough`).
 fn read_input<R: Read>(from: &mut R, space: &mut [u8]) -> Result<usize, InputError>
@@ -20,8 +21,8 @@ fn read_input<R: Read>(from: &mut R, space: &mut [u8]) -> Result<usize, InputErr
     while at < end {
         let got = intake::read_some(from, &mut space[at..end]);
         match intake::after_read(end, at, got) {
-            Step::More(n) => at = n,
-            Step::Ended(input) => return input,
+            ControlFlow::Continue(n) => at = n,
+            ControlFlow::Break(input) => return input,
         }
     }
     Ok(end)
