@@ -1,4 +1,4 @@
-// Plain loops over lent slices. A slice may be longer than what is asked of it: the rest is not read and not written.
+// Sums, fills and tests over lent slices. A slice may be longer than what is asked of it: the rest is not read and not written.
 ghost use Rattle.std.specs.Prelude.{◌≡◌, ◌+◌, ◌*◌, ◌≤◌, ◌<◌, ◌^◌, length};
 ghost use Rattle.base.specs.Sum.{sum_to, all_to, dot_of, product_from, finite_at};
 ghost use Rattle.base.specs.List.{fill_to, zero_at, entry_of};
@@ -42,9 +42,7 @@ pub fn wipe(out: &mut [f64], n: usize)
     requires { n ≤ length out.old }
     ensures { out.new ≡ fill_to n zero_at out.old }
 {
-    for i in 0..n {
-        out[i] = 0.0;
-    }
+    out[..n].fill(0.0);
 }
 
 // The first n numbers of a into the first n places of out.
@@ -52,9 +50,7 @@ pub fn copy(a: &[f64], out: &mut [f64], n: usize)
     requires { (n ≤ length a.now) × (n ≤ length out.old) }
     ensures { out.new ≡ fill_to n (entry_of a.now) out.old }
 {
-    for i in 0..n {
-        out[i] = a[i];
-    }
+    out[..n].copy_from_slice(&a[..n]);
 }
 
 // Whether the first n numbers of a are all finite.
@@ -62,10 +58,5 @@ pub fn all_finite(a: &[f64], n: usize) -> bool
     requires { n ≤ length a.now }
     ensures { result ≡ all_to n (finite_at a.now) }
 {
-    for i in 0..n {
-        if !is_finite(a[i]) {
-            return false;
-        }
-    }
-    true
+    a[..n].iter().all(|x| is_finite(*x))
 }

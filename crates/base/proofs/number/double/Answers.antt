@@ -1,5 +1,5 @@
 -- `base::double` meets its contract: a pattern past an infinity's is a NaN's, and every other is read as it stands.
-use mathlib.Core.Path.{refl, ◌∙◌}
+use mathlib.Core.Path.{◌∙◌}
 use Rattle.base.proofs.Doubles.{no_quotient, nan_pattern, no_nan_pattern}
 use Rattle.base.proofs.number.double.Goals as goal
 

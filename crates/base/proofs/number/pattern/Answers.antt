@@ -1,5 +1,5 @@
 -- `base::pattern` meets its contract: the definition gives a NaN the one pattern that the test returns.
-use mathlib.Core.Path.{refl, sym, ap, ◌∙◌}
+use mathlib.Core.Path.{sym, ap, ◌∙◌}
 use lib.Ieee.{to_bits, binary64}
 use Rattle.base.proofs.Doubles.{is_nan_lem}
 use Rattle.base.proofs.number.pattern.Goals as goal

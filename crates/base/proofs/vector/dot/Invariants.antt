@@ -1,6 +1,5 @@
 -- `base::dot` meets its contract: before turn i the sum is that of the first i products.
 use mathlib.Core.Path.{◌≡◌}
-use Prim.Native.Nat.{◌≤◌, ◌-◌}
 use Rattle.base.specs.Sum.{sum_to, product_at}
 use Rattle.base.proofs.vector.dot.Given as goal
 

@@ -1,5 +1,4 @@
 -- `base::dot_from` meets its contract: before turn i the sum is that of the first i products.
-use Prim.Native.Nat.{◌-◌}
 use Rattle.base.proofs.Loops.{loops}
 use borrow.Author.Rules.{rules}
 use Rattle.base.proofs.vector.dot_from.Goals as goal

@@ -1,6 +1,5 @@
 -- `base::dot_from` meets its contract: before turn i the sum is that of the first i products.
 use mathlib.Core.Path.{◌≡◌}
-use Prim.Native.Nat.{◌≤◌, ◌-◌}
 use Rattle.base.specs.Sum.{sum_to, product_from}
 use Rattle.base.proofs.vector.dot_from.Given as goal
 
