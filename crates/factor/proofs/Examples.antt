@@ -88,7 +88,7 @@ unfolding ldl_of fill_by ruled ldl_rule triangle ldl_below ldl_pivot ldl_sum ldl
 ldl_3 = refl
 
 -- it succeeds
-pub ldl_3_end : ldl_end 3 (four ∷ eight ∷ eight ∷ half ∷ four ∷ eight ∷ minus_half ∷ half ∷ four ∷ []) ≡ (Ok tt)
+pub ldl_3_end : ldl_end 3 (four ∷ eight ∷ eight ∷ half ∷ four ∷ eight ∷ minus_half ∷ half ∷ four ∷ []) ≡ Ok tt
 unfolding ldl_end first_bad and_then ldl_passes usable finite of_bits eq
 ldl_3_end = refl
 
@@ -98,7 +98,7 @@ unfolding ldl_end first_bad and_then ldl_passes usable finite ldl_of fill_by rul
 ldl_singular = refl
 
 -- a negative pivot can be divided by
-pub ldl_negative : ldl_end 2 (ldl_of 2 (minus_four ∷ two ∷ two ∷ three ∷ []) (eight ∷ eight ∷ eight ∷ eight ∷ [])) ≡ (Ok tt)
+pub ldl_negative : ldl_end 2 (ldl_of 2 (minus_four ∷ two ∷ two ∷ three ∷ []) (eight ∷ eight ∷ eight ∷ eight ∷ [])) ≡ Ok tt
 unfolding ldl_end first_bad and_then ldl_passes usable finite ldl_of fill_by ruled ldl_rule triangle ldl_below ldl_pivot ldl_sum ldl_term sum_to of_bits add sub mul div eq
 ldl_negative = refl
 
@@ -123,7 +123,7 @@ unfolding cholesky_of fill_by ruled cholesky_rule triangle cholesky_below choles
 cholesky_3 = refl
 
 -- it succeeds
-pub cholesky_3_end : cholesky_end 3 (four ∷ eight ∷ eight ∷ two ∷ ten ∷ eight ∷ minus_two ∷ two ∷ six ∷ []) (two ∷ eight ∷ eight ∷ one_f ∷ three ∷ eight ∷ minus_one ∷ one_f ∷ two ∷ []) ≡ (Ok tt)
+pub cholesky_3_end : cholesky_end 3 (four ∷ eight ∷ eight ∷ two ∷ ten ∷ eight ∷ minus_two ∷ two ∷ six ∷ []) (two ∷ eight ∷ eight ∷ one_f ∷ three ∷ eight ∷ minus_one ∷ one_f ∷ two ∷ []) ≡ Ok tt
 unfolding cholesky_end first_bad and_then cholesky_passes positive finite cholesky_pivot rows_dot sum_to of_bits add sub mul lt
 cholesky_3_end = refl
 

@@ -31,36 +31,36 @@ unfolding positive
 positive_not d l = rw l refl
 
 -- ---- the first that fails, as a loop finds it
-pub first_none : (t : ℕ → Bool) → (Ok tt) ≡ first_bad 0 t
+pub first_none : (t : ℕ → Bool) → Ok tt ≡ first_bad 0 t
 unfolding first_bad
 first_none t = refl
 
-pub first_step : (t : ℕ → Bool) (k : ℕ) → (Ok tt) ≡ first_bad k t → t k ≡ true → (Ok tt) ≡ first_bad (k + 1) t
+pub first_step : (t : ℕ → Bool) (k : ℕ) → Ok tt ≡ first_bad k t → t k ≡ true → Ok tt ≡ first_bad (k + 1) t
 unfolding first_bad and_then
 first_step t k e h = rw (add-one k, ← e, h) refl
 
-pub first_end : (t : ℕ → Bool) (k n : ℕ) → (Ok tt) ≡ first_bad k t → k ≤ n → n ≤ k → (Ok tt) ≡ first_bad n t
+pub first_end : (t : ℕ → Bool) (k n : ℕ) → Ok tt ≡ first_bad k t → k ≤ n → n ≤ k → Ok tt ≡ first_bad n t
 first_end t k n e l m = let q : k ≡ n = omega arith in rw (← q) e
 
-pub first_stop : (t : ℕ → Bool) (n k : ℕ) → (Ok tt) ≡ first_bad k t → t k ≡ false → k < n → Err k ≡ first_bad n t
+pub first_stop : (t : ℕ → Bool) (n k : ℕ) → Ok tt ≡ first_bad k t → t k ≡ false → k < n → Err k ≡ first_bad n t
 unfolding first_bad and_then
 first_stop t zero k e h l = absurd (not-suc-le-zero l)
 first_stop t (suc n) k e h l =
     ⊎_elim (λ (q : k ≡ n). rw (← q, ← e, h) refl) (λ (m : k < n). rw (← first_stop t n k e h m) refl) (last_or_before l)
 
 -- ---- what an end says
-done_before : (n : ℕ) (f : Result ⊤ ℕ) (b : Bool) → (Ok tt) ≡ and_then f n b → ((Ok tt) ≡ f) × (b ≡ true)
+done_before : (n : ℕ) (f : Result ⊤ ℕ) (b : Bool) → Ok tt ≡ and_then f n b → (Ok tt ≡ f) × (b ≡ true)
 unfolding and_then
 done_before n (Err k) b e = let z : ◌≡◌ {A = ℕ} 0 1 = cc in absurd (omega arith)
 done_before n (Ok tt) true e = (refl, refl)
 done_before n (Ok tt) false e = let z : ◌≡◌ {A = ℕ} 0 1 = cc in absurd (omega arith)
 
 -- all pivots pass
-pub first_done : (t : ℕ → Bool) (n : ℕ) → (Ok tt) ≡ first_bad n t → (k : ℕ) → k < n → t k ≡ true
+pub first_done : (t : ℕ → Bool) (n : ℕ) → Ok tt ≡ first_bad n t → (k : ℕ) → k < n → t k ≡ true
 unfolding first_bad
 first_done t zero e k l = absurd (not-suc-le-zero l)
 first_done t (suc n) e k l =
-    let h : ((Ok tt) ≡ first_bad n t) × (t n ≡ true) = done_before n (first_bad n t) (t n) e in
+    let h : (Ok tt ≡ first_bad n t) × (t n ≡ true) = done_before n (first_bad n t) (t n) e in
     ⊎_elim (λ (q : k ≡ n). rw q h.1) (λ (m : k < n). first_done t n h.0 k m) (last_or_before l)
 
 -- the first that fails, and those before it pass

@@ -42,12 +42,12 @@ positive d = lt zero_f d && finite d
 -- the end so far, or by the test of pivot i
 unfoldable pub and_then : Result ⊤ ℕ → ℕ → Bool → Result ⊤ ℕ
 and_then (Err k) i t = Err k
-and_then (Ok tt) i true = (Ok tt)
+and_then (Ok tt) i true = Ok tt
 and_then (Ok tt) i false = Err i
 
 -- the first of n pivots that fails the test, if one does
 unfoldable pub first_bad : ℕ → (ℕ → Bool) → Result ⊤ ℕ
-first_bad zero t = (Ok tt)
+first_bad zero t = Ok tt
 first_bad (suc n) t = and_then (first_bad n t) n (t n)
 
 -- how many places of the square, row by row, a factorisation with this end has written: all, or those before the pivot that failed

@@ -29,14 +29,11 @@ fn next_head(allowed: bool, head: usize, j: usize, l: f64) -> usize
     requires { j < 2 ^ 64 - 1 }
     ensures { result ≡ next_head allowed head j l }
 {
-    if allowed {
-        if head == j {
-            if l == 0.0 {
-                return j + 1;
-            }
-        }
+    if allowed && head == j && l == 0.0 {
+        j + 1
+    } else {
+        head
     }
-    head
 }
 
 // Row i of L, up to its diagonal: the rows before it are done. Its sums leave out the zeros at its head where all these rows are fine: finite.
@@ -62,11 +59,7 @@ fn rows_fine(x: &[f64], s: usize, i: usize, before: bool) -> bool
     ensures { result ≡ (before && all_to (i + 1) (λ k. finite (at s x.now i k))) }
 {
     let o = base::offset(i, s, s);
-    let n = i + 1;
-    if !before {
-        return false;
-    }
-    base::all_finite(&x[o..], n)
+    before && base::all_finite(&x[o..], i + 1)
 }
 
 // LDL' of a: L below the diagonal of out and d on it, up to the first pivot that is zero or not finite.

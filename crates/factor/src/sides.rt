@@ -9,31 +9,19 @@ ghost use Rattle.factor.specs.Sides.{each_column, ldl_columns_at, Entered, RowEn
 
 use crate::substitution::{over_d, sum_behind, sum_further};
 
-// Both of two tests.
-fn both(a: bool, b: bool) -> bool
-    ensures { result ≡ (a && b) }
-{
-    if a {
-        return b;
-    }
-    false
-}
-
 // Where the sums of row i begin: behind the zeros at the head of row i of L where that is allowed.
 fn row_head(l: &[f64], s: usize, i: usize, allowed: bool) -> usize
     requires { (i < s) × (s * s ≤ length l.now) }
     ensures { Head allowed 0 i (λ k. at s l.now i k) result }
 {
     let o = base::offset(i, s, s);
-    let mut k = 0;
     if !allowed {
         return 0;
     }
-    while k < i {
+    for k in 0..i {
         if l[o + k] != 0.0 {
             return k;
         }
-        k += 1;
     }
     i
 }
@@ -43,16 +31,14 @@ fn column_head(l: &[f64], s: usize, i: usize, allowed: bool) -> usize
     requires { (i < s) × (s * s ≤ length l.now) }
     ensures { Head allowed (i + 1) s (λ k. at s l.now k i) result }
 {
-    let mut k = i + 1;
     if !allowed {
-        return k;
+        return i + 1;
     }
-    while k < s {
+    for k in i + 1..s {
         let o = base::offset(k, s, s);
         if l[o + i] != 0.0 {
             return k;
         }
-        k += 1;
     }
     s
 }
@@ -78,7 +64,7 @@ fn forward_row(l: &[f64], s: usize, i: usize, head: usize, count: usize, x: &mut
         let o = base::offset(a, count, s);
         let e = o + s;
         let one = forward_entry(l, s, i, head, &mut x[o..e]);
-        fine = both(fine, one);
+        fine &= one;
     }
     fine
 }
@@ -92,7 +78,7 @@ fn forward_columns(l: &[f64], s: usize, count: usize, x: &mut [f64])
     for i in 0..s {
         let head = row_head(l, s, i, fine);
         let row = forward_row(l, s, i, head, count, x);
-        fine = both(fine, row);
+        fine &= row;
     }
 }
 
@@ -128,7 +114,7 @@ fn backward_row(l: &[f64], s: usize, i: usize, head: usize, count: usize, x: &mu
         let o = base::offset(a, count, s);
         let e = o + s;
         let one = backward_entry(l, s, i, head, &mut x[o..e]);
-        fine = both(fine, one);
+        fine &= one;
     }
     fine
 }
@@ -139,12 +125,10 @@ fn backward_columns(l: &[f64], s: usize, count: usize, x: &mut [f64])
     ensures { x.new ≡ each_column (unit_backward s l.now) s count x.old }
 {
     let mut fine = true;
-    let mut i = s;
-    while 0 < i {
-        i -= 1;
+    for i in (0..s).rev() {
         let head = column_head(l, s, i, fine);
         let row = backward_row(l, s, i, head, count, x);
-        fine = both(fine, row);
+        fine &= row;
     }
 }
 

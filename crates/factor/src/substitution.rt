@@ -102,9 +102,7 @@ pub fn unit_backward(l: &[f64], s: usize, x: &mut [f64])
     requires { (s * s ≤ length l.now) × (s ≤ length x.old) }
     ensures { x.new ≡ unit_backward s l.now x.old }
 {
-    let mut i = s;
-    while 0 < i {
-        i -= 1;
+    for i in (0..s).rev() {
         let below = sum_below(l, s, i, x);
         x[i] = x[i] - below;
     }
@@ -127,9 +125,7 @@ pub fn backward(l: &[f64], s: usize, x: &mut [f64])
     requires { (s * s ≤ length l.now) × (s ≤ length x.old) }
     ensures { x.new ≡ backward s l.now x.old }
 {
-    let mut i = s;
-    while 0 < i {
-        i -= 1;
+    for i in (0..s).rev() {
         let o = base::offset(i, s, s);
         let below = sum_below(l, s, i, x);
         x[i] = (x[i] - below) / l[o + i];

@@ -29,7 +29,7 @@ loop-i-preserved c =
     let loop = c.loop-i in
     let row = c.backward_row-row in
     let g = (unit_backward_rule a.s a.l.now) in
-    (omega arith, search rules, each_down g (loop.i - 1) a.s a.count loop.i a.x.now loop.x _ (omega arith) (omega arith) (omega arith) loop.invariant.2 row.ensures.list, fine_down g (loop.i - 1) a.s a.count loop.x _ row.result (omega arith) row.ensures loop.fine _ (omega arith) c.both-fine.ensures (λ t b k l m p. loop.invariant.3 t b k l (omega arith) p))
+    (omega arith, search rules, each_down g (loop.i - 1) a.s a.count loop.i a.x.now loop.x _ (omega arith) (omega arith) (omega arith) loop.invariant.2 row.ensures.list, fine_down g (loop.i - 1) a.s a.count loop.x _ row.result (omega arith) row.ensures loop.fine _ (omega arith) refl (λ t b k l m p. loop.invariant.3 t b k l (omega arith) p))
 
 pub returns : goal.returns
 returns c = backward_end _ _ _ _ _ _ (omega arith) c.loop-i.invariant.2

@@ -1,6 +1,5 @@
 -- `factor::backward_row` meets its contract: before turn a the first a right sides have entry i by the rule, and the flag says whether all these are finite.
 use mathlib.Core.Path.{◌≡◌}
-use Prim.Native.Nat.{◌≤◌, ◌-◌}
 use lib.ListN.{length}
 use Rattle.base.specs.Number.{finite}
 use Rattle.base.specs.Sum.{all_to}
@@ -10,7 +9,4 @@ use Rattle.factor.specs.Sides.{column_at, each_column}
 use Rattle.factor.proofs.sides.backward_row.Given as goal
 
 abbrev pub invariant-loop-a : goal.invariant-loop-a
-invariant-loop-a l = (l.a ≤ l.count) × (length l.x ≡ length l.initial.x) × (l.x ≡ each_column (ruled (unit_backward_rule l.s l.l) l.i) l.s l.a l.initial.x) × (l.fine ≡ all_to l.a (λ b. finite (column_at (ruled (unit_backward_rule l.s l.l) l.i) l.s l.initial.x b l.i)))
-
-abbrev pub decreases-loop-a : goal.decreases-loop-a
-decreases-loop-a l = l.count - l.a
+invariant-loop-a l = (length l.x ≡ length l.initial.x) × (l.x ≡ each_column (ruled (unit_backward_rule l.s l.l) l.i) l.s l.a l.initial.x) × (l.fine ≡ all_to l.a (λ b. finite (column_at (ruled (unit_backward_rule l.s l.l) l.i) l.s l.initial.x b l.i)))
