@@ -13,18 +13,6 @@ use Rattle.model.specs.declared.names.Link.TheVariants.{Logit, Probit, Cloglog, 
 use Rattle.model.specs.declared.names.Start.{Start}
 use Rattle.model.specs.declared.names.Start.TheVariants.{Usual, Trials}
 
--- a number that is none of 0 and 1
-pub past_one : {c : ℕ} → (c ≡ 0 → ⊥) → (c ≡ 1 → ⊥) → 2 ≤ c
-past_one h₀ h₁ = omega arith
-
--- a number that is none of 0 to 3
-pub past_three : {c : ℕ} → (c ≡ 0 → ⊥) → (c ≡ 1 → ⊥) → (c ≡ 2 → ⊥) → (c ≡ 3 → ⊥) → 4 ≤ c
-past_three h₀ h₁ h₂ h₃ = omega arith
-
--- and none of 4 to 6
-pub past_six : {c : ℕ} → 4 ≤ c → (c ≡ 4 → ⊥) → (c ≡ 5 → ⊥) → (c ≡ 6 → ⊥) → 7 ≤ c
-past_six h h₄ h₅ h₆ = omega arith
-
 -- no family has a code from 4 on
 pub no_family : (c : ℕ) → 4 ≤ c → family_coded c ≡ None
 unfolding family_coded

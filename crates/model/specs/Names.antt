@@ -1,12 +1,12 @@
 -- Codes of the families, links and starts, and the limit of iterations. Document 01, "The job and the program", and "What the port carries" for the limit; document 02, P10, for the starts. Assumes nothing.
-use Rattle.std.specs.Prelude.{Option, Some, None}
-use Rattle.std.specs.Prelude.{Bool, true, false, cond, [], ◌∷◌, ℕ, get_or}
+use Rattle.std.specs.Prelude.{◌≡◌, Bool, true, false, cond, [], ◌∷◌, ℕ, get_or, Option, Some, None, Result, MatchResult}
 use Rattle.model.specs.declared.names.Family.{Family}
 use Rattle.model.specs.declared.names.Family.TheVariants.{Binomial, Poisson, Gaussian, Gamma}
 use Rattle.model.specs.declared.names.Link.{Link}
 use Rattle.model.specs.declared.names.Link.TheVariants.{Logit, Probit, Cloglog, Log, Identity, Inverse, Sqrt}
 use Rattle.model.specs.declared.names.Start.{Start}
 use Rattle.model.specs.declared.names.Start.TheVariants.{Usual, Trials}
+use Rattle.model.specs.declared.names.UnknownCode.{UnknownCode}
 
 -- a family's code in a job is its place in this list, from 0
 abbrev pub family_code : Family → ℕ
@@ -19,6 +19,10 @@ family_code Gamma = 3
 unfoldable pub family_coded : ℕ → Option Family
 family_coded code =
     get_or (Some Binomial ∷ Some Poisson ∷ Some Gaussian ∷ Some Gamma ∷ []) code None
+
+-- what is found for a code is what has it, or the code itself where nothing has it
+abbrev pub Coded : {A : Type 0} → Option A → ℕ → Result A UnknownCode → Type 0
+Coded coded code found = MatchResult found (λ x. coded ≡ Some x) (λ e. (coded ≡ None) × (e.0 ≡ code))
 
 -- a link's code in a job is its place in the Rust's enum, from 0
 abbrev pub link_code : Link → ℕ
