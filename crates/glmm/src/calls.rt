@@ -5,6 +5,7 @@ ghost use Rattle.call.specs.Call.{lent, left, call_of};
 
 use crate::accepted::fit_accepted;
 use model::{Answer, Settings, Shape};
+use rule::{Design, Given, Sparse};
 use table::{LentLengths, verdict_of};
 
 // Nothing is asked of the arguments: what cannot be fitted is refused, and then every slice stays as it is.
@@ -59,29 +60,35 @@ pub fn fit(
         1, settings, shape, theta, y, weights, offset, x, starts, columns, values, lengths,
     );
     match verdict {
-        Ok((f, l)) => {
-            let given = settings.limit;
-            let link = settings.link;
-            let start = settings.start;
-            let limit = model::limit_of(given, link);
-            fit_accepted(
-                f,
-                l,
-                limit,
-                settings.n_agq,
-                start,
-                shape,
-                settings.n,
-                settings.p,
-                settings.rows,
-                theta,
-                y,
-                weights,
-                offset,
-                x,
+        Ok((family, link)) => {
+            let zt = Sparse {
                 starts,
                 columns,
                 values,
+            };
+            let design = Design {
+                n: settings.n,
+                p: settings.p,
+                q: settings.rows,
+                shape,
+                theta,
+                offset,
+                x,
+                zt,
+            };
+            let given = Given {
+                family,
+                link,
+                y,
+                weights,
+                design,
+            };
+            let limit = model::limit_of(settings.limit, settings.link);
+            fit_accepted(
+                &given,
+                limit,
+                settings.n_agq,
+                settings.start,
                 beta,
                 se,
                 z,

@@ -3,16 +3,14 @@ ghost use Rattle.std.specs.Prelude.{◌≡◌, ◌≤◌};
 ghost use Rattle.base.specs.Rows.{row};
 ghost use Rattle.layout.specs.WorkRows.{mu_row};
 ghost use Rattle.model.specs.Account.{◌⊞◌, one_solve, SumFits};
-ghost use Rattle.stored.specs.Stored.{sparse};
-ghost use Rattle.rule.specs.Given.{design_of, given_of};
-ghost use Rattle.iteration.specs.Iterated.{Asked};
+ghost use Rattle.iteration.specs.Iterated.{AskedFor};
 ghost use Rattle.pirls.specs.Inner.{failed_fit, stopped_fit, InnerLeft};
+ghost use Rattle.rule.specs.Lent.{given_in};
 
-use family::{CarriedFamily, CarriedLink};
 use iteration::{Iteration, iterate};
 use layout::mu_row;
-use model::{Account, End, Shape};
-use rule::stops;
+use model::{Account, End};
+use rule::{Given, stops};
 use stages::{AtStop, stop};
 use working::start_eta;
 
@@ -68,62 +66,27 @@ fn with_solve(account: Account, made: Account) -> Account
 
 // The inner fit from the means that stand in their row; from the first move on they are those of the predictor.
 pub fn inner_fit(
-    family: CarriedFamily,
-    link: CarriedLink,
+    given: &Given<'_>,
     phi: f64,
     limit: usize,
-    shape: Shape,
-    theta: &[f64],
-    starts: &[usize],
-    columns: &[usize],
-    values: &[f64],
-    offset: &[f64],
-    x: &[f64],
-    y: &[f64],
-    weights: &[f64],
-    n: usize,
-    p: usize,
-    q: usize,
     r: &mut [f64],
     m: &mut [f64],
     t: &mut [f64],
 ) -> InnerFit
-    requires asked { Asked n p q shape theta.now starts.now columns.now values.now offset.now x.now y.now r.old m.old t.old }
+    requires asked { AskedFor given.now r.old m.old t.old }
     requires limit_bound { limit ≤ 1000 }
     ensures { InnerLeft
-        (given_of family link y.now weights.now
-        (design_of n p shape theta.now offset.now x.now
-        (sparse starts.now columns.now values.now))) phi limit (row (mu_row n) n r.old) r.old
+        (given_in given.now) phi limit (row (mu_row given.now.design.n) given.now.design.n r.old) r.old
         r.new m.old m.new t.old t.new result }
 {
-    start_eta(link, offset, n, mu_row(n), 0, r);
+    let design = &given.design;
+    start_eta(given.link, design.offset, design.n, mu_row(design.n), 0, r);
     let mut old = base::MAX;
     let mut in_second = false;
     let mut k = 0;
     let mut account = Account::one_fit();
     while k < limit {
-        let it = iterate(
-            family,
-            link,
-            0 < k,
-            phi,
-            shape,
-            theta,
-            starts,
-            columns,
-            values,
-            offset,
-            x,
-            y,
-            weights,
-            n,
-            p,
-            q,
-            in_second,
-            r,
-            m,
-            t,
-        );
+        let it = iterate(given, 0 < k, phi, in_second, r, m, t);
         match it {
             Iteration::Unsolvable(e) => return failed_fit(e, account),
             Iteration::Stuck(made) => return failed_fit(End::NoStep, with_solve(account, made)),
@@ -132,7 +95,17 @@ pub fn inner_fit(
                 account = with_solve(account, made);
                 in_second = !in_second;
                 if stops(old, pwrss) {
-                    let s = stop(family, y, weights, n, p, q, r, m, t);
+                    let s = stop(
+                        given.family,
+                        given.y,
+                        given.weights,
+                        design.n,
+                        design.p,
+                        design.q,
+                        r,
+                        m,
+                        t,
+                    );
                     return stopped_fit(s, k, in_second, account);
                 }
                 old = pwrss;

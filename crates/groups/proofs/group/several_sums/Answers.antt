@@ -28,7 +28,7 @@ trial_u_at-trial-requires c = (c.requires.roomy.lent.sizes.p_few, c.requires.roo
 
 pub copy_row-requires : goal.copy_row-requires
 copy_row-requires c = (
-  hats_before c.args.p c.args.q _ _ c.u_at-u.ensures c.trial_u_at-trial.ensures,
+  hats_before c.args.given.now.design.p c.args.given.now.design.q _ _ c.u_at-u.ensures c.trial_u_at-trial.ensures,
   trial_u_in c.requires.roomy.lent.sizes c.args.m.now c.trial_u_at-trial.ensures c.requires.roomy.lent.matrices_long,
 )
 

@@ -6,7 +6,7 @@ use Rattle.groups.proofs.product.group.Goals as goal
 pub one_group-requires : goal.one_group-requires
 one_group-requires c = record {
   roomy = c.requires.roomy;
-  g_lt_q = (lone_within c.args.q c.args.k c.args.g c.if-k-eq1.true c.requires.k_bound.0, c.requires.k_bound.2);
+  g_lt_q = (lone_within c.args.given.now.design.q c.args.k c.args.g c.if-k-eq1.true c.requires.k_bound.0, c.requires.k_bound.2);
 }
 
 pub shape_of-r-then-k-eq1 : goal.shape_of-r-then-k-eq1

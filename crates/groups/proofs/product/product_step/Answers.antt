@@ -24,7 +24,7 @@ group-a-requires c = record {
   roomy = roomy_kept c.requires.roomy c.loop-g.invariant.frame.rows_only.len c.loop-g.invariant.frame.matrices_only.len
       c.loop-g.invariant.frame.terms_only.len;
   k_bound = (
-    effects_within c.args.q c.args.groups c.args.k c.loop-g.g c.args.order c.requires.grouped
+    effects_within c.args.given.now.design.q c.args.groups c.args.k c.loop-g.g c.args.order c.requires.grouped
         c.loop-g-test.true,
     c.requires.grouped.capped,
     logs_of _ _ _ c.gh_rule-rule.ensures refl _ c.log_weights.ensures,
@@ -64,7 +64,7 @@ overflow_add-g c =
     omega (
       arith,
       c.loop-g-test.true,
-      groups_few c.args.q c.args.groups c.args.k c.args.order c.requires.roomy.lent.sizes.q_some
+      groups_few c.args.given.now.design.q c.args.groups c.args.k c.args.order c.requires.roomy.lent.sizes.q_some
           c.requires.roomy.lent.sizes.q_few c.requires.grouped,
     )
 

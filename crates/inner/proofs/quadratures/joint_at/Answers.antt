@@ -10,7 +10,7 @@ fixed_row-requires c = (c.requires.lent.sizes, c.requires.x_long, c.requires.len
 pub joint_step-requires : goal.joint_step-requires
 joint_step-requires c = record {
   roomy = roomy c.requires c.fixed_row.ensures.only.len;
-  q_bound = (joint_within c.args.wish c.args.q _ (sym c.resolve_gh_order_joint-choice.ensures ∙ c.in-Use.is)).1;
+  q_bound = (joint_within c.args.wish c.args.given.now.design.q _ (sym c.resolve_gh_order_joint-choice.ensures ∙ c.in-Use.is)).1;
 }
 
 pub returns-in-Without : goal.returns-in-Without

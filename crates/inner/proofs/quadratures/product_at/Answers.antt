@@ -9,7 +9,7 @@ fixed_row-requires c = (c.requires.asked.lent.sizes, c.requires.asked.x_long, c.
 pub product_step-requires : goal.product_step-requires
 product_step-requires c = record {
   roomy = roomy c.requires.asked c.fixed_row.ensures.only.len;
-  grouped = grouped c.args.wish c.args.q c.args.groups c.args.k _ c.requires.k_value
+  grouped = grouped c.args.wish c.args.given.now.design.q c.args.groups c.args.k _ c.requires.k_value
       (sym c.resolve_gh_order_product-choice.ensures ∙ c.in-Use.is);
 }
 

@@ -6,7 +6,7 @@ use Rattle.inner.proofs.quadratures.quadrature_at.Goals as goal
 pub product_at-requires : goal.product_at-requires
 product_at-requires c = record {
   asked = c.requires;
-  k_value = groups_all c.args.shape c.args.q (eq-eqb _ _ c.if-shape-eq1.true) c.requires.ready.effects;
+  k_value = groups_all c.args.given.now.design.shape c.args.given.now.design.q (eq-eqb _ _ c.if-shape-eq1.true) c.requires.ready.effects;
 }
 
 pub shape_of-r-then-shape-eq1 : goal.shape_of-r-then-shape-eq1

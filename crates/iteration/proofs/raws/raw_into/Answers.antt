@@ -97,8 +97,8 @@ raw_row-requires c = (
 
 pub shape_of-r : goal.shape_of-r
 shape_of-r c =
-    let d = raw_row_wrote c.args.n c.args.p c.raw_row-raw.result _ c.beta_at-beta.result _ c.args.offset.now
-    c.args.x.now _ _ _ refl
+    let d = raw_row_wrote c.args.design.now.n c.args.design.now.p c.raw_row-raw.result _ c.beta_at-beta.result _ c.args.design.now.offset.now
+    c.args.design.now.x.now _ _ _ refl
     (omega (arith, raw_in c.requires.work_room.sizes c.args.r.now c.raw_row-raw.ensures c.requires.work_room.rows_long))
     refl c.raw_row.auto.out c.raw_row.ensures in
     d.only.len ∙ c.zb_into.ensures.only.len

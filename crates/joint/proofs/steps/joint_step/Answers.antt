@@ -7,7 +7,7 @@ use Rattle.joint.proofs.JointSummed.{joint_unscaled, joint_scaled}
 use Rattle.joint.proofs.steps.joint_step.Goals as goal
 
 pub block_scale-requires : goal.block_scale-requires
-block_scale-requires c = scale_room 0 c.args.q c.requires.roomy.lent (omega arith)
+block_scale-requires c = scale_room 0 c.args.given.now.design.q c.requires.roomy.lent (omega arith)
 
 pub joint_sums-a-requires : goal.joint_sums-a-requires
 joint_sums-a-requires c = record {

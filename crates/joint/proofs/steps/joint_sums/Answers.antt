@@ -34,16 +34,16 @@ pub log_weights-requires : goal.log_weights-requires
 log_weights-requires c = logs_room _ _ (replicate 11 zero_f) c.gh_rule-rule.ensures refl
 
 pub power-count-requires : goal.power-count-requires
-power-count-requires c = power_room _ _ c.args.q c.gh_rule-rule.ensures c.requires.q_bound
+power-count-requires c = power_room _ _ c.args.given.now.design.q c.gh_rule-rule.ensures c.requires.q_bound
 
 pub joint_terms-requires : goal.joint_terms-requires
 joint_terms-requires c = record {
   room = room_of _ _ c.requires.roomy c.xbeta_row-xbeta.ensures c.trial_u_at-trial.ensures c.mark_all.ensures.only.len refl;
-  grid = grid_of _ _ 0 c.args.q _ _ _ _ c.gh_rule-rule.ensures c.requires.roomy.lent refl (omega arith) c.inverse_at-l.ensures
+  grid = grid_of _ _ 0 c.args.given.now.design.q _ _ _ _ c.gh_rule-rule.ensures c.requires.roomy.lent refl (omega arith) c.inverse_at-l.ensures
       c.u_at-u.ensures c.trial_u_at-trial.ensures;
   size_in_bounds = (
     rule_logs_long _ _ c.gh_rule-rule.ensures (logs_of _ _ _ c.gh_rule-rule.ensures refl _ c.log_weights.ensures),
-    count_in_lem c.args.order _ c.args.q 7000 _ c.args.t.now c.gh_rule-rule.ensures c.requires.q_bound
+    count_in_lem c.args.order _ c.args.given.now.design.q 7000 _ c.args.t.now c.gh_rule-rule.ensures c.requires.q_bound
         c.power-count.ensures (omega arith) c.requires.roomy.lent.terms_long,
   );
 }
@@ -51,7 +51,7 @@ joint_terms-requires c = record {
 pub log_sum-requires : goal.log_sum-requires
 log_sum-requires c =
     rw (ap length c.joint_terms.ensures.terms ∙ length_fill _ _ _)
-    (count_in_lem c.args.order _ c.args.q 7000 _ c.args.t.now c.gh_rule-rule.ensures c.requires.q_bound c.power-count.ensures
+    (count_in_lem c.args.order _ c.args.given.now.design.q 7000 _ c.args.t.now c.gh_rule-rule.ensures c.requires.q_bound c.power-count.ensures
     (omega arith) c.requires.roomy.lent.terms_long)
 
 pub shape_of-r : goal.shape_of-r

@@ -30,7 +30,7 @@ trial_u_at-trial-requires c = (c.requires.roomy.lent.sizes.p_few, c.requires.roo
 
 pub copy_row-requires : goal.copy_row-requires
 copy_row-requires c = (
-  hats_before c.args.p c.args.q _ _ c.u_at-u.ensures c.trial_u_at-trial.ensures,
+  hats_before c.args.given.now.design.p c.args.given.now.design.q _ _ c.u_at-u.ensures c.trial_u_at-trial.ensures,
   trial_u_in c.requires.roomy.lent.sizes c.args.m.now c.trial_u_at-trial.ensures c.requires.roomy.lent.matrices_long,
 )
 
@@ -43,7 +43,7 @@ one_terms-requires c = record {
       (ap length c.copy_row.ensures ∙ length_fillat _ _ _ _);
   g_lt_q = (
     c.requires.g_lt_q.0,
-    hats_before c.args.p c.args.q _ _ c.u_at-u.ensures c.trial_u_at-trial.ensures,
+    hats_before c.args.given.now.design.p c.args.given.now.design.q _ _ c.u_at-u.ensures c.trial_u_at-trial.ensures,
     rule_nodes_long _ _ c.gh_rule-rule.ensures,
     rule_logs_long _ _ c.gh_rule-rule.ensures c.requires.g_lt_q.1,
     rule_in _ _ c.gh_rule-rule.ensures c.args.t.now c.requires.roomy.lent.terms_long,
