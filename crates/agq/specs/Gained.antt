@@ -11,7 +11,7 @@ use Rattle.family.specs.declared.carried.CarriedLink.{CarriedLink}
 use Rattle.stored.specs.Stored.{z_times_at}
 use Rattle.lambda.specs.Product.{lambda_times_at}
 use Rattle.working.specs.Optional.{Optional}
-use Rattle.rule.specs.Lent.{sparse_in}
+use Rattle.stored.specs.Lent.{sparse_in}
 use Rattle.rule.specs.declared.given.Given.{Given}
 use Rattle.points.specs.Gain.{marked, mean_over, entered}
 

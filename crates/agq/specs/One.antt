@@ -9,7 +9,7 @@ use Rattle.model.specs.declared.sizes.Shape.{Shape}
 use Rattle.family.specs.declared.carried.CarriedFamily.{CarriedFamily}
 use Rattle.family.specs.declared.carried.CarriedLink.{CarriedLink}
 use Rattle.agq_rule.specs.Term.{delta_of, penalty_at, one_moved}
-use Rattle.rule.specs.Lent.{sparse_in}
+use Rattle.stored.specs.Lent.{sparse_in}
 use Rattle.rule.specs.declared.given.Given.{Given}
 use Rattle.agq.specs.Gained.{effects_at, gain_in}
 

@@ -23,15 +23,7 @@ pub fn point_gain(
     let zb = devs + design.n;
     let mark = zb + design.n;
     lambda_within(design.shape, design.theta, design.q, trial, b, m);
-    stored::z_times(
-        design.zt.starts,
-        design.zt.columns,
-        design.zt.values,
-        design.q,
-        design.n,
-        &m[b..be],
-        &mut r[zb..mark],
-    );
+    stored::z_times(&design.zt, design.q, design.n, &m[b..be], &mut r[zb..mark]);
     point_means(given.link, design.offset, design.n, xbeta, zb, mark, r);
     deviance_gain(
         given.family,

@@ -5,6 +5,8 @@
 ghost use Rattle.std.specs.Prelude.{◌≡◌, ◌*◌, ◌≤◌, length};
 ghost use Rattle.base.specs.Sparse.{Rows};
 
+use stored::Sparse;
+
 // X of three rows and two columns.
 fn x_beta() {
     let mut out = [9.0; 4];
@@ -97,9 +99,11 @@ fn side(starts: &[usize], columns: &[usize], values: &[f64])
 {
     let mut out = [9.0; 6];
     stored::zt_times(
-        starts,
-        columns,
-        values,
+        &Sparse {
+            starts,
+            columns,
+            values,
+        },
         5,
         5,
         &[1.0, 0.7, 3.0, 1.0, 0.3],
@@ -113,9 +117,11 @@ fn square(starts: &[usize], columns: &[usize], values: &[f64])
 {
     let mut out = [9.0; 26];
     stored::ztwz(
-        starts,
-        columns,
-        values,
+        &Sparse {
+            starts,
+            columns,
+            values,
+        },
         5,
         5,
         &[1.8, 0.1, 0.7, 1.3, 0.3],
@@ -129,9 +135,11 @@ fn summed(starts: &[usize], columns: &[usize], values: &[f64])
 {
     let mut out = [9.0; 6];
     stored::z_times(
-        starts,
-        columns,
-        values,
+        &Sparse {
+            starts,
+            columns,
+            values,
+        },
         5,
         5,
         &[0.3, 5.0, 1.1, 1.7, 0.7],

@@ -3,9 +3,11 @@
 ghost use Rattle.std.specs.Prelude.{◌≡◌, ◌+◌, ◌*◌, ◌≤◌, ◌<◌, length, replicate};
 ghost use Rattle.base.specs.Number.{zero_f};
 ghost use Rattle.base.specs.List.{build, fill_to, fill_at, grid_to};
-ghost use Rattle.base.specs.Sparse.{Rising, Rows};
-ghost use Rattle.stored.specs.Stored.{sparse};
+ghost use Rattle.base.specs.Sparse.{Rising};
 ghost use Rattle.columns.specs.Weighted.{weighted_dot, weighted_side, weighted_more, entries_side, starting_at, Further};
+ghost use Rattle.stored.specs.Lent.{sparse_in, RowsIn};
+
+use stored::Sparse;
 
 // v·(x·w) more in each of the first count sums, the numbers x being those of a row from o on.
 fn add_weighted(w: f64, v: f64, x: &[f64], o: usize, count: usize, sums: &mut [f64])
@@ -269,9 +271,7 @@ fn row_sides(
 
 // Z'(x_a·w) for all columns a, by the rows of Z': row g of out has the p numbers of row g.
 pub fn weighted_rows(
-    starts: &[usize],
-    columns: &[usize],
-    values: &[f64],
+    zt: &Sparse<'_>,
     x: &[f64],
     w: &[f64],
     n: usize,
@@ -279,18 +279,28 @@ pub fn weighted_rows(
     q: usize,
     out: &mut [f64],
 )
-    requires rows { Rows starts.now columns.now values.now q n }
+    requires rows { RowsIn zt.now q n }
     requires p_in_bounds { (n * p ≤ length x.now) × (n ≤ length w.now) × (q * p ≤ length out.old) }
     ensures { out.new
         ≡ grid_to q p
-        (weighted_side (sparse starts.now columns.now values.now) x.now p n w.now)
+        (weighted_side (sparse_in zt.now) x.now p n w.now)
         out.old }
 {
     for g in 0..q {
         let o = base::offset(g, q, p);
         let e = o + p;
-        let begin = starts[g];
-        let end = starts[g + 1];
-        row_sides(begin, end, columns, values, x, w, n, p, &mut out[o..e]);
+        let begin = zt.starts[g];
+        let end = zt.starts[g + 1];
+        row_sides(
+            begin,
+            end,
+            zt.columns,
+            zt.values,
+            x,
+            w,
+            n,
+            p,
+            &mut out[o..e],
+        );
     }
 }

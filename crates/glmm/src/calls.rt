@@ -5,7 +5,8 @@ ghost use Rattle.call.specs.Call.{lent, left, call_of};
 
 use crate::accepted::fit_accepted;
 use model::{Answer, Settings, Shape};
-use rule::{Design, Given, Sparse};
+use rule::{Design, Given};
+use stored::Sparse;
 use table::{LentLengths, verdict_of};
 
 // Nothing is asked of the arguments: what cannot be fitted is refused, and then every slice stays as it is.

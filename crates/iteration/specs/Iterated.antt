@@ -14,7 +14,7 @@ use Rattle.rule.specs.Solve.{Solved, solved, unsolved, solve_of}
 use Rattle.rule.specs.Try.{found_move, no_move, tries_of, trial_of}
 use Rattle.rule.specs.declared.given.Design.{Design as LentDesign}
 use Rattle.rule.specs.declared.given.Given.{Given as LentGiven}
-use Rattle.solve.specs.Ready.{Ready}
+use Rattle.solve.specs.Ready.{Ready, ReadyIn}
 use Rattle.tries.specs.Told.{tries_to}
 use Rattle.working.specs.Optional.{Optional}
 use Rattle.iteration.specs.Held.{HeldSolved}
@@ -39,7 +39,7 @@ AskedFor g r m t =
 
 -- the sizes and the order of a design as it is lent
 abbrev pub ReadyFor : LentDesign → Type 0
-ReadyFor d = Ready d.shape d.theta.now d.zt.starts.now d.zt.columns.now d.zt.values.now d.q d.n
+ReadyFor d = ReadyIn d.shape d.theta.now d.zt d.q d.n
 
 -- ---- what an iteration answers
 

@@ -38,17 +38,7 @@ pub fn raw_into(design: &Design<'_>, r: &mut [f64], m: &mut [f64], t: &mut [f64]
         t,
     );
     effects_into(design.shape, design.theta, design.q, spare, t, u, m);
-    zb_into(
-        design.zt.starts,
-        design.zt.columns,
-        design.zt.values,
-        design.q,
-        design.n,
-        b,
-        m,
-        raw,
-        r,
-    );
+    zb_into(&design.zt, design.q, design.n, b, m, raw, r);
     let be = beta + design.p;
     let re = raw + design.n;
     working::raw_row(

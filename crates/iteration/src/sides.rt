@@ -2,8 +2,9 @@
 ghost use Rattle.std.specs.Prelude.{◌*◌, ◌≤◌, length};
 ghost use Rattle.layout.specs.Layout.{WorkRoom};
 ghost use Rattle.iteration.specs.Solving.{SidesOf};
-ghost use Rattle.rule.specs.Lent.{sparse_in};
+ghost use Rattle.stored.specs.Lent.{sparse_in};
 ghost use Rattle.iteration.specs.Iterated.{ReadyFor};
+ghost use Rattle.stored.specs.Lent.{sparse_in};
 
 use columns::normal_columns;
 use layout::{weighted_row, wy_at};
@@ -25,9 +26,7 @@ pub fn right_sides(design: &Design<'_>, r: &[f64], m: &mut [f64], t: &mut [f64])
     solve_side(
         design.shape,
         design.theta,
-        design.zt.starts,
-        design.zt.columns,
-        design.zt.values,
+        &design.zt,
         design.q,
         design.n,
         &r[weighted..end],
@@ -38,9 +37,7 @@ pub fn right_sides(design: &Design<'_>, r: &[f64], m: &mut [f64], t: &mut [f64])
     normal_columns(
         design.shape,
         design.theta,
-        design.zt.starts,
-        design.zt.columns,
-        design.zt.values,
+        &design.zt,
         design.x,
         design.n,
         design.p,

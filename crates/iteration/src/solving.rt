@@ -31,9 +31,7 @@ pub fn solve_into(
     factor_system(
         design.shape,
         design.theta,
-        design.zt.starts,
-        design.zt.columns,
-        design.zt.values,
+        &design.zt,
         design.n,
         design.q,
         w_at(design.q),

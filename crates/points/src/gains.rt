@@ -3,14 +3,14 @@ ghost use Rattle.std.specs.Prelude.{◌≡◌, ◌+◌, ◌≤◌, length};
 ghost use Rattle.base.specs.Sum.{add_where, sum_where};
 ghost use Rattle.base.specs.List.{build};
 ghost use Rattle.base.specs.Rows.{row, Apart, Wrote};
-ghost use Rattle.base.specs.Sparse.{Rows};
-ghost use Rattle.stored.specs.Stored.{sparse};
 ghost use Rattle.working.specs.Optional.{Optional};
 ghost use Rattle.agq_rule.specs.Term.{delta_of};
 ghost use Rattle.points.specs.Gain.{marked, mark_at, one_at, mean_over, entered, MarkedIn};
+ghost use Rattle.stored.specs.Lent.{sparse_in, RowsIn};
 
 use family::{CarriedFamily, CarriedLink, dev_resid, link_inv};
 use family_lists::weight_at;
+use stored::Sparse;
 use working::plus_offset;
 
 // 1.0 into the row at mark: every observation enters.
@@ -24,32 +24,21 @@ pub fn mark_all(n: usize, mark: usize, r: &mut [f64])
 }
 
 // 1.0 into the row at mark wherever row a of Z' stores an observation.
-fn mark_one(
-    starts: &[usize],
-    columns: &[usize],
-    values: &[f64],
-    rows: usize,
-    n: usize,
-    a: usize,
-    mark: usize,
-    r: &mut [f64],
-)
-    requires rows { Rows starts.now columns.now values.now rows n }
+fn mark_one(zt: &Sparse<'_>, rows: usize, n: usize, a: usize, mark: usize, r: &mut [f64])
+    requires rows { RowsIn zt.now rows n }
     requires a_bound { (a + 1 ≤ rows) × (mark + n ≤ length r.old) }
-    ensures { MarkedIn (sparse starts.now columns.now values.now) a mark n r.old r.new }
+    ensures { MarkedIn (sparse_in zt.now) a mark n r.old r.new }
 {
-    let end = starts[a + 1];
-    for k in starts[a]..end {
-        let i = columns[k];
+    let end = zt.starts[a + 1];
+    for k in zt.starts[a]..end {
+        let i = zt.columns[k];
         r[mark + i] = 1.0;
     }
 }
 
 // 1.0 or 0.0 into the row at mark: whether one of the k rows of Z' from s on stores the observation.
 pub fn mark_group(
-    starts: &[usize],
-    columns: &[usize],
-    values: &[f64],
+    zt: &Sparse<'_>,
     rows: usize,
     n: usize,
     s: usize,
@@ -57,15 +46,15 @@ pub fn mark_group(
     mark: usize,
     r: &mut [f64],
 )
-    requires rows { Rows starts.now columns.now values.now rows n }
+    requires rows { RowsIn zt.now rows n }
     requires k_bound { (s + k ≤ rows) × (mark + n ≤ length r.old) }
-    ensures { Wrote mark n (build (mark_at (sparse starts.now columns.now values.now) s k) n) r.old r.new }
+    ensures { Wrote mark n (build (mark_at (sparse_in zt.now) s k) n) r.old r.new }
 {
     let e = mark + n;
     base::wipe(&mut r[mark..e], n);
     for i in 0..k {
         let a = s + i;
-        mark_one(starts, columns, values, rows, n, a, mark, r);
+        mark_one(zt, rows, n, a, mark, r);
     }
 }
 

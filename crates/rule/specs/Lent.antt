@@ -1,15 +1,9 @@
 -- The records that the code hands on, as the definitions see them. Document 01, "What the port carries". Assumes nothing.
 use Rattle.std.specs.Prelude.{List, Float}
-use Rattle.base.specs.Sparse.{Sparse}
 use Rattle.rule.specs.Given.{Design, Given, design_of, given_of}
-use Rattle.rule.specs.declared.given.Sparse.{Sparse as LentSparse}
 use Rattle.rule.specs.declared.given.Design.{Design as LentDesign}
 use Rattle.rule.specs.declared.given.Given.{Given as LentGiven}
-use Rattle.stored.specs.Stored.{sparse}
-
--- Z' that is lent
-abbrev pub sparse_in : LentSparse → Sparse
-sparse_in z = sparse z.starts.now z.columns.now z.values.now
+use Rattle.stored.specs.Lent.{sparse_in}
 
 -- the design that is lent, with another X
 abbrev pub design_at : LentDesign → List Float → Design

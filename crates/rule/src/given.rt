@@ -1,14 +1,7 @@
 // What a fit is given, as it is lent: one record for what every step hands on.
 use family::{CarriedFamily, CarriedLink};
 use model::Shape;
-
-// Z' by its rows: row a has the entries from starts[a] to starts[a + 1], each with its observation and its value.
-#[derive(Clone, Copy)]
-pub struct Sparse<'a> {
-    pub starts: &'a [usize],
-    pub columns: &'a [usize],
-    pub values: &'a [f64],
-}
+use stored::Sparse;
 
 // What the predictor is made of: n observations, p columns of X, row by row, q effects by their shape and theta, Z', and the offset, empty where it is absent.
 #[derive(Clone, Copy)]

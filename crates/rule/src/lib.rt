@@ -4,5 +4,5 @@
 mod given;
 mod steps;
 
-pub use given::{Design, Given, Sparse};
+pub use given::{Design, Given};
 pub use steps::{divisor, fine_eta, stops, working_response, working_weight};

@@ -35,17 +35,7 @@ fn one_sums(
 {
     let design = &given.design;
     let mark = mark_row(design.n);
-    mark_group(
-        design.zt.starts,
-        design.zt.columns,
-        design.zt.values,
-        design.q,
-        design.n,
-        g,
-        1,
-        mark,
-        r,
-    );
+    mark_group(&design.zt, design.q, design.n, g, 1, mark, r);
     let u = u_at(design.p, design.q);
     let trial = trial_u_at(design.p, design.q);
     copy_row(u, trial, design.q, m);

@@ -8,7 +8,7 @@ use Rattle.columns.specs.Weighted.{weighted_side}
 use Rattle.columns.proofs.weighted.weighted_rows.Given as goal
 
 abbrev pub invariant-loop-g : goal.invariant-loop-g
-invariant-loop-g l = (l.g ≤ l.q) × (length l.out ≡ length l.initial.out) × (l.out ≡ grid_to l.g l.p (weighted_side (sparse l.starts l.columns l.values) l.x l.p l.n l.w) l.initial.out)
+invariant-loop-g l = (l.g ≤ l.q) × (length l.out ≡ length l.initial.out) × (l.out ≡ grid_to l.g l.p (weighted_side (sparse l.zt.starts.now l.zt.columns.now l.zt.values.now) l.x l.p l.n l.w) l.initial.out)
 
 abbrev pub decreases-loop-g : goal.decreases-loop-g
 decreases-loop-g l = l.q - l.g

@@ -9,7 +9,7 @@ use Rattle.points.specs.Gain.{mark_at}
 use Rattle.points.proofs.gains.mark_group.Given as goal
 
 abbrev pub invariant-loop-i : goal.invariant-loop-i
-invariant-loop-i l = (l.i ≤ l.k) × (length l.r ≡ length l.initial.r) × (Only l.mark l.n l.initial.r l.r) × ((o : ℕ) → o < l.n → l.r ! (l.mark + o) ≡ mark_at (sparse l.starts l.columns l.values) l.s l.i o)
+invariant-loop-i l = (l.i ≤ l.k) × (length l.r ≡ length l.initial.r) × (Only l.mark l.n l.initial.r l.r) × ((o : ℕ) → o < l.n → l.r ! (l.mark + o) ≡ mark_at (sparse l.zt.starts.now l.zt.columns.now l.zt.values.now) l.s l.i o)
 
 abbrev pub decreases-loop-i : goal.decreases-loop-i
 decreases-loop-i l = l.k - l.i

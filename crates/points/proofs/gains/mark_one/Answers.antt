@@ -23,7 +23,7 @@ pub bounds-starts-a-2 : goal.bounds-starts-a-2
 bounds-starts-a-2 c = omega arith
 
 pub loop-k-init : goal.loop-k-init
-loop-k-init c = (c.requires.rows.each c.args.a (omega (arith, c.requires.a_bound.0)), omega arith, (c.requires.rows.each c.args.a (omega (arith, c.requires.a_bound.0))).order, omega arith, marked_none c.args.columns.now _ c.args.mark c.args.n c.args.r.now, only_none _ _ _)
+loop-k-init c = (c.requires.rows.each c.args.a (omega (arith, c.requires.a_bound.0)), omega arith, (c.requires.rows.each c.args.a (omega (arith, c.requires.a_bound.0))).order, omega arith, marked_none c.args.zt.now.columns.now _ c.args.mark c.args.n c.args.r.now, only_none _ _ _)
 
 pub offset_bounds-columns-k : goal.offset_bounds-columns-k
 offset_bounds-columns-k c =
@@ -60,7 +60,7 @@ pub loop-k-preserved : goal.loop-k-preserved
 loop-k-preserved c =
     let l = c.loop-k in
     let low = l.invariant.0.below l.k l.invariant.1 c.loop-k-test.true in
-    (l.invariant.0, omega (arith, l.invariant.1), omega (arith, c.loop-k-test.true), simp length-set l.invariant.3, marked_step c.args.columns.now _ l.k c.args.mark c.args.n c.args.r.now l.r l.invariant.1 low (omega (arith, l.invariant.3, c.requires.a_bound.1)) l.invariant.4, only_set c.args.mark c.args.n _ _ c.args.r.now l.r low l.invariant.5)
+    (l.invariant.0, omega (arith, l.invariant.1), omega (arith, c.loop-k-test.true), simp length-set l.invariant.3, marked_step c.args.zt.now.columns.now _ l.k c.args.mark c.args.n c.args.r.now l.r l.invariant.1 low (omega (arith, l.invariant.3, c.requires.a_bound.1)) l.invariant.4, only_set c.args.mark c.args.n _ _ c.args.r.now l.r low l.invariant.5)
 
 pub shape_of-r : goal.shape_of-r
 shape_of-r c = omega arith
@@ -68,4 +68,4 @@ shape_of-r c = omega arith
 pub returns : goal.returns
 returns c =
     let l = c.loop-k in
-    marked_end (sparse c.args.starts.now c.args.columns.now c.args.values.now) c.args.a c.args.mark c.args.n l.k c.args.r.now l.r l.invariant.2 (omega arith) l.invariant.4 l.invariant.5
+    marked_end (sparse c.args.zt.now.starts.now c.args.zt.now.columns.now c.args.zt.now.values.now) c.args.a c.args.mark c.args.n l.k c.args.r.now l.r l.invariant.2 (omega arith) l.invariant.4 l.invariant.5

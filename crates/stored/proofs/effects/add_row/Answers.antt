@@ -22,7 +22,7 @@ pub bounds-starts-a-2 : goal.bounds-starts-a-2
 bounds-starts-a-2 c = omega arith
 
 pub loop-k-init : goal.loop-k-init
-loop-k-init c = (c.requires.rows.each c.args.a c.requires.a_lt_rows.0, c.requires.rows.paired, omega arith, added_none (sparse c.args.starts.now c.args.columns.now c.args.values.now) c.args.rows c.args.n c.args.b.now c.args.a c.args.out.now c.requires.rows c.requires.a_lt_rows.0 c.requires.a_lt_rows.2)
+loop-k-init c = (c.requires.rows.each c.args.a c.requires.a_lt_rows.0, c.requires.rows.paired, omega arith, added_none (sparse c.args.zt.now.starts.now c.args.zt.now.columns.now c.args.zt.now.values.now) c.args.rows c.args.n c.args.b.now c.args.a c.args.out.now c.requires.rows c.requires.a_lt_rows.0 c.requires.a_lt_rows.2)
 
 pub offset_bounds-columns-k : goal.offset_bounds-columns-k
 offset_bounds-columns-k c = omega arith
@@ -63,10 +63,10 @@ loop-k-smaller c = omega arith
 pub loop-k-preserved : goal.loop-k-preserved
 loop-k-preserved c =
     let inv = c.loop-k.invariant in
-    (inv.0, inv.1, simp length-set (omega arith), added_step (sparse c.args.starts.now c.args.columns.now c.args.values.now) c.args.rows c.args.n c.args.b.now c.args.a c.args.out.now c.requires.rows c.requires.a_lt_rows.0 c.requires.a_lt_rows.2 inv.3 c.loop-k-test.true)
+    (inv.0, inv.1, simp length-set (omega arith), added_step (sparse c.args.zt.now.starts.now c.args.zt.now.columns.now c.args.zt.now.values.now) c.args.rows c.args.n c.args.b.now c.args.a c.args.out.now c.requires.rows c.requires.a_lt_rows.0 c.requires.a_lt_rows.2 inv.3 c.loop-k-test.true)
 
 pub shape_of-out : goal.shape_of-out
 shape_of-out c = omega arith
 
 pub returns : goal.returns
-returns c = added_end (sparse c.args.starts.now c.args.columns.now c.args.values.now) c.args.rows c.args.n c.args.b.now c.args.a c.args.out.now c.requires.rows c.requires.a_lt_rows.0 c.requires.a_lt_rows.2 c.loop-k.invariant.3 c.loop-k-test.false
+returns c = added_end (sparse c.args.zt.now.starts.now c.args.zt.now.columns.now c.args.zt.now.values.now) c.args.rows c.args.n c.args.b.now c.args.a c.args.out.now c.requires.rows c.requires.a_lt_rows.0 c.requires.a_lt_rows.2 c.loop-k.invariant.3 c.loop-k-test.false

@@ -9,7 +9,7 @@ use Rattle.stored.proofs.Added.{RowAdded}
 use Rattle.stored.proofs.effects.add_row.Given as goal
 
 abbrev pub invariant-loop-k : goal.invariant-loop-k
-invariant-loop-k l = (Rising l.columns l.n (l.starts !! l.a) l.end) × (length l.columns ≡ length l.values) × (length l.out ≡ length l.initial.out) × (RowAdded (sparse l.starts l.columns l.values) l.b l.n l.a l.initial.out l.k l.out)
+invariant-loop-k l = (Rising l.zt.columns.now l.n (l.zt.starts.now !! l.a) l.end) × (length l.zt.columns.now ≡ length l.zt.values.now) × (length l.out ≡ length l.initial.out) × (RowAdded (sparse l.zt.starts.now l.zt.columns.now l.zt.values.now) l.b l.n l.a l.initial.out l.k l.out)
 
 abbrev pub decreases-loop-k : goal.decreases-loop-k
 decreases-loop-k l = l.end - l.k

@@ -9,7 +9,7 @@ pub wipe-requires : goal.wipe-requires
 wipe-requires c = omega arith
 
 pub loop-a-init : goal.loop-a-init
-loop-a-init c = (omega arith, omega arith, rows_none (sparse c.args.starts.now c.args.columns.now c.args.values.now) c.args.n c.args.b.now c.args.out.now _ c.requires.rows_in_bounds.1 c.wipe.ensures)
+loop-a-init c = (omega arith, omega arith, rows_none (sparse c.args.zt.now.starts.now c.args.zt.now.columns.now c.args.zt.now.values.now) c.args.n c.args.b.now c.args.out.now _ c.requires.rows_in_bounds.1 c.wipe.ensures)
 
 pub add_row-requires : goal.add_row-requires
 add_row-requires c = record {
@@ -24,10 +24,10 @@ pub loop-a-smaller : goal.loop-a-smaller
 loop-a-smaller c = omega arith
 
 pub loop-a-preserved : goal.loop-a-preserved
-loop-a-preserved c = (omega arith, omega arith, rows_step (sparse c.args.starts.now c.args.columns.now c.args.values.now) c.args.n c.args.b.now _ _ _ _ (omega arith) c.loop-a.invariant.2 c.add_row.ensures)
+loop-a-preserved c = (omega arith, omega arith, rows_step (sparse c.args.zt.now.starts.now c.args.zt.now.columns.now c.args.zt.now.values.now) c.args.n c.args.b.now _ _ _ _ (omega arith) c.loop-a.invariant.2 c.add_row.ensures)
 
 pub shape_of-out : goal.shape_of-out
 shape_of-out c = omega arith
 
 pub returns : goal.returns
-returns c = rows_end (sparse c.args.starts.now c.args.columns.now c.args.values.now) c.args.n c.args.rows c.args.b.now _ c.args.out.now _ _ c.requires.rows_in_bounds.1 c.loop-a.invariant.0 c.loop-a-test.false c.wipe.ensures c.loop-a.invariant.2
+returns c = rows_end (sparse c.args.zt.now.starts.now c.args.zt.now.columns.now c.args.zt.now.values.now) c.args.n c.args.rows c.args.b.now _ c.args.out.now _ _ c.requires.rows_in_bounds.1 c.loop-a.invariant.0 c.loop-a-test.false c.wipe.ensures c.loop-a.invariant.2

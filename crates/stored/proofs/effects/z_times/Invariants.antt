@@ -7,7 +7,7 @@ use Rattle.stored.specs.Stored.{sparse, z_times_at}
 use Rattle.stored.proofs.effects.z_times.Given as goal
 
 abbrev pub invariant-loop-a : goal.invariant-loop-a
-invariant-loop-a l = (l.a ≤ l.rows) × (length l.out ≡ length l.initial.out) × (l.out ≡ fill_to l.n (z_times_at (sparse l.starts l.columns l.values) l.a l.b) l.initial.out)
+invariant-loop-a l = (l.a ≤ l.rows) × (length l.out ≡ length l.initial.out) × (l.out ≡ fill_to l.n (z_times_at (sparse l.zt.starts.now l.zt.columns.now l.zt.values.now) l.a l.b) l.initial.out)
 
 abbrev pub decreases-loop-a : goal.decreases-loop-a
 decreases-loop-a l = l.rows - l.a

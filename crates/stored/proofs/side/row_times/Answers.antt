@@ -59,4 +59,4 @@ loop-k-preserved c =
     (omega arith, omega arith, inv.2, inv.3, from_step _ _ _ _ inv.0 inv.4)
 
 pub returns : goal.returns
-returns c = from_end _ _ _ _ _ c.loop-k.invariant.4 (omega arith) (omega arith) ∙ zt_entries (sparse c.args.starts.now c.args.columns.now c.args.values.now) _ _ _ _ c.requires.rows c.requires.a_lt_rows.0
+returns c = from_end _ _ _ _ _ c.loop-k.invariant.4 (omega arith) (omega arith) ∙ zt_entries (sparse c.args.zt.now.starts.now c.args.zt.now.columns.now c.args.zt.now.values.now) _ _ _ _ c.requires.rows c.requires.a_lt_rows.0

@@ -9,7 +9,7 @@ use Rattle.stored.proofs.StoredRows.{entry_term}
 use Rattle.stored.proofs.side.row_times.Given as goal
 
 abbrev pub invariant-loop-k : goal.invariant-loop-k
-invariant-loop-k l = (l.starts !! l.a ≤ l.k) × (l.k ≤ l.end) × (Rising l.columns l.n (l.starts !! l.a) l.end) × (length l.columns ≡ length l.values) × (l.sum ≡ sum_from (l.starts !! l.a) l.k (entry_term (sparse l.starts l.columns l.values) l.v))
+invariant-loop-k l = (l.zt.starts.now !! l.a ≤ l.k) × (l.k ≤ l.end) × (Rising l.zt.columns.now l.n (l.zt.starts.now !! l.a) l.end) × (length l.zt.columns.now ≡ length l.zt.values.now) × (l.sum ≡ sum_from (l.zt.starts.now !! l.a) l.k (entry_term (sparse l.zt.starts.now l.zt.columns.now l.zt.values.now) l.v))
 
 abbrev pub decreases-loop-k : goal.decreases-loop-k
 decreases-loop-k l = l.end - l.k

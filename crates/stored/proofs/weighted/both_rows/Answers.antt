@@ -43,7 +43,7 @@ pub loop-i-init : goal.loop-i-init
 loop-i-init c =
     let first = c.requires.rows.each c.args.a c.requires.a_lt_rows.0 in
     let second = c.requires.rows.each c.args.b c.requires.a_lt_rows.1 in
-    (first, second, c.requires.rows.paired, merge_none (sparse c.args.starts.now c.args.columns.now c.args.values.now) c.args.n c.args.a c.args.b _ first second)
+    (first, second, c.requires.rows.paired, merge_none (sparse c.args.zt.now.starts.now c.args.zt.now.columns.now c.args.zt.now.values.now) c.args.n c.args.a c.args.b _ first second)
 
 pub offset_bounds-columns-i : goal.offset_bounds-columns-i
 offset_bounds-columns-i c = omega arith
@@ -66,7 +66,7 @@ loop-i-smaller-then-ci-cj c = omega arith
 pub loop-i-preserved-then-ci-cj : goal.loop-i-preserved-then-ci-cj
 loop-i-preserved-then-ci-cj c =
     let inv = c.loop-i.invariant in
-    (inv.0, inv.1, inv.2, merge_first (sparse c.args.starts.now c.args.columns.now c.args.values.now) _ _ _ _ inv.0 inv.1 inv.3 c.loop-i-test.true c.if-j-j_end.true c.if-ci-cj.true)
+    (inv.0, inv.1, inv.2, merge_first (sparse c.args.zt.now.starts.now c.args.zt.now.columns.now c.args.zt.now.values.now) _ _ _ _ inv.0 inv.1 inv.3 c.loop-i-test.true c.if-j-j_end.true c.if-ci-cj.true)
 
 pub overflow_add-j : goal.overflow_add-j
 overflow_add-j c = omega arith
@@ -77,7 +77,7 @@ loop-i-smaller-then-cj-ci c = omega (arith, ltb-true)
 pub loop-i-preserved-then-cj-ci : goal.loop-i-preserved-then-cj-ci
 loop-i-preserved-then-cj-ci c =
     let inv = c.loop-i.invariant in
-    (inv.0, inv.1, inv.2, merge_second (sparse c.args.starts.now c.args.columns.now c.args.values.now) _ _ _ _ inv.0 inv.1 inv.3 c.loop-i-test.true c.if-j-j_end.true c.if-cj-ci.true)
+    (inv.0, inv.1, inv.2, merge_second (sparse c.args.zt.now.starts.now c.args.zt.now.columns.now c.args.zt.now.values.now) _ _ _ _ inv.0 inv.1 inv.3 c.loop-i-test.true c.if-j-j_end.true c.if-cj-ci.true)
 
 pub offset_bounds-values-i : goal.offset_bounds-values-i
 offset_bounds-values-i c = omega arith
@@ -109,17 +109,17 @@ loop-i-smaller c = omega arith
 pub loop-i-preserved : goal.loop-i-preserved
 loop-i-preserved c =
     let inv = c.loop-i.invariant in
-    let same : c.args.columns.now !! c.loop-i.i ≡ c.args.columns.now !! c.loop-i.j = omega arith in
-    (inv.0, inv.1, inv.2, rw (← weighted_entry (sparse c.args.starts.now c.args.columns.now c.args.values.now) c.args.rows c.args.n c.args.w.now c.args.a c.args.b c.loop-i.i c.loop-i.j c.requires.rows c.requires.a_lt_rows.0 c.requires.a_lt_rows.1 inv.3.first.start c.loop-i-test.true inv.3.second.start c.if-j-j_end.true same) (merge_both (sparse c.args.starts.now c.args.columns.now c.args.values.now) _ _ _ _ inv.0 inv.1 inv.3 c.loop-i-test.true c.if-j-j_end.true same))
+    let same : c.args.zt.now.columns.now !! c.loop-i.i ≡ c.args.zt.now.columns.now !! c.loop-i.j = omega arith in
+    (inv.0, inv.1, inv.2, rw (← weighted_entry (sparse c.args.zt.now.starts.now c.args.zt.now.columns.now c.args.zt.now.values.now) c.args.rows c.args.n c.args.w.now c.args.a c.args.b c.loop-i.i c.loop-i.j c.requires.rows c.requires.a_lt_rows.0 c.requires.a_lt_rows.1 inv.3.first.start c.loop-i-test.true inv.3.second.start c.if-j-j_end.true same) (merge_both (sparse c.args.zt.now.starts.now c.args.zt.now.columns.now c.args.zt.now.values.now) _ _ _ _ inv.0 inv.1 inv.3 c.loop-i-test.true c.if-j-j_end.true same))
 
 pub returns-else-j-j_end : goal.returns-else-j-j_end
 unfolding ztwz_at
 returns-else-j-j_end c =
     let inv = c.loop-i.invariant in
-    merge_end (sparse c.args.starts.now c.args.columns.now c.args.values.now) _ _ _ _ inv.0 inv.1 inv.3 (inr c.if-j-j_end.false)
+    merge_end (sparse c.args.zt.now.starts.now c.args.zt.now.columns.now c.args.zt.now.values.now) _ _ _ _ inv.0 inv.1 inv.3 (inr c.if-j-j_end.false)
 
 pub returns-after-loop-i : goal.returns-after-loop-i
 unfolding ztwz_at
 returns-after-loop-i c =
     let inv = c.loop-i.invariant in
-    merge_end (sparse c.args.starts.now c.args.columns.now c.args.values.now) _ _ _ _ inv.0 inv.1 inv.3 (inl c.loop-i-test.false)
+    merge_end (sparse c.args.zt.now.starts.now c.args.zt.now.columns.now c.args.zt.now.values.now) _ _ _ _ inv.0 inv.1 inv.3 (inl c.loop-i-test.false)

@@ -37,7 +37,7 @@ least_mark-far-requires c =
 
 pub ztwz_row-requires : goal.ztwz_row-requires
 ztwz_row-requires c =
-    let Z = sparse c.args.starts.now c.args.columns.now c.args.values.now in
+    let Z = sparse c.args.zt.now.starts.now c.args.zt.now.columns.now c.args.zt.now.values.now in
     record {
       rows = c.requires.rows;
       a_lt_rows = omega arith;
@@ -71,7 +71,7 @@ loop-a-smaller c = omega arith
 
 pub loop-a-preserved : goal.loop-a-preserved
 loop-a-preserved c =
-    let Z = sparse c.args.starts.now c.args.columns.now c.args.values.now in (
+    let Z = sparse c.args.zt.now.starts.now c.args.zt.now.columns.now c.args.zt.now.values.now in (
       omega (arith, c.loop-a-test.true),
       c.ztwz_row.ensures.len ∙ c.loop-a.invariant.1,
       leading_step _ _ _ _ _ _ c.loop-a-test.true c.loop-a.invariant.2 c.ztwz_row.ensures,

@@ -8,7 +8,7 @@ use Rattle.stored.proofs.Apart.{Marked, itself, others}
 use Rattle.stored.proofs.weighted.ztwz.Given as goal
 
 abbrev pub invariant-loop-a : goal.invariant-loop-a
-invariant-loop-a l = (l.a ≤ l.rows) × (length l.out ≡ length l.initial.out) × (Leading l.rows l.a (ztwz_at (sparse l.starts l.columns l.values) l.n l.w) l.initial.out l.out) × (Marked (sparse l.starts l.columns l.values) itself l.a l.first) × (Marked (sparse l.starts l.columns l.values) (others l.rows) l.a l.last)
+invariant-loop-a l = (l.a ≤ l.rows) × (length l.out ≡ length l.initial.out) × (Leading l.rows l.a (ztwz_at (sparse l.zt.starts.now l.zt.columns.now l.zt.values.now) l.n l.w) l.initial.out l.out) × (Marked (sparse l.zt.starts.now l.zt.columns.now l.zt.values.now) itself l.a l.first) × (Marked (sparse l.zt.starts.now l.zt.columns.now l.zt.values.now) (others l.rows) l.a l.last)
 
 abbrev pub decreases-loop-a : goal.decreases-loop-a
 decreases-loop-a l = l.rows - l.a

@@ -47,7 +47,7 @@ pub loop-b-smaller : goal.loop-b-smaller
 loop-b-smaller c = omega arith
 
 pub loop-b-preserved : goal.loop-b-preserved
-loop-b-preserved c = (omega arith, simp length-set (omega arith), border_step _ _ _ _ _ _ _ _ _ c.offset-ao.ensures.0 c.offset-bo.ensures.0 c.ztwz_entry-sum.ensures c.requires.a_lt_rows.0 c.loop-b-test.true c.requires.a_lt_rows.2 (ztwz_symmetric (sparse c.args.starts.now c.args.columns.now c.args.values.now) c.args.n c.args.w.now _ _) c.loop-b.invariant.2)
+loop-b-preserved c = (omega arith, simp length-set (omega arith), border_step _ _ _ _ _ _ _ _ _ c.offset-ao.ensures.0 c.offset-bo.ensures.0 c.ztwz_entry-sum.ensures c.requires.a_lt_rows.0 c.loop-b-test.true c.requires.a_lt_rows.2 (ztwz_symmetric (sparse c.args.zt.now.starts.now c.args.zt.now.columns.now c.args.zt.now.values.now) c.args.n c.args.w.now _ _) c.loop-b.invariant.2)
 
 pub shape_of-out : goal.shape_of-out
 shape_of-out c = omega arith
