@@ -5,7 +5,7 @@
 
 ghost use Rattle.std.specs.Prelude.{◌≤◌, length};
 
-use model::{Account, Answer, Settings, Shape};
+use model::{Account, Answer, Inputs, Settings, Shape};
 
 // The pattern of 9.25.
 const LENT: u64 = 0x4022_8000_0000_0000;
@@ -154,14 +154,16 @@ fn lend(ns: &[usize], xs: &[f64]) {
     put_answer(glmm::fit(
         next_settings(),
         next_shape(),
-        fed::part(xs, 0),
-        fed::part(xs, 21),
-        fed::part(xs, 26),
-        fed::part(xs, 31),
-        fed::part(xs, 36),
-        fed::part_counts(ns, 0),
-        fed::part_counts(ns, 10),
-        fed::part(xs, 45),
+        &Inputs {
+            theta: fed::part(xs, 0),
+            y: fed::part(xs, 21),
+            weights: fed::part(xs, 26),
+            offset: fed::part(xs, 31),
+            x: fed::part(xs, 36),
+            starts: fed::part_counts(ns, 0),
+            columns: fed::part_counts(ns, 10),
+            values: fed::part(xs, 45),
+        },
         front(&mut beta),
         front(&mut se),
         front(&mut z),

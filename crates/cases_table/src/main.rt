@@ -3,7 +3,7 @@
 #![tactic(auto)]
 
 use family::{CarriedFamily, CarriedLink};
-use model::{Refusal, Settings, Shape};
+use model::{Inputs, Refusal, Settings, Shape};
 use table::LentLengths;
 
 fn family_code(family: CarriedFamily) -> u64 {
@@ -77,14 +77,16 @@ fn ask(ns: &[usize], xs: &[f64]) {
         fed::count(),
         next_settings(),
         next_shape(),
-        fed::part(xs, 0),
-        fed::part(xs, 2),
-        fed::part(xs, 6),
-        fed::part(xs, 10),
-        fed::part(xs, 14),
-        fed::part_counts(ns, 0),
-        fed::part_counts(ns, 4),
-        fed::part(xs, 21),
+        &Inputs {
+            theta: fed::part(xs, 0),
+            y: fed::part(xs, 2),
+            weights: fed::part(xs, 6),
+            offset: fed::part(xs, 10),
+            x: fed::part(xs, 14),
+            starts: fed::part_counts(ns, 0),
+            columns: fed::part_counts(ns, 4),
+            values: fed::part(xs, 21),
+        },
         next_lent(),
     ));
 }

@@ -1,10 +1,10 @@
 // One call of the fit: the table of refusals, then the fit of an accepted call.
 ghost use Rattle.std.specs.Prelude.{◌≡◌};
-ghost use Rattle.model.specs.Inputs.{inputs};
+ghost use Rattle.model.specs.Inputs.{inputs_in};
 ghost use Rattle.call.specs.Call.{lent, left, call_of};
 
 use crate::accepted::fit_accepted;
-use model::{Answer, Settings, Shape};
+use model::{Answer, Inputs, Settings, Shape};
 use rule::{Design, Given};
 use stored::Sparse;
 use table::{LentLengths, verdict_of};
@@ -13,14 +13,7 @@ use table::{LentLengths, verdict_of};
 pub fn fit(
     settings: Settings,
     shape: Shape,
-    theta: &[f64],
-    y: &[f64],
-    weights: &[f64],
-    offset: &[f64],
-    x: &[f64],
-    starts: &[usize],
-    columns: &[usize],
-    values: &[f64],
+    lists: &Inputs<'_>,
     beta: &mut [f64],
     se: &mut [f64],
     z: &mut [f64],
@@ -38,8 +31,7 @@ pub fn fit(
         (lent beta.new se.new z.new u.new b.new mu.new eta.new residual.new
         v.new rows.new matrices.new terms.new)
         ≡ call_of settings shape
-        (inputs theta.now y.now weights.now offset.now x.now starts.now columns.now
-        values.now)
+        (inputs_in lists.now)
         (lent beta.old se.old z.old u.old b.old mu.old eta.old
         residual.old v.old rows.old matrices.old terms.old) }
 {
@@ -57,31 +49,29 @@ pub fn fit(
         matrices: matrices.len(),
         terms: terms.len(),
     };
-    let verdict = verdict_of(
-        1, settings, shape, theta, y, weights, offset, x, starts, columns, values, lengths,
-    );
+    let verdict = verdict_of(1, settings, shape, lists, lengths);
     match verdict {
         Ok((family, link)) => {
             let zt = Sparse {
-                starts,
-                columns,
-                values,
+                starts: lists.starts,
+                columns: lists.columns,
+                values: lists.values,
             };
             let design = Design {
                 n: settings.n,
                 p: settings.p,
                 q: settings.rows,
                 shape,
-                theta,
-                offset,
-                x,
+                theta: lists.theta,
+                offset: lists.offset,
+                x: lists.x,
                 zt,
             };
             let given = Given {
                 family,
                 link,
-                y,
-                weights,
+                y: lists.y,
+                weights: lists.weights,
                 design,
             };
             let limit = model::limit_of(settings.limit, settings.link);

@@ -4,7 +4,6 @@ ghost use Rattle.layout.specs.Layout.{WorkRoom};
 ghost use Rattle.iteration.specs.Solving.{SidesOf};
 ghost use Rattle.stored.specs.Lent.{sparse_in};
 ghost use Rattle.iteration.specs.Iterated.{ReadyFor};
-ghost use Rattle.stored.specs.Lent.{sparse_in};
 
 use columns::normal_columns;
 use layout::{weighted_row, wy_at};

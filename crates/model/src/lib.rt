@@ -3,11 +3,13 @@
 
 mod counts;
 mod ends;
+mod lent;
 mod names;
 mod sizes;
 
 pub use counts::Account;
 pub use ends::{Answer, End, Refusal, end_number, is_end, refusal_number};
+pub use lent::Inputs;
 pub use names::{
     Family, Link, Start, UnknownCode, family_code, family_coded, is_inverse, limit_of, link_code,
     link_coded, start_code, start_coded,

@@ -2,36 +2,29 @@
 ghost use Rattle.std.specs.Prelude.{◌≡◌, true, ◌≤◌, length};
 ghost use Rattle.job.specs.Job.{read_of};
 ghost use Rattle.reader.specs.Reading.{roomy};
-ghost use Rattle.model.specs.Inputs.{inputs};
+ghost use Rattle.model.specs.Inputs.{inputs, inputs_in};
 ghost use Rattle.call.specs.Call.{call_of};
 ghost use Rattle.report.specs.Report.{out_room};
 ghost use Rattle.jobfit.specs.Room.{Fronts, fronts_of};
 ghost use Rattle.output.specs.Output.{slices_with, response, left_response, response_by, respond_of, RespondLong};
 
 use crate::flat::put_flat;
-use model::Shape;
+use model::{Inputs, Shape};
 use reader::{Header, Reading};
 
 // The fit of a job that has been read, over the lent terms and arrays of its own, and its report. The array of the results has room for the largest sizes.
 fn answer_read(
     header: Header,
     shape: Shape,
-    theta: &[f64],
-    y: &[f64],
-    weights: &[f64],
-    offset: &[f64],
-    x: &[f64],
-    starts: &[usize],
-    columns: &[usize],
-    values: &[f64],
+    lists: &Inputs<'_>,
     terms: &mut [f64],
     out: &mut [u8],
 ) -> usize
     requires { (out_room ≤ length out.old)
-        × Fronts header (inputs theta.now y.now weights.now offset.now x.now starts.now columns.now values.now) }
+        × Fronts header (inputs_in lists.now) }
     ensures { response result terms.new out.new ≡ left_response
         (call_of header.settings shape
-        (fronts_of header (inputs theta.now y.now weights.now offset.now x.now starts.now columns.now values.now))
+        (fronts_of header (inputs_in lists.now))
         (slices_with terms.old header.settings))
         out.old }
 {
@@ -42,14 +35,7 @@ fn answer_read(
     let answer = jobfit::fit_fronts(
         header,
         shape,
-        theta,
-        y,
-        weights,
-        offset,
-        x,
-        starts,
-        columns,
-        values,
+        lists,
         &mut rows,
         &mut matrices,
         terms,
@@ -87,14 +73,16 @@ fn respond_with(
             answer_read(
                 header,
                 shape,
-                &theta[0..thetas],
-                y,
-                weights,
-                offset,
-                x,
-                starts,
-                columns,
-                values,
+                &Inputs {
+                    theta: &theta[0..thetas],
+                    y,
+                    weights,
+                    offset,
+                    x,
+                    starts,
+                    columns,
+                    values,
+                },
                 terms,
                 out,
             )

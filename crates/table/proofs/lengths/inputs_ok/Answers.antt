@@ -25,7 +25,7 @@ absent_or-requires c = omega arith
 pub returns-then-not-absent_or : goal.returns-then-not-absent_or
 returns-then-not-absent_or c =
     not_inputs _ _ _ _
-    (λ g. true≢false (sym (or_absent _ c.args.weights.now g.weights) ∙ sym c.absent_or.ensures ∙ c.if-not-absent_or.true))
+    (λ g. true≢false (sym (or_absent _ c.args.lists.now.weights.now g.weights) ∙ sym c.absent_or.ensures ∙ c.if-not-absent_or.true))
 
 pub absent_or-requires-2 : goal.absent_or-requires-2
 absent_or-requires-2 c = omega arith
@@ -33,7 +33,7 @@ absent_or-requires-2 c = omega arith
 pub returns-then-not-absent_or-2 : goal.returns-then-not-absent_or-2
 returns-then-not-absent_or-2 c =
     not_inputs _ _ _ _
-    (λ g. true≢false (sym (or_absent _ c.args.offset.now g.offset) ∙ sym c.absent_or-2.ensures ∙ c.if-not-absent_or-2.true))
+    (λ g. true≢false (sym (or_absent _ c.args.lists.now.offset.now g.offset) ∙ sym c.absent_or-2.ensures ∙ c.if-not-absent_or-2.true))
 
 pub overflow_mul-settings : goal.overflow_mul-settings
 overflow_mul-settings c = let z = sized c.args.settings c.args.shape c.requires.0 in omega (arith, (products z.sizes).np)
