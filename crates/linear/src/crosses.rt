@@ -82,10 +82,7 @@ pub fn begin_at(b: usize, p: usize, count: usize) -> usize
     requires { count ≤ p }
     ensures { result ≡ begin_at b p count }
 {
-    if b < p - count {
-        return b;
-    }
-    p - count
+    b.min(p - count)
 }
 
 // Some columns of row a from b on into out, which has a place for each column; returns the column behind them. Those behind the diagonal may be among them.
@@ -112,12 +109,10 @@ fn cross_from(
         two(x, w, n, p, a, o, &mut out[o..e]);
         return e;
     }
-    if b + 6 <= a {
+    if b + 6 <= a && b + 12 <= p {
         let e = b + 12;
-        if e <= p {
-            twelve(x, w, n, p, a, b, &mut out[b..e]);
-            return e;
-        }
+        twelve(x, w, n, p, a, b, &mut out[b..e]);
+        return e;
     }
     let o = begin_at(b, p, 6);
     let e = o + 6;
@@ -131,6 +126,7 @@ fn cross_row(x: &[f64], w: &[f64], n: usize, p: usize, a: usize, out: &mut [f64]
     ensures { RowLeft a (cross_at x.now p n w.now a) out.old out.new }
 {
     let mut b = 0;
+    // `while`: how far a turn comes is the width that it takes, and 12 columns, 6 and less take turns in one row.
     while b <= a {
         b = cross_from(x, w, n, p, a, b, out);
     }

@@ -5,20 +5,8 @@ use Rattle.linear.proofs.CrossSums.{copied_sums}
 use native.Mathlib.Omega.{arith}
 use Rattle.linear.proofs.crosses.twelve.Goals as goal
 
-pub slice_bounds-crosses-end : goal.slice_bounds-crosses-end
-slice_bounds-crosses-end c = omega arith
-
 pub crosses-requires : goal.crosses-requires
 crosses-requires c = (omega arith, omega arith, omega arith, omega arith, sym (build_const _ _))
-
-pub slice_bounds-copy-end : goal.slice_bounds-copy-end
-slice_bounds-copy-end c = omega arith
-
-pub copy-requires : goal.copy-requires
-copy-requires c = omega arith
-
-pub shape_of-out : goal.shape_of-out
-shape_of-out c = omega arith
 
 pub returns : goal.returns
 returns c =
