@@ -1,19 +1,20 @@
 -- What document 01 fixes of the names: which bytes are a link's name, and that nothing else is. Assumes nothing.
 use Rattle.std.specs.Prelude.{Some}
 use mathlib.Core.Path.{◌≡◌, refl, sym, ap, ◌∙◌}
-use mathlib.Core.Bool.{Bool, true, false, ◌&&◌, ◌||◌, cond, true≢false}
+use mathlib.Core.Bool.{Bool, true, false, ◌&&◌, ◌||◌, cond}
 use mathlib.Core.List.{List, [], ◌∷◌, map, reverse, reverse_aux, reverse-reverse}
 use mathlib.Core.Logic.{⊎_elim}
 use Prim.Native.Nat.{ℕ, ◌+◌, ◌≤◌, ◌<◌}
 use native.Mathlib.Omega.{arith}
 use borrow.Author.Rules.{rules}
-use borrow.Author.Tests.{eqb-true, lt-leb, ne_eqb}
-use lib.Dec.{eqb, leb}
+use borrow.Author.Tests.{lt-leb, ne_eqb}
+use lib.Dec.{leb}
 use lib.ListN.{take}
 use Rattle.base.proofs.Doubles.{ff}
-use Rattle.base.proofs.Sums.{and_true, lt_or_ge}
+use Rattle.base.proofs.Sums.{lt_or_ge}
 use Rattle.model.specs.declared.names.Link.{Link}
 use Rattle.model.specs.declared.names.Link.TheVariants.{Logit, Probit, Cloglog, Log, Identity, Inverse, Sqrt}
+use Rattle.names.proofs.Spelled.{same_bytes_lem}
 use Rattle.names.specs.Names.{is_blank, trim_front, trim_end, lower_of, name_of, same_bytes, named_among, all_links, parse_of, name_bytes}
 
 -- ---- `parse` of `name` gives the link back
@@ -48,17 +49,6 @@ named_is_found s Log e = rw e
 named_is_found s Identity e = rw e
 named_is_found s Inverse e = rw e
 named_is_found s Sqrt e = rw e
-
-same_bytes_lem : (xs ys : List ℕ) → same_bytes xs ys ≡ true → xs ≡ ys
-unfolding same_bytes
-same_bytes_lem [] [] h = refl
-same_bytes_lem [] (y ∷ ys) h = absurd (true≢false (sym h))
-same_bytes_lem (x ∷ xs) [] h = absurd (true≢false (sym h))
-same_bytes_lem (x ∷ xs) (y ∷ ys) h =
-    let p : (true ≡ eqb x y) × (true ≡ same_bytes xs ys) = and_true (eqb x y) (same_bytes xs ys) (sym h) in
-    let head : x ≡ y = eqb-true x y (sym p.0) in
-    let tail : xs ≡ ys = same_bytes_lem xs ys (sym p.1) in
-    cc
 
 among_only : (ls : List Link) (w : List ℕ) (l : Link) → named_among ls w ≡ Some l → w ≡ name_of l
 unfolding named_among
