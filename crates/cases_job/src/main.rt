@@ -5,7 +5,8 @@
 ghost use Rattle.std.specs.Prelude.{◌≤◌, length};
 
 use model::{Account, Answer, Shape};
-use reader::{Header, Reading};
+use job::Fault;
+use reader::Header;
 
 // The lesser of two: a, or b where a is past it.
 fn least(a: usize, b: usize) -> usize
@@ -23,9 +24,9 @@ fn put_front(bytes: &[u8], n: usize) {
     text::put_word(&bytes[0..m]);
 }
 
-fn put_refused(number: u64, byte: usize) {
+fn put_refused(fault: Fault) {
     let mut buffer = [0u8; 256];
-    let n = lines::refused_line(&mut buffer, number, byte);
+    let n = lines::refused_line(&mut buffer, fault.number, fault.byte);
     put_front(&buffer, n);
 }
 
@@ -170,7 +171,7 @@ fn one_job(job: &[u8]) {
     let mut starts = [9usize; 34];
     let mut columns = [9usize; 8193];
     let mut values = [9.0; 8193];
-    let found = reader::read_job(
+    let reading = reader::read_job(
         job,
         &mut theta,
         &mut y,
@@ -181,12 +182,12 @@ fn one_job(job: &[u8]) {
         &mut columns,
         &mut values,
     );
-    let shape = found.shape;
-    let reading = found.reading;
     match reading {
-        Reading::Refused(number, byte) => put_refused(number, byte),
-        Reading::Accepted(header) => put_accepted(
-            header, shape, &theta, &y, &weights, &offset, &x, &starts, &columns, &values,
+        Err(fault) => put_refused(fault),
+        Ok(found) => put_accepted(
+            found.header,
+            found.shape,
+            &theta, &y, &weights, &offset, &x, &starts, &columns, &values,
         ),
     }
 }

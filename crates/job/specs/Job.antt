@@ -1,6 +1,5 @@
 -- What a job says, as the fit is given it, and reading as one function of the bytes. Document 01, "The job and the program"; document 02, P10, for the start. Assumes nothing.
-use Rattle.std.specs.Prelude.{Option, Some, None}
-use Rattle.std.specs.Prelude.{cond, List, ℕ, ◌+◌, ◌*◌, eqb, Float}
+use Rattle.std.specs.Prelude.{cond, List, ℕ, ◌+◌, ◌*◌, eqb, Float, Option, Some, None, Ok, Err}
 use Rattle.base.specs.List.{build}
 use Rattle.base.specs.Sparse.{Sparse}
 use Rattle.model.specs.Names.{family_coded, link_coded, start_coded}
@@ -12,11 +11,9 @@ use Rattle.model.specs.declared.names.Start.{Start}
 use Rattle.model.specs.declared.names.Start.TheVariants.{Usual}
 use Rattle.model.specs.declared.sizes.Shape.{Shape}
 use Rattle.model.specs.declared.sizes.Settings.{Settings}
-use Rattle.job.specs.declared.faults.Fault.{Fault}
-use Rattle.job.specs.declared.faults.Fault.TheVariants.{Sound, At}
 use Rattle.job.specs.Lists.{counts, join_to}
 use Rattle.job.specs.Format.{family_field, link_field, weighted, shifted, wish, obs, cols, limit_field, is_second, start_field, shape_of, rows_in, thetas, theta_at, y_at, weights_at, offset_at, x_at, number, row_at, start_of, short, column_read, value_read}
-use Rattle.job.specs.Faults.{fault_of}
+use Rattle.job.specs.Faults.{Checked, fault_of}
 
 -- the family that was found; a code of two bits always names one
 unfoldable pub family_from : Option Family → Family
@@ -100,9 +97,9 @@ pub data Read : Type 0 where
   sound : Job → Read
 
 -- what a fault, or none, makes of a job
-unfoldable pub read_by : Fault → Job → Read
-read_by Sound j = sound j
-read_by (At r b) j = faulty r b
+unfoldable pub read_by : Checked → Job → Read
+read_by (Ok t) j = sound j
+read_by (Err e) j = faulty e.number e.byte
 
 -- reading
 unfoldable pub read_of : List ℕ → Read

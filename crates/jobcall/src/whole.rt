@@ -10,7 +10,7 @@ ghost use Rattle.jobcall.specs.Told.{buffers, told, counts_length, told_by, answ
 use crate::counts::{put_counts, put_refusal, returned};
 use jobfit::fit_fronts;
 use model::{Inputs, Shape};
-use reader::{Header, Reading};
+use reader::Header;
 
 // The fit of a job that has been read, and its counts.
 fn fit_read(
@@ -73,20 +73,18 @@ fn call_read(
         ≡ answered (theta_by own given.now (read_of job.now))
         (buffers rows.old matrices.old terms.old results.old counts.old) }
 {
-    let found = reader::read_job(job, theta, y, weights, offset, x, starts, columns, values);
-    let shape = found.shape;
-    let reading = found.reading;
-    match reading {
-        Reading::Refused(number, byte) => {
-            put_refusal(number, byte, counts);
-            number
+    match reader::read_job(job, theta, y, weights, offset, x, starts, columns, values) {
+        Err(fault) => {
+            put_refusal(fault.number, fault.byte, counts);
+            fault.number
         }
-        Reading::Accepted(header) => {
+        Ok(found) => {
+            let header = found.header;
             let thetas = header.thetas;
             let chosen = theta_of(own, theta, thetas, given);
             fit_read(
                 header,
-                shape,
+                found.shape,
                 &Inputs {
                     theta: chosen,
                     y,

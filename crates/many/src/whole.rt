@@ -11,7 +11,7 @@ use crate::lent::{lengths_for, verdict_fronts};
 use crate::responses::fit_each;
 use jobcall::put_refusal;
 use model::{Inputs, Shape};
-use reader::{Header, Reading};
+use reader::Header;
 
 // No product is formed of more responses than these; where there are more the table refuses them before it looks at a length.
 fn few_of(responses: usize) -> usize
@@ -95,20 +95,18 @@ fn read_many(
         ≡ many_answered (read_of job.now) count responses.now
         (buffers rows.old matrices.old terms.old results.old counts.old) }
 {
-    let found = reader::read_job(job, theta, y, weights, offset, x, starts, columns, values);
-    let shape = found.shape;
-    let reading = found.reading;
-    match reading {
-        Reading::Refused(number, byte) => {
-            put_refusal(number, byte, counts);
-            number
+    match reader::read_job(job, theta, y, weights, offset, x, starts, columns, values) {
+        Err(fault) => {
+            put_refusal(fault.number, fault.byte, counts);
+            fault.number
         }
-        Reading::Accepted(header) => {
+        Ok(found) => {
+            let header = found.header;
             let thetas = header.thetas;
             fit_fronts_many(
                 count,
                 header,
-                shape,
+                found.shape,
                 &Inputs {
                     theta: &theta[0..thetas],
                     y: responses,

@@ -14,7 +14,7 @@ use Rattle.job.specs.declared.faults.Fault.{Fault}
 use Rattle.job.specs.declared.faults.Fault.TheVariants.{Sound, At}
 use Rattle.job.specs.Lists.{counts, join_to, laid}
 use Rattle.job.specs.Format.{weighted, shifted, obs, cols, rows_in, thetas, theta_at, y_at, weights_at, offset_at, x_at, number, start_of, shape_of}
-use Rattle.job.specs.Faults.{demand, ◌▹◌, is_sound, fault_of}
+use Rattle.job.specs.Faults.{demand, first, is_sound, fault_of}
 use Rattle.job.specs.declared.survey.Survey.{Survey}
 use Rattle.job.specs.Survey.{survey_of, read_off}
 use Rattle.job.proofs.SurveyLaws.{survey_fault, survey_sound}
@@ -73,11 +73,11 @@ filled_is s b theta y weights offset x starts columns values t u w o c r k v = r
 
 -- ---- the fault of reading
 pub no_room : (s : List ℕ) (b : Inputs) → roomy b ≡ false → read_fault s b ≡ At 2 0
-unfolding read_fault demand ◌▹◌
+unfolding read_fault demand first
 no_room s b e = rw e
 
 pub with_room : (s : List ℕ) (b : Inputs) → roomy b ≡ true → read_fault s b ≡ fault_of s
-unfolding read_fault demand ◌▹◌
+unfolding read_fault demand first
 with_room s b e = rw e
 
 pub sound_is : (f : Fault) → f ≡ Sound → is_sound f ≡ true

@@ -10,7 +10,7 @@ ghost use Rattle.output.specs.Output.{slices_with, response, left_response, resp
 
 use crate::flat::put_flat;
 use model::{Inputs, Shape};
-use reader::{Header, Reading};
+use reader::Header;
 
 // The fit of a job that has been read, over the lent terms and arrays of its own, and its report. The array of the results has room for the largest sizes.
 fn answer_read(
@@ -63,16 +63,14 @@ fn respond_with(
     ensures { response result terms.new out.new
         ≡ response_by (read_of job.now) terms.old out.old }
 {
-    let found = reader::read_job(job, theta, y, weights, offset, x, starts, columns, values);
-    let shape = found.shape;
-    let reading = found.reading;
-    match reading {
-        Reading::Refused(number, byte) => lines::refused_line(out, number, byte),
-        Reading::Accepted(header) => {
+    match reader::read_job(job, theta, y, weights, offset, x, starts, columns, values) {
+        Err(fault) => lines::refused_line(out, fault.number, fault.byte),
+        Ok(found) => {
+            let header = found.header;
             let thetas = header.thetas;
             answer_read(
                 header,
-                shape,
+                found.shape,
                 &Inputs {
                     theta: &theta[0..thetas],
                     y,
