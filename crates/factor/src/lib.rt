@@ -2,6 +2,7 @@
 // and only its lower triangle is read.
 #![tactic(auto)]
 
+mod each;
 mod factors;
 mod inverses;
 mod pivots;
