@@ -20,6 +20,7 @@ fn both_rows(zt: &Sparse<'_>, rows: usize, n: usize, w: &[f64], a: usize, b: usi
     let mut sum = 0.0;
     let mut i = zt.starts[a];
     let mut j = zt.starts[b];
+    // `while`: two cursors, of which a turn takes on the one, the other, or both.
     while i < i_end && j < j_end {
         let ci = zt.columns[i];
         let cj = zt.columns[j];
@@ -52,13 +53,8 @@ fn ztwz_entry(
     requires between { Between (sparse_in zt.now) rows a low far }
     ensures { result ≡ ztwz_at (sparse_in zt.now) n w.now a b }
 {
-    if b < a {
-        if b < low {
-            return 0.0;
-        }
-        if rows - 1 - b < far {
-            return 0.0;
-        }
+    if b < a && (b < low || rows - 1 - b < far) {
+        return 0.0;
     }
     both_rows(zt, rows, n, w, a, b)
 }
