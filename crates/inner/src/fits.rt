@@ -28,12 +28,11 @@ pub fn inner_answer(
         r.new m.old m.new t.old t.new result }
 {
     let fit = inner_fit(given, phi, limit, r, m, t);
-    let end = fit.end;
-    match end {
-        Err(why) => failed_answer(why, fit.account),
-        Ok(()) => {
-            let quadrature = quadrature_at(given, wish, phi, fit.fit, r, m, t);
-            answer_of(fit, quadrature)
+    match fit.outcome {
+        Err(end) => failed_answer(end, fit.account),
+        Ok(stopped) => {
+            let quadrature = quadrature_at(given, wish, phi, stopped.fit, r, m, t);
+            answer_of(stopped, fit.account, quadrature)
         }
     }
 }

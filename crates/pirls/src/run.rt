@@ -14,44 +14,46 @@ use rule::{Given, stops};
 use stages::{AtStop, stop};
 use working::start_eta;
 
-// What an inner fit answers beside what stands in the work slices; without a result all but end and account is zero.
+// What a fit that came to rest tells beside what stands in the work slices.
 #[derive(Clone, Copy)]
-pub struct InnerFit {
-    pub end: Result<(), End>,
+pub struct Stopped {
     pub iterations: usize,
     pub in_second: bool,
     pub deviance_sum: f64,
     pub fit: f64,
     pub laplace: f64,
+}
+
+// What an inner fit answers: how it ended, and the work that it has done either way.
+#[derive(Clone, Copy)]
+pub struct InnerFit {
+    pub outcome: Result<Stopped, End>,
     pub account: Account,
 }
 
-// An inner fit without a result, and the work that it has done.
+// An inner fit without a result.
 fn failed_fit(end: End, account: Account) -> InnerFit
     ensures { result ≡ failed_fit end account }
 {
     InnerFit {
-        end: Err(end),
-        iterations: 0,
-        in_second: false,
-        deviance_sum: 0.0,
-        fit: 0.0,
-        laplace: 0.0,
+        outcome: Err(end),
         account,
     }
 }
 
-// An inner fit that came to rest: what the stop tells, and the work that it has done.
+// An inner fit that came to rest: what the stop tells.
 fn stopped_fit(s: AtStop, iterations: usize, in_second: bool, account: Account) -> InnerFit
     ensures { result ≡ stopped_fit s iterations in_second account }
 {
-    InnerFit {
-        end: Ok(()),
+    let stopped = Stopped {
         iterations,
         in_second,
         deviance_sum: s.deviance_sum,
         fit: s.fit,
         laplace: s.laplace,
+    };
+    InnerFit {
+        outcome: Ok(stopped),
         account,
     }
 }
@@ -83,15 +85,12 @@ pub fn inner_fit(
     start_eta(given.link, design.offset, design.n, mu_row(design.n), 0, r);
     let mut old = base::MAX;
     let mut in_second = false;
-    let mut k = 0;
     let mut account = Account::one_fit();
-    while k < limit {
-        let it = iterate(given, 0 < k, phi, in_second, r, m, t);
-        match it {
+    for k in 0..limit {
+        match iterate(given, 0 < k, phi, in_second, r, m, t) {
             Iteration::Unsolvable(e) => return failed_fit(e, account),
             Iteration::Stuck(made) => return failed_fit(End::NoStep, with_solve(account, made)),
             Iteration::Moved(pwrss, made) => {
-                k += 1;
                 account = with_solve(account, made);
                 in_second = !in_second;
                 if stops(old, pwrss) {
@@ -106,7 +105,7 @@ pub fn inner_fit(
                         m,
                         t,
                     );
-                    return stopped_fit(s, k, in_second, account);
+                    return stopped_fit(s, k + 1, in_second, account);
                 }
                 old = pwrss;
             }

@@ -40,19 +40,12 @@ fn dispersed_fit(
     let effective = effective_n(given.weights, design.n);
     let mut phi = 1.0;
     let mut account = Account::none();
-    let mut k: usize = 0;
-    while k < 240 {
+    for _k in 0..240 {
         let a = inner_at(given, phi, limit, wish, start, r, m, t);
         account = account.plus(a.account);
-        let round = round_after(a, effective, phi);
-        match round {
-            None => {
-                return fit_from(a, phi, true, account);
-            }
-            Some(next) => {
-                phi = next;
-                k += 1;
-            }
+        match round_after(a, effective, phi) {
+            None => return fit_from(a, phi, true, account),
+            Some(next) => phi = next,
         }
     }
     let a = inner_at(given, phi, limit, wish, start, r, m, t);

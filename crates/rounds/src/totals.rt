@@ -16,38 +16,36 @@ pub struct Fit {
 
 // An inner fit without a result is the last.
 pub fn round_after(a: InnerAnswer, effective: f64, phi: f64) -> Option<f64>
-    ensures { result ≡ round_after a.end effective phi a.deviance_sum }
+    ensures { result ≡ round_after a.outcome effective phi }
 {
-    let end = a.end;
-    match end {
-        Ok(()) => round_of(effective, phi, a.deviance_sum),
+    match a.outcome {
+        Ok(answered) => round_of(effective, phi, answered.deviance_sum),
         Err(_) => None,
     }
 }
 
 // The fit whose last inner fit this is.
 pub fn fit_from(a: InnerAnswer, phi: f64, converged: bool, account: Account) -> Fit
-    ensures { result ≡ fit_from a.end a phi converged account }
+    ensures { result ≡ fit_from a.outcome phi converged account }
 {
-    let end = a.end;
-    match end {
-        Ok(()) => Fit {
+    match a.outcome {
+        Ok(x) => Fit {
             fitted: true,
-            in_second: a.in_second,
+            in_second: x.in_second,
             answer: Answer::fitted(
-                a.deviance,
+                x.deviance,
                 phi,
-                a.order,
-                a.why,
+                x.order,
+                x.why,
                 converged,
-                a.iterations,
+                x.iterations,
                 account,
             ),
         },
-        Err(e) => Fit {
+        Err(end) => Fit {
             fitted: false,
             in_second: false,
-            answer: Answer::unfitted(e, account),
+            answer: Answer::unfitted(end, account),
         },
     }
 }
