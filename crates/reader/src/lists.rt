@@ -11,8 +11,7 @@ pub fn read_numbers(s: &[u8], a: usize, n: usize, out: &mut [f64])
     ensures { out.new ≡ laid (build (number s.now a) n) out.old }
 {
     for i in 0..n {
-        let v = bits::double_at(s, a + 8 * i);
-        out[i] = v;
+        out[i] = bits::double_at(s, a + 8 * i);
     }
 }
 
@@ -24,10 +23,8 @@ fn read_row(s: &[u8], p: usize, n: usize, e: usize, columns: &mut [usize], value
 {
     for j in 0..n {
         let at = p + 2 + 10 * j;
-        let c = bits::field_at(s, 8 * at, 13);
-        columns[e + j] = c;
-        let v = bits::double_at(s, at + 2);
-        values[e + j] = v;
+        columns[e + j] = bits::field_at(s, 8 * at, 13);
+        values[e + j] = bits::double_at(s, at + 2);
     }
 }
 
@@ -54,7 +51,7 @@ pub fn read_rows(
         let n = bits::field_at(s, 8 * at, 13);
         read_row(s, at, n, e, columns, values);
         e += n;
-        at = at + 2 + 10 * n;
+        at += 2 + 10 * n;
     }
     starts[q] = e;
     e

@@ -30,6 +30,7 @@ pub struct Found {
 }
 
 // Two bits always name a family.
+#[tactic(auto, unfolding(job::specs::Job::family_from))]
 fn family_in(code: usize) -> Family
     ensures { result ≡ family_from (family_coded code) }
 {
@@ -37,6 +38,7 @@ fn family_in(code: usize) -> Family
 }
 
 // The link 7 is refused before.
+#[tactic(auto, unfolding(job::specs::Job::link_from))]
 fn link_in(code: usize) -> Link
     ensures { result ≡ link_from (link_coded code) }
 {
@@ -44,6 +46,7 @@ fn link_in(code: usize) -> Link
 }
 
 // The code 1023 leaves the limit to the link.
+#[tactic(auto, unfolding(job::specs::Job::limit_from))]
 fn limit_in(code: usize) -> Option<usize>
     ensures { result ≡ limit_from code }
 {
@@ -51,6 +54,7 @@ fn limit_in(code: usize) -> Option<usize>
 }
 
 // The start's bit is there in version 2 alone; one bit always names a start.
+#[tactic(auto, unfolding(job::specs::Job::start_in, job::specs::Job::start_from))]
 fn start_in(s: &[u8], head: Head) -> Start
     requires { head ≡ head_of s.now }
     ensures { result ≡ start_in s.now }
@@ -86,6 +90,7 @@ fn header_in(s: &[u8], head: Head, c: Counts, entries: usize) -> Header
 }
 
 // Whether the slices have room for any job that is not refused.
+#[tactic(auto, unfolding(crate::specs::Reading::roomy))]
 fn room_in(
     theta: &[f64],
     y: &[f64],
@@ -167,7 +172,17 @@ pub fn read_job(
     let survey = job::survey_in(s)?;
     let c = survey.counts;
     let entries = fill_job(
-        s, c, survey.places, theta, y, weights, offset, x, starts, columns, values,
+        s,
+        c,
+        survey.places,
+        theta,
+        y,
+        weights,
+        offset,
+        x,
+        starts,
+        columns,
+        values,
     );
     let header = header_in(s, survey.head, c, entries);
     Ok(Found {
