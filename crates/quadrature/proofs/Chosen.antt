@@ -1,5 +1,6 @@
 -- Laws of stepping down through the orders until the cap holds. Assumes nothing.
-use Rattle.std.specs.Prelude.{Some, None, Ok, Err}
+use Rattle.std.specs.Option.{ok_or}
+use Rattle.std.specs.Prelude.{Option, Some, None, Result, Ok, Err}
 use mathlib.Core.Path.{◌≡◌, refl}
 use mathlib.Core.List.{[], ◌∷◌}
 use mathlib.Core.Bool.{true, false}
@@ -8,6 +9,7 @@ use native.Mathlib.Omega.{arith}
 use lib.Dec.{lit<, lit≤}
 use Rattle.quadrature.specs.declared.orders.Order.{Order}
 use Rattle.quadrature.specs.declared.orders.Order.TheVariants.{Three, Five, Seven, Nine, Eleven}
+use Rattle.quadrature.specs.declared.orders.Decline.{Decline}
 use Rattle.quadrature.specs.declared.orders.Decline.TheVariants.{Cap}
 use Rattle.quadrature.specs.Orders.{size_of, within_cap, next_lower, down_from, first_within}
 
@@ -66,3 +68,12 @@ first_below cap dims o l h q = rw ((lower_is o l q).0, h) refl
 pub first_none : (cap dims : ℕ) (o : Order) → within_cap (size_of o) dims cap ≡ false → next_lower o ≡ None → first_within cap dims (down_from o) ≡ Err Cap
 unfolding first_within
 first_none cap dims o h q = rw (lowest_is o q, h) refl
+
+-- ---- the next order down, or Cap where there is none
+pub found_lower : (o : Option Order) (l : Order) → ◌≡◌ {A = Result Order Decline} (ok_or o Cap) (Ok l) → o ≡ Some l
+found_lower None l e = cc
+found_lower (Some m) l e = cc
+
+pub no_lower : (o : Option Order) (d : Decline) → ◌≡◌ {A = Result Order Decline} (ok_or o Cap) (Err d) → (o ≡ None) × (d ≡ Cap)
+no_lower None d e = (refl, cc)
+no_lower (Some m) d e = (cc, cc)

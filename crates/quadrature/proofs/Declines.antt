@@ -1,5 +1,5 @@
 -- Why an order choice declines: the wish is tested first, then the effects, then the cap, which leaves an order to every joint rule and to a product rule of up to five effects. Assumes nothing.
-use Rattle.std.specs.Prelude.{Ok, Err}
+use Rattle.std.specs.Prelude.{Result, Ok, Err}
 use mathlib.Core.Path.{◌≡◌, refl, sym, ◌∙◌}
 use mathlib.Core.List.{List, [], ◌∷◌}
 use mathlib.Core.Bool.{Bool, true, false}
@@ -137,10 +137,10 @@ product_cap w k l many =
     rw (le-ltb w 2 l, ne_eqb k 1 several) (none_within k many (first_order w))
 
 -- ---- so an order choice declines for no other reason
-same_reason : {d e : Decline} → Err d ≡ Err e → d ≡ e
+same_reason : {d e : Decline} → ◌≡◌ {A = Result Order Decline} (Err d) (Err e) → d ≡ e
 same_reason h = cc
 
-not_both : {d : Decline} {o : Order} → Err d ≡ Ok o → ⊥
+not_both : {d : Decline} {o : Order} → ◌≡◌ {A = Result Order Decline} (Err d) (Ok o) → ⊥
 not_both h = let z : ◌≡◌ {A = ℕ} 0 1 = cc in omega arith
 
 -- the product rule: the wish, then the cap

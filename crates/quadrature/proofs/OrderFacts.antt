@@ -14,10 +14,10 @@ use Rattle.base.proofs.Sums.{lt_or_ge}
 use Rattle.quadrature.specs.declared.orders.Decline.TheVariants.{Effects}
 use Rattle.quadrature.specs.Orders.{size_of, wished, within_cap, down_from, first_within, capped_from, product_capped, product_order, joint_capped, joint_order}
 
-same_order : {o l : Order} → Ok o ≡ Ok l → o ≡ l
+same_order : {o l : Order} → ◌≡◌ {A = Result Order Decline} (Ok o) (Ok l) → o ≡ l
 same_order e = cc
 
-never : {d : _} {l : Order} → Err d ≡ Ok l → ⊥
+never : {d : Decline} {l : Order} → ◌≡◌ {A = Result Order Decline} (Err d) (Ok l) → ⊥
 never e = let z : ◌≡◌ {A = ℕ} 0 1 = cc in omega arith
 
 -- by the test of one order: it is the one chosen, or one of the rest is
