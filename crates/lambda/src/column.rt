@@ -34,6 +34,7 @@ pub fn column_of(shape: Shape, j: usize) -> Column
     let mut left = j;
     let mut first = 0;
     let mut i = 0;
+    // `while`: the block of effect j is found before the blocks end; a `for` over them would need an answer behind its last turn.
     while effects <= left {
         left -= effects;
         first += k * (k + 1) / 2;

@@ -12,10 +12,7 @@ use model::Shape;
 fn is_single(shape: Shape) -> bool
     ensures { result ≡ is_single shape }
 {
-    if shape.count == 1 {
-        return shape.k[0] == 1;
-    }
-    false
+    shape.count == 1 && shape.k[0] == 1
 }
 
 // x times each of the first q numbers of v, in place: Λ'v where Λ is x times the unit matrix.
@@ -25,16 +22,6 @@ fn scale(x: f64, q: usize, v: &mut [f64])
 {
     for j in 0..q {
         v[j] = 0.0 + x * v[j];
-    }
-}
-
-// The same into out.
-fn scale_into(x: f64, q: usize, u: &[f64], out: &mut [f64])
-    requires { (q ≤ length u.now) × (q ≤ length out.old) }
-    ensures { out.new ≡ fill_to q (scaled_at x u.now) out.old }
-{
-    for j in 0..q {
-        out[j] = 0.0 + x * u[j];
     }
 }
 
@@ -97,7 +84,8 @@ pub fn lambda_times(shape: Shape, theta: &[f64], q: usize, u: &[f64], out: &mut 
 {
     if is_single(shape) {
         let x = theta[0];
-        scale_into(x, q, u, out);
+        base::copy(u, out, q);
+        scale(x, q, out);
         return;
     }
     columns_times(shape, theta, q, u, out);

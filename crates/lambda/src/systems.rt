@@ -69,6 +69,9 @@ pub fn right_columns(shape: Shape, theta: &[f64], q: usize, s: &[f64], out: &mut
     }
 }
 
+// Beside each function above stands one for A: the factors of its products stand the other way round, and the unit matrix is added, so one function for both
+// would be told the product and the end of each entry, and be longer than the two.
+
 // One more on the diagonal.
 fn plus_unit(x: f64, a: usize, c: usize) -> f64
     ensures { result ≡ add_where (eqb a c) x one_f }

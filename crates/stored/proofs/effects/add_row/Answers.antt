@@ -6,12 +6,12 @@ use native.Mathlib.Omega.{arith}
 use Rattle.stored.proofs.effects.add_row.Goals as goal
 
 pub loop-k-init : goal.loop-k-init
-loop-k-init c = (c.requires.rows.each c.args.a c.requires.a_lt_rows.0, c.requires.rows.paired, omega arith, added_none (sparse_in c.args.zt.now) c.args.rows c.args.n c.args.b.now c.args.a c.args.out.now c.requires.rows c.requires.a_lt_rows.0 c.requires.a_lt_rows.2)
+loop-k-init c = (c.requires.rows.each c.args.a c.requires.a_lt_rows.0, c.requires.rows.paired, added_none (sparse_in c.args.zt.now) c.args.rows c.args.n c.args.b.now c.args.a c.args.out.now c.requires.rows c.requires.a_lt_rows.0 c.requires.a_lt_rows.2)
 
 pub loop-k-preserved : goal.loop-k-preserved
 loop-k-preserved c =
     let inv = c.loop-k.invariant in
-    (inv.0, inv.1, simp length-set (omega arith), added_step (sparse_in c.args.zt.now) c.args.rows c.args.n c.args.b.now c.args.a c.args.out.now c.requires.rows c.requires.a_lt_rows.0 c.requires.a_lt_rows.2 inv.3 c.loop-k-test.true)
+    (inv.0, inv.1, added_step (sparse_in c.args.zt.now) c.args.rows c.args.n c.args.b.now c.args.a c.args.out.now c.requires.rows c.requires.a_lt_rows.0 c.requires.a_lt_rows.2 inv.2 c.loop-k-test.true)
 
 pub returns : goal.returns
-returns c = added_end (sparse_in c.args.zt.now) c.args.rows c.args.n c.args.b.now c.args.a c.args.out.now c.requires.rows c.requires.a_lt_rows.0 c.requires.a_lt_rows.2 c.loop-k.invariant.3 c.loop-k-test.false
+returns c = added_end (sparse_in c.args.zt.now) c.args.rows c.args.n c.args.b.now c.args.a c.args.out.now c.requires.rows c.requires.a_lt_rows.0 c.requires.a_lt_rows.2 c.loop-k.invariant.2 c.loop-k-test.false

@@ -8,4 +8,4 @@ use Rattle.stored.proofs.Added.{RowAdded}
 use Rattle.stored.proofs.effects.add_row.Given as goal
 
 abbrev pub invariant-loop-k : goal.invariant-loop-k
-invariant-loop-k l = (Rising l.zt.columns.now l.n (l.zt.starts.now !! l.a) l.end) × (length l.zt.columns.now ≡ length l.zt.values.now) × (length l.out ≡ length l.initial.out) × (RowAdded (sparse_in l.zt) l.b l.n l.a l.initial.out l.k l.out)
+invariant-loop-k l = (Rising l.zt.columns.now l.n (l.zt.starts.now !! l.a) l.end) × (length l.zt.columns.now ≡ length l.zt.values.now) × (RowAdded (sparse_in l.zt) l.b l.n l.a l.initial.out l.k l.out)

@@ -7,4 +7,4 @@ use Rattle.stored.specs.Lent.{sparse_in}
 use Rattle.stored.proofs.effects.z_times.Given as goal
 
 abbrev pub invariant-loop-a : goal.invariant-loop-a
-invariant-loop-a l = (length l.out ≡ length l.initial.out) × (l.out ≡ fill_to l.n (z_times_at (sparse_in l.zt) l.a l.b) l.initial.out)
+invariant-loop-a l = l.out ≡ fill_to l.n (z_times_at (sparse_in l.zt) l.a l.b) l.initial.out

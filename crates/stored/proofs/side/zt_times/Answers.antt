@@ -5,7 +5,7 @@ use native.Mathlib.Omega.{arith}
 use Rattle.stored.proofs.side.zt_times.Goals as goal
 
 pub loop-a-init : goal.loop-a-init
-loop-a-init c = (omega arith, fill_none _ _)
+loop-a-init c = fill_none _ _
 
 pub loop-a-preserved : goal.loop-a-preserved
-loop-a-preserved c = (simp length-set (omega arith), rw c.row_times.ensures (fill_step _ _ _ _ c.loop-a.invariant.1))
+loop-a-preserved c = rw c.row_times.ensures (fill_step _ _ _ _ c.loop-a.invariant)
