@@ -4,10 +4,6 @@ use lib.Ieee.{neg}
 use Rattle.base.proofs.Doubles.{no_quotient}
 use Rattle.elementary.proofs.log1p.ln_1p.Goals as goal
 
-pub returns-then-is_nan : goal.returns-then-is_nan
-unfolding ln1p_of
-returns-then-is_nan c = rw (← c.is_nan.ensures, c.if-is_nan.true)
-
 pub returns-then-x : goal.returns-then-x
 unfolding ln1p_of
 returns-then-x c = rw (← c.is_nan.ensures, c.if-is_nan.false, c.if-x.true) no_quotient
@@ -15,11 +11,3 @@ returns-then-x c = rw (← c.is_nan.ensures, c.if-is_nan.false, c.if-x.true) no_
 pub returns-then-x-2 : goal.returns-then-x-2
 unfolding ln1p_of neg
 returns-then-x-2 c = rw (c.infinity.ensures, ← c.is_nan.ensures, c.if-is_nan.false, c.if-x.false, c.if-x-2.true)
-
-pub returns-then-x-infinity : goal.returns-then-x-infinity
-unfolding ln1p_of
-returns-then-x-infinity c = rw (← c.is_nan.ensures, c.if-is_nan.false, c.if-x.false, c.if-x-2.false, ← c.infinity-2.ensures, c.if-x-infinity.true)
-
-pub returns : goal.returns
-unfolding ln1p_of
-returns c = rw (c.published.ensures, ← c.is_nan.ensures, c.if-is_nan.false, c.if-x.false, c.if-x-2.false, ← c.infinity-2.ensures, c.if-x-infinity.false)
