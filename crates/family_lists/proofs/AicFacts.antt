@@ -1,5 +1,5 @@
 -- What documents 01 and 02 fix of the AIC: where those of Gaussian and Gamma are +infinity, which weights add a logarithm, what absent weights count, and the others' value. Assumes nothing.
-use Rattle.family_lists.specs.declared.aics.ListError.TheVariants.{LengthsDiffer}
+use Rattle.family_lists.specs.declared.lists.ListError.TheVariants.{LengthsDiffer}
 use Rattle.std.specs.Prelude.{Ok, Err}
 use Rattle.std.proofs.Common.{◌≡◌, ℕ, zero, suc, ◌<◌, ◌≤◌, Bool, true, false, cond, not, ◌||◌, eqb, List, [], length, replicate, sym, refl, ap, arith}
 use lib.ListN.{length-replicate, get_or-replicate}

@@ -2,16 +2,15 @@
 use Rattle.family_lists.specs.declared.lists.ListError.{ListError}
 use Rattle.family_lists.specs.declared.lists.ListError.TheVariants.{LengthsDiffer}
 use Rattle.std.specs.Prelude.{Result, Ok, Err, ⊤}
-use Prim.{tt}
 use Rattle.std.proofs.Common.{◌≡◌, ℕ, Bool, List, sym, refl, ◌∙◌, arith}
 use lib.Ieee.{Float}
 use Rattle.family_lists.specs.Lists.{Listed, list_number}
 
 -- the number tells the answer
 by_number : (r s : Result ⊤ ListError) → list_number r ≡ list_number s → r ≡ s
-by_number (Ok tt) (Ok tt) e = refl
-by_number (Ok tt) (Err LengthsDiffer) e = let never : ⊥ = omega arith in absurd never
-by_number (Err LengthsDiffer) (Ok tt) e = let never : ⊥ = omega arith in absurd never
+by_number (Ok a) (Ok b) e = refl
+by_number (Ok a) (Err LengthsDiffer) e = let never : ⊥ = omega arith in absurd never
+by_number (Err LengthsDiffer) (Ok b) e = let never : ⊥ = omega arith in absurd never
 by_number (Err LengthsDiffer) (Err LengthsDiffer) e = refl
 
 -- a list function leaves one answer and one output

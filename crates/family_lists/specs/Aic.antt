@@ -1,6 +1,6 @@
 -- The families' AIC over lists. Document 01, module 3, and document 02, P2; `aic` of family.rs. Assumes nothing.
 use Rattle.family_lists.specs.declared.lists.ListError.{ListError}
-use Rattle.family_lists.specs.declared.aics.ListError.TheVariants.{LengthsDiffer}
+use Rattle.family_lists.specs.declared.lists.ListError.TheVariants.{LengthsDiffer}
 use Rattle.std.specs.Prelude.{Result, Ok, Err}
 use Rattle.std.specs.Prelude.{ℕ, Bool, false, cond, not, ◌||◌, List, length, ◌==◌, Float}
 use Rattle.std.specs.Float.{inf}
