@@ -1,6 +1,5 @@
 -- Which group's reason is told where a product rule declines. Document 02, P5, its sentence on several reasons. Assumes nothing.
-use Rattle.std.specs.Prelude.{Err}
-use Rattle.std.specs.Prelude.{◌≡◌, ℕ, suc, ◌+◌, eqb, Float}
+use Rattle.std.specs.Prelude.{◌≡◌, ℕ, suc, ◌+◌, eqb, Float, Err}
 use Rattle.quadrature.specs.declared.orders.Order.{Order}
 use Rattle.quadrature.specs.declared.orders.Decline.{Decline}
 use Rattle.rule.specs.Given.{Given}

@@ -1,8 +1,7 @@
 -- The inner fit with its quadrature. Document 01, "The inner fit", what a step that declines leaves to the fit; document 02, P5. Assumes nothing.
 use Rattle.quadrature.specs.declared.orders.Decline.{Decline}
 use Rattle.quadrature.specs.declared.orders.Order.{Order}
-use Rattle.std.specs.Prelude.{Result, Ok, Err}
-use Rattle.std.specs.Prelude.{List, ◌++◌, ℕ, Float}
+use Rattle.std.specs.Prelude.{List, ◌++◌, ℕ, Float, Result, Ok, Err}
 use Rattle.model.specs.Items.{Item}
 use Rattle.model.specs.declared.ends.End.{End}
 use Rattle.quadrature.specs.Orders.{size_of, decline_number}

@@ -1,7 +1,6 @@
 -- How far a group's points lie from the mode: 1 / √A_gg, or the Cholesky factor of the block's inverse. Document 01, "The inner fit", from "The block's inverse" to the pivots at which a step declines. Assumes nothing.
-use Rattle.std.specs.Prelude.{Result, Ok, Err, ⊤}
+use Rattle.std.specs.Prelude.{List, Bool, not, ◌||◌, ℕ, ◌+◌, ◌*◌, Float, Result, Ok, Err, ⊤}
 use Prim.{tt}
-use Rattle.std.specs.Prelude.{List, Bool, not, ◌||◌, ℕ, ◌+◌, ◌*◌, Float}
 use Rattle.std.specs.Float.Ieee.{le}
 use Rattle.base.specs.Number.{◌⊘◌, one_f, eps_f, finite}
 use Rattle.base.specs.List.{build, matrix, at, zero_at}

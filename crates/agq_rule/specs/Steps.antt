@@ -1,7 +1,6 @@
 -- The two quadrature steps: the product rule for one block, the joint rule for several. Document 01, "The inner fit", from the sentence on n_agq to the causes of declining. Assumes nothing.
 use Rattle.quadrature.specs.declared.orders.Decline.{Decline}
-use Rattle.std.specs.Prelude.{Result, Ok, Err}
-use Rattle.std.specs.Prelude.{List, [], ◌++◌, Bool, true, false, ℕ, zero, suc, ◌+◌, ◌*◌, ◌^◌, eqb, length, replicate, Float}
+use Rattle.std.specs.Prelude.{List, [], ◌++◌, Bool, true, false, ℕ, zero, suc, ◌+◌, ◌*◌, ◌^◌, eqb, length, replicate, Float, Result, Ok, Err}
 use Rattle.std.specs.Float.Ieee.{neg}
 use Rattle.base.specs.Number.{◌⊕◌, ◌⊗◌, two_f, zero_f, finite}
 use Rattle.base.specs.Sum.{◌!!◌}

@@ -1,6 +1,5 @@
 -- The thirteen cases, one a line. Document 01, "Cases to prove (one table) and to run". Assumes nothing.
-use Rattle.std.specs.Prelude.{Some, Ok, Err}
-use Rattle.std.specs.Prelude.{◌≡◌, List, [], ◌∷◌, ◌++◌, ℕ, Float}
+use Rattle.std.specs.Prelude.{◌≡◌, Some, Ok, Err, List, [], ◌∷◌, ◌++◌, ℕ, Float}
 use Rattle.base.specs.Number.{bits, zero_f}
 use Rattle.base.specs.List.{matrix}
 use Rattle.model.specs.declared.names.Family.TheVariants.{Poisson}

@@ -1,7 +1,6 @@
 -- LDL' and Cholesky, from the lower triangle of an s by s matrix. Document 01, "The inner fit", its sentences on pivots.
 -- L stands below the diagonal and d on it; what stands above it is neither read nor written. Assumes nothing.
-use Rattle.std.specs.Prelude.{Result, ⊤}
-use Rattle.std.specs.Prelude.{◌≡◌, List, Bool, ℕ, ◌*◌, ◌/◌, ◌%◌, Float}
+use Rattle.std.specs.Prelude.{◌≡◌, List, Bool, ℕ, ◌*◌, ◌/◌, ◌%◌, Float, Result, ⊤}
 use Rattle.base.specs.Number.{◌⊖◌, ◌⊗◌, ◌⊘◌}
 use Rattle.base.specs.Sum.{◌!◌, sum_to}
 use Rattle.base.specs.List.{at}

@@ -1,7 +1,6 @@
 -- A lower triangle of size s that is written row by row, and how far a factorisation comes. Document 01, "The inner fit". Assumes nothing.
-use Rattle.std.specs.Prelude.{Result, Ok, Err, ⊤}
+use Rattle.std.specs.Prelude.{◌≡◌, List, Bool, true, false, not, ◌&&◌, cond, ℕ, zero, suc, ◌+◌, ◌*◌, ◌<◌, ◌≤◌, ltb, eqb, Float, Result, Ok, Err, ⊤}
 use Prim.{tt}
-use Rattle.std.specs.Prelude.{◌≡◌, List, Bool, true, false, not, ◌&&◌, cond, ℕ, zero, suc, ◌+◌, ◌*◌, ◌<◌, ◌≤◌, ltb, eqb, Float}
 use Rattle.std.specs.Float.Ieee.{lt, eq}
 use Rattle.base.specs.Number.{◌⊗◌, zero_f, finite}
 use Rattle.base.specs.Sum.{sum_to}

@@ -1,6 +1,5 @@
 -- Quadrature orders: by the wish, and by the cap on the points; and the number of each reason for none. Document 01, module 2 (`resolve_gh_order`, `_product`, `_joint`); document 02, P5. Assumes nothing.
-use Rattle.std.specs.Prelude.{Option, Some, None, Result, Ok, Err}
-use Rattle.std.specs.Prelude.{List, [], ◌∷◌, Bool, ◌||◌, cond, ℕ, ◌^◌, leb, ltb, eqb}
+use Rattle.std.specs.Prelude.{List, [], ◌∷◌, Bool, ◌||◌, cond, ℕ, ◌^◌, leb, ltb, eqb, Option, Some, None, Result, Ok, Err}
 use Rattle.quadrature.specs.declared.orders.Order.{Order}
 use Rattle.quadrature.specs.declared.orders.Order.TheVariants.{Three, Five, Seven, Nine, Eleven}
 use Rattle.quadrature.specs.declared.orders.Decline.{Decline}

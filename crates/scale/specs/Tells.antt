@@ -1,8 +1,7 @@
 -- What the answers of this crate tell of a group's scale, and what stands where. Document 01, "The inner fit", from "The block's inverse" to the pivots at which a step declines. Assumes nothing.
 use Rattle.quadrature.specs.declared.orders.Decline.{Decline}
-use Rattle.std.specs.Prelude.{Result, Ok, Err, ⊤}
+use Rattle.std.specs.Prelude.{◌≡◌, List, Bool, true, false, ℕ, ◌+◌, ◌*◌, ◌≤◌, length, Float, Result, Ok, Err, ⊤}
 use Prim.{tt}
-use Rattle.std.specs.Prelude.{◌≡◌, List, Bool, true, false, ℕ, ◌+◌, ◌*◌, ◌≤◌, length, Float}
 use Rattle.base.specs.Sum.{◌!◌}
 use Rattle.base.specs.Rows.{row, Only}
 use Rattle.layout.specs.WorkMatrices.{system_place, inverse_place}
