@@ -1,13 +1,8 @@
 -- `elementary::log::ln_far` meets its contract: the tests are the definition's, in its order.
 use lib.Ieee.{neg}
-use Rattle.base.proofs.Doubles.{no_quotient}
 use Rattle.elementary.specs.Log.{ln_far}
 use Rattle.elementary.proofs.log.ln_far.Goals as goal
 
 pub returns-then-x : goal.returns-then-x
 unfolding ln_far neg
 returns-then-x c = rw (c.infinity.ensures, c.if-x.true)
-
-pub returns-then-x-2 : goal.returns-then-x-2
-unfolding ln_far
-returns-then-x-2 c = rw (c.if-x.false, c.if-x-2.true) no_quotient

@@ -1,12 +1,7 @@
 -- `elementary::ln_1p` meets its contract: its tests are the definition's, in its order.
 use Rattle.elementary.specs.Log1p.{ln1p_of}
 use lib.Ieee.{neg}
-use Rattle.base.proofs.Doubles.{no_quotient}
 use Rattle.elementary.proofs.log1p.ln_1p.Goals as goal
-
-pub returns-then-x : goal.returns-then-x
-unfolding ln1p_of
-returns-then-x c = rw (← c.is_nan.ensures, c.if-is_nan.false, c.if-x.true) no_quotient
 
 pub returns-then-x-2 : goal.returns-then-x-2
 unfolding ln1p_of neg
