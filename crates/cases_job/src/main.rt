@@ -4,8 +4,8 @@
 
 ghost use Rattle.std.specs.Prelude.{◌≤◌, length};
 
-use model::{Account, Answer, Shape};
 use job::Fault;
+use model::{Account, Answer, Shape};
 use reader::Header;
 
 // The lesser of two: a, or b where a is past it.
@@ -26,7 +26,7 @@ fn put_front(bytes: &[u8], n: usize) {
 
 fn put_refused(fault: Fault) {
     let mut buffer = [0u8; 256];
-    let n = lines::refused_line(&mut buffer, fault.number, fault.byte);
+    let n = lines::refused_line(&mut buffer, fault);
     put_front(&buffer, n);
 }
 
@@ -187,7 +187,14 @@ fn one_job(job: &[u8]) {
         Ok(found) => put_accepted(
             found.header,
             found.shape,
-            &theta, &y, &weights, &offset, &x, &starts, &columns, &values,
+            &theta,
+            &y,
+            &weights,
+            &offset,
+            &x,
+            &starts,
+            &columns,
+            &values,
         ),
     }
 }

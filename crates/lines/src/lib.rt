@@ -5,6 +5,7 @@ ghost use Rattle.std.specs.Prelude.{◌≡◌, [], ◌+◌, ◌≤◌, ◌<◌, 
 ghost use Rattle.lines.specs.Decimals.{decimals, trimmed, decimal_of};
 ghost use Rattle.lines.specs.Lines.{pairs_text, flag_of, account_pairs, tail_pairs, tail_most, end_line, refused_line, response_line, value_line, Appended, Paired, Written};
 
+use job::Fault;
 use model::Answer;
 
 // The twenty digits of n, the highest first.
@@ -13,11 +14,9 @@ fn twenty(n: u64) -> [u8; 20]
 {
     let mut out = [0u8; 20];
     let mut rest = n;
-    let mut i = 20;
-    while 0 < i {
-        i -= 1;
+    for i in (0..20).rev() {
         out[i] = 48 + (rest % 10) as u8;
-        rest = rest / 10;
+        rest /= 10;
     }
     out
 }
@@ -27,14 +26,12 @@ fn first_digit(digits: &[u8]) -> usize
     requires { length digits.now ≡ 20 }
     ensures { (result < 20) × (drop result digits.now ≡ trimmed digits.now) }
 {
-    let mut i = 0;
-    while i < 19 {
+    for i in 0..19 {
         if digits[i] != 48 {
             return i;
         }
-        i += 1;
     }
-    i
+    19
 }
 
 // A copy of the bytes.
@@ -42,11 +39,9 @@ fn put_bytes(out: &mut [u8], at: usize, bytes: &[u8]) -> usize
     requires { at + length bytes.now ≤ length out.old }
     ensures { Appended bytes.now at out.old result out.new }
 {
-    let n = bytes.len();
-    for i in 0..n {
-        out[at + i] = bytes[i];
-    }
-    at + n
+    let end = at + bytes.len();
+    out[at..end].copy_from_slice(bytes);
+    end
 }
 
 // A count without zeros in front; room is asked for the longest.
@@ -67,13 +62,6 @@ fn put_pair(out: &mut [u8], at: usize, name: &[u8], n: u64) -> usize
     let named = put_bytes(out, at, name);
     let spaced = put_bytes(out, named, b" ");
     put_decimal(out, spaced, n)
-}
-
-// 1 or 0.
-fn flag(t: bool) -> u64
-    ensures { result ≡ flag_of t }
-{
-    if t { 1 } else { 0 }
 }
 
 // What document 02 appends, each pair behind a blank, and the end of the line.
@@ -110,18 +98,18 @@ pub fn end_line(out: &mut [u8], answer: Answer) -> usize
 {
     let number = put_pair(out, 0, b"end", answer.number as u64);
     let order = put_pair(out, number, b" order", answer.order as u64);
-    let disp = put_pair(out, order, b" disp", flag(answer.converged));
+    let disp = put_pair(out, order, b" disp", u64::from(answer.converged));
     let iterations = put_pair(out, disp, b" iters", answer.iterations as u64);
     put_account(out, iterations, answer)
 }
 
 // The line of a refusal.
-pub fn refused_line(out: &mut [u8], number: u64, byte: usize) -> usize
+pub fn refused_line(out: &mut [u8], fault: Fault) -> usize
     requires { 256 ≤ length out.old }
-    ensures { Written (refused_line number byte) out.old result out.new }
+    ensures { Written (refused_line fault.number fault.byte) out.old result out.new }
 {
-    let told = put_pair(out, 0, b"refused", number);
-    let placed = put_pair(out, told, b" at", byte as u64);
+    let told = put_pair(out, 0, b"refused", fault.number);
+    let placed = put_pair(out, told, b" at", fault.byte as u64);
     put_bytes(out, placed, b"\n")
 }
 

@@ -6,6 +6,7 @@ ghost use Rattle.lines.specs.Lines.{value_line, Written};
 ghost use Rattle.results.specs.Nine.{nine};
 ghost use Rattle.report.specs.Report.{value_lines, fixed_lines, effect_lines, row_lines, result_lines, fitted_text, answer_text, Few, results_most, out_room, Grown};
 
+use job::Fault;
 use model::Answer;
 
 // One line of a value, behind the first `at` bytes.
@@ -139,5 +140,11 @@ pub fn put_answer(
     if model::is_end(number) {
         return lines::end_line(out, answer);
     }
-    lines::refused_line(out, number as u64, 0)
+    lines::refused_line(
+        out,
+        Fault {
+            number: number as u64,
+            byte: 0,
+        },
+    )
 }

@@ -9,6 +9,7 @@ ghost use Rattle.jobfit.specs.Room.{Fronts, fronts_of};
 ghost use Rattle.output.specs.Output.{slices_with, response, left_response, response_by, respond_of, RespondLong};
 
 use crate::flat::put_flat;
+use job::Fault;
 use model::{Inputs, Shape};
 use reader::Header;
 
@@ -64,7 +65,7 @@ fn respond_with(
         ≡ response_by (read_of job.now) terms.old out.old }
 {
     match reader::read_job(job, theta, y, weights, offset, x, starts, columns, values) {
-        Err(fault) => lines::refused_line(out, fault.number, fault.byte),
+        Err(fault) => lines::refused_line(out, fault),
         Ok(found) => {
             let header = found.header;
             let thetas = header.thetas;
@@ -126,5 +127,11 @@ pub fn respond_long(out: &mut [u8]) -> usize
     if out.len() < 131072 {
         return 0;
     }
-    lines::refused_line(out, 25, 65536)
+    lines::refused_line(
+        out,
+        Fault {
+            number: 25,
+            byte: 65536,
+        },
+    )
 }

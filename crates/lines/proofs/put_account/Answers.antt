@@ -4,18 +4,6 @@ use Rattle.lines.specs.Lines.{account_pairs, pairs_text}
 use Rattle.lines.proofs.Pieces.{pair_and}
 use Rattle.lines.proofs.put_account.Goals as goal
 
-pub put_pair-solves-requires : goal.put_pair-solves-requires
-put_pair-solves-requires c = omega (arith, c.put_pair-fits.ensures.few)
-
-pub put_pair-tries-requires : goal.put_pair-tries-requires
-put_pair-tries-requires c = omega (arith, c.put_pair-solves.ensures.few, c.put_pair-fits.ensures.few)
-
-pub put_pair-points-requires : goal.put_pair-points-requires
-put_pair-points-requires c = omega (arith, c.put_pair-tries.ensures.few, c.put_pair-solves.ensures.few, c.put_pair-fits.ensures.few)
-
-pub put_tail-requires : goal.put_tail-requires
-put_tail-requires c = omega (arith, c.put_pair-points.ensures.few, c.put_pair-tries.ensures.few, c.put_pair-solves.ensures.few, c.put_pair-fits.ensures.few)
-
 pub returns : goal.returns
 unfolding account_pairs pairs_text
 returns c =

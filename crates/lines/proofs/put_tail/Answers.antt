@@ -4,21 +4,6 @@ use Rattle.lines.specs.Lines.{tail_pairs, pairs_text}
 use Rattle.lines.proofs.Pieces.{pair_and}
 use Rattle.lines.proofs.put_tail.Goals as goal
 
-pub put_pair-eta-requires : goal.put_pair-eta-requires
-put_pair-eta-requires c = omega (arith, c.put_pair-why.ensures.few)
-
-pub put_pair-mean-requires : goal.put_pair-mean-requires
-put_pair-mean-requires c = omega (arith, c.put_pair-eta.ensures.few, c.put_pair-why.ensures.few)
-
-pub put_pair-pwrss-requires : goal.put_pair-pwrss-requires
-put_pair-pwrss-requires c = omega (arith, c.put_pair-mean.ensures.few, c.put_pair-eta.ensures.few, c.put_pair-why.ensures.few)
-
-pub put_pair-ok-requires : goal.put_pair-ok-requires
-put_pair-ok-requires c = omega (arith, c.put_pair-pwrss.ensures.few, c.put_pair-mean.ensures.few, c.put_pair-eta.ensures.few, c.put_pair-why.ensures.few)
-
-pub put_bytes-requires : goal.put_bytes-requires
-put_bytes-requires c = omega (arith, c.put_pair-ok.ensures.few, c.put_pair-pwrss.ensures.few, c.put_pair-mean.ensures.few, c.put_pair-eta.ensures.few, c.put_pair-why.ensures.few)
-
 pub returns : goal.returns
 unfolding tail_pairs pairs_text
 returns c =

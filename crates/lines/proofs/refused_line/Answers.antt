@@ -4,12 +4,6 @@ use Rattle.lines.specs.Lines.{pairs_text, line_of, refused_line}
 use Rattle.lines.proofs.Pieces.{pair_and, from_front}
 use Rattle.lines.proofs.refused_line.Goals as goal
 
-pub put_pair-placed-requires : goal.put_pair-placed-requires
-put_pair-placed-requires c = omega (arith, c.put_pair-told.ensures.few)
-
-pub put_bytes-requires : goal.put_bytes-requires
-put_bytes-requires c = omega (arith, c.put_pair-placed.ensures.few, c.put_pair-told.ensures.few)
-
 pub returns : goal.returns
 unfolding pairs_text line_of refused_line
 returns c =

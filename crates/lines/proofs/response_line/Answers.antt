@@ -4,9 +4,6 @@ use Rattle.lines.specs.Lines.{pairs_text, line_of, response_line}
 use Rattle.lines.proofs.Pieces.{pair_and, from_front}
 use Rattle.lines.proofs.response_line.Goals as goal
 
-pub put_bytes-requires : goal.put_bytes-requires
-put_bytes-requires c = omega (arith, c.put_pair-told.ensures.few)
-
 pub returns : goal.returns
 unfolding pairs_text line_of response_line
 returns c = from_front (pair_and c.put_pair-told.ensures c.put_bytes.ensures (omega arith))

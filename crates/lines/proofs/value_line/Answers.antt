@@ -4,15 +4,6 @@ use Rattle.lines.specs.Lines.{value_line}
 use Rattle.lines.proofs.Pieces.{appended_both, pair_and, from_front}
 use Rattle.lines.proofs.value_line.Goals as goal
 
-pub put_bytes-spaced-requires : goal.put_bytes-spaced-requires
-put_bytes-spaced-requires c = omega (arith, c.put_pair-placed.ensures.few)
-
-pub put_bytes-valued-requires : goal.put_bytes-valued-requires
-put_bytes-valued-requires c = omega (arith, c.put_pair-placed.ensures.few, c.put_bytes-spaced.ensures.ends)
-
-pub put_bytes-requires : goal.put_bytes-requires
-put_bytes-requires c = omega (arith, c.put_pair-placed.ensures.few, c.put_bytes-spaced.ensures.ends, c.put_bytes-valued.ensures.ends)
-
 pub returns : goal.returns
 unfolding value_line
 returns c =
