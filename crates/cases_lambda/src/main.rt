@@ -56,14 +56,13 @@ fn square(shape: Shape, theta: &[f64])
 }
 
 fn run(shape: Shape, theta: &[f64]) {
-    if model::shape_ok(shape) {
-        if model::effects(shape) == 9 {
-            if model::theta_length(shape) <= theta.len() {
-                columns(shape);
-                products(shape, theta);
-                square(shape, theta);
-            }
-        }
+    if model::shape_ok(shape)
+        && model::effects(shape) == 9
+        && model::theta_length(shape) <= theta.len()
+    {
+        columns(shape);
+        products(shape, theta);
+        square(shape, theta);
     }
 }
 

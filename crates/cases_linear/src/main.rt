@@ -3,7 +3,7 @@
 #![tactic(auto)]
 
 ghost use Rattle.std.specs.Prelude.{◌≡◌, ◌*◌, ◌≤◌, length};
-ghost use Rattle.base.specs.Sparse.{Rows};
+ghost use Rattle.stored.specs.Lent.{RowsIn};
 
 use stored::Sparse;
 
@@ -94,57 +94,27 @@ fn effects() {
     text::put_list(b"effects", &out, 4);
 }
 
-fn side(starts: &[usize], columns: &[usize], values: &[f64])
-    requires { Rows starts.now columns.now values.now 5 5 }
+fn side(zt: &Sparse<'_>)
+    requires { RowsIn zt.now 5 5 }
 {
     let mut out = [9.0; 6];
-    stored::zt_times(
-        &Sparse {
-            starts,
-            columns,
-            values,
-        },
-        5,
-        5,
-        &[1.0, 0.7, 3.0, 1.0, 0.3],
-        &mut out,
-    );
+    stored::zt_times(zt, 5, 5, &[1.0, 0.7, 3.0, 1.0, 0.3], &mut out);
     text::put_list(b"zt_times", &out, 6);
 }
 
-fn square(starts: &[usize], columns: &[usize], values: &[f64])
-    requires { Rows starts.now columns.now values.now 5 5 }
+fn square(zt: &Sparse<'_>)
+    requires { RowsIn zt.now 5 5 }
 {
     let mut out = [9.0; 26];
-    stored::ztwz(
-        &Sparse {
-            starts,
-            columns,
-            values,
-        },
-        5,
-        5,
-        &[1.8, 0.1, 0.7, 1.3, 0.3],
-        &mut out,
-    );
+    stored::ztwz(zt, 5, 5, &[1.8, 0.1, 0.7, 1.3, 0.3], &mut out);
     text::put_list(b"ztwz", &out, 26);
 }
 
-fn summed(starts: &[usize], columns: &[usize], values: &[f64])
-    requires { Rows starts.now columns.now values.now 5 5 }
+fn summed(zt: &Sparse<'_>)
+    requires { RowsIn zt.now 5 5 }
 {
     let mut out = [9.0; 6];
-    stored::z_times(
-        &Sparse {
-            starts,
-            columns,
-            values,
-        },
-        5,
-        5,
-        &[0.3, 5.0, 1.1, 1.7, 0.7],
-        &mut out,
-    );
+    stored::z_times(zt, 5, 5, &[0.3, 5.0, 1.1, 1.7, 0.7], &mut out);
     text::put_list(b"z_times", &out, 6);
 }
 
@@ -156,9 +126,14 @@ fn stored_rows() {
         0.1, -0.7, 0.3, 1e16, 1.1, -1e16, 0.9, 0.7, 0.9, 1.9, 2.3, 0.6,
     ];
     if base::rows_ok(&starts, &columns, 5, 5) {
-        side(&starts, &columns, &values);
-        square(&starts, &columns, &values);
-        summed(&starts, &columns, &values);
+        let zt = Sparse {
+            starts: &starts,
+            columns: &columns,
+            values: &values,
+        };
+        side(&zt);
+        square(&zt);
+        summed(&zt);
     }
 }
 
