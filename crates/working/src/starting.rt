@@ -11,6 +11,7 @@ use family_lists::weight_at;
 use model::Start;
 
 // The mean that a response y with weight wt starts from. The family matters for the usual start alone.
+#[tactic(auto, unfolding(rule::specs::Run::start_mean))]
 fn start_mean(start: Start, family: CarriedFamily, wt: f64, y: f64) -> f64
     ensures { result ≡ start_mean start family wt y }
 {

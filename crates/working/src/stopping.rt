@@ -43,13 +43,15 @@ pub fn deviance_sum(devs: &[f64], n: usize) -> f64
 }
 
 // The fit term: with dispersion it is `aic` less 2, which counts every response and weight that is lent.
+#[tactic(auto, unfolding(rule::specs::Stop::fit_term))]
 pub fn fit_term(family: CarriedFamily, y: &[f64], mu: &[f64], weights: &[f64], dev: f64) -> f64
     ensures { result ≡ fit_term family y.now mu.now weights.now dev }
 {
     if uses_dispersion(family) {
-        return aic_of(family, y, mu, weights, dev) - 2.0;
+        aic_of(family, y, mu, weights, dev) - 2.0
+    } else {
+        dev
     }
-    dev
 }
 
 // The sum of the logarithms of the pivots' sizes.

@@ -16,12 +16,7 @@ fn met_slope(link: CarriedLink, eta: f64, mu: f64) -> f64
     ensures { result ≡ mu_eta link eta }
 {
     match link {
-        CarriedLink::Logit => {
-            if EPSILON < mu && mu < 1.0 - EPSILON {
-                return max(mu * (1.0 - mu), EPSILON);
-            }
-            mu_eta(link, eta)
-        }
+        CarriedLink::Logit if EPSILON < mu && mu < 1.0 - EPSILON => max(mu * (1.0 - mu), EPSILON),
         CarriedLink::Log => mu,
         _ => mu_eta(link, eta),
     }
@@ -33,9 +28,10 @@ fn slope(link: CarriedLink, eta: f64, mu: f64, met: bool) -> f64
     ensures { result ≡ mu_eta link eta }
 {
     if met {
-        return met_slope(link, eta, mu);
+        met_slope(link, eta, mu)
+    } else {
+        mu_eta(link, eta)
     }
-    mu_eta(link, eta)
 }
 
 // w of every observation into t from w_at on, z from z_at on. The derivative is evaluated once for both; met says that mu are eta's means.
