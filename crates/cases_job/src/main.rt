@@ -8,20 +8,9 @@ use job::Fault;
 use model::{Account, Answer, Shape};
 use reader::Header;
 
-// The lesser of two: a, or b where a is past it.
-fn least(a: usize, b: usize) -> usize
-    ensures { result ≤ b }
-{
-    if b < a {
-        return b;
-    }
-    a
-}
-
 // The first n bytes.
 fn put_front(bytes: &[u8], n: usize) {
-    let m = least(n, bytes.len());
-    text::put_word(&bytes[0..m]);
+    text::put_word(&bytes[..n.min(bytes.len())]);
 }
 
 fn put_refused(fault: Fault) {
@@ -47,16 +36,15 @@ fn put_value(name: &[u8], index: usize, x: f64)
 // The first n counts, after a word.
 fn put_counts(word: &[u8], xs: &[usize], n: usize) {
     text::put_word(word);
-    let m = least(n, xs.len());
-    for i in 0..m {
-        text::put_count(xs[i] as u64);
+    for x in &xs[..n.min(xs.len())] {
+        text::put_count(*x as u64);
     }
     text::end_line();
 }
 
 // The first n doubles and the one behind them, after a word.
 fn put_doubles(word: &[u8], xs: &[f64], n: usize) {
-    text::put_list(word, xs, least(least(n, 8192) + 1, xs.len()));
+    text::put_list(word, xs, (n.min(8192) + 1).min(xs.len()));
 }
 
 fn put_limit(limit: Option<usize>) {
@@ -68,20 +56,16 @@ fn put_limit(limit: Option<usize>) {
 
 fn put_header(header: Header) {
     let settings = header.settings;
-    let family = settings.family;
-    let link = settings.link;
-    let limit = settings.limit;
-    let start = settings.start;
     text::put_word(b"accepted");
-    text::put_count(model::family_code(family) as u64);
-    text::put_count(model::link_code(link) as u64);
+    text::put_count(model::family_code(settings.family) as u64);
+    text::put_count(model::link_code(settings.link) as u64);
     text::put_count(settings.n_agq as u64);
-    put_limit(limit);
+    put_limit(settings.limit);
     text::put_count(settings.n as u64);
     text::put_count(settings.p as u64);
     text::put_count(settings.rows as u64);
     text::put_count(settings.entries as u64);
-    text::put_count(model::start_code(start) as u64);
+    text::put_count(model::start_code(settings.start) as u64);
     text::put_count(header.thetas as u64);
     text::put_count(header.weights as u64);
     text::put_count(header.offset as u64);
@@ -91,34 +75,26 @@ fn put_header(header: Header) {
 fn put_shape(shape: Shape) {
     text::put_word(b"blocks");
     text::put_count(shape.count as u64);
-    let m = shape.m;
-    let k = shape.k;
     for i in 0..8 {
-        text::put_count(m[i] as u64);
-        text::put_count(k[i] as u64);
+        text::put_count(shape.m[i] as u64);
+        text::put_count(shape.k[i] as u64);
     }
     text::end_line();
 }
 
 // Each double of y on a line of its own, as the program prints its results.
 fn put_values(y: &[f64], n: usize) {
-    let m = least(n, y.len());
-    for i in 0..m {
+    for i in 0..n.min(y.len()) {
         put_value(b"y", i, y[i]);
     }
 }
 
 // How many numbers X has, which are at most 8192.
+#[tactic(auto, using(job::proofs::SizeLaws::grid_few))]
 fn cells(n: usize, p: usize) -> usize
     ensures { result ≤ 8192 }
 {
-    if 512 < n {
-        return 0;
-    }
-    if 16 < p {
-        return 0;
-    }
-    n * p
+    if n <= 512 && p <= 16 { n * p } else { 0 }
 }
 
 // The lists of an accepted job.
@@ -135,8 +111,8 @@ fn put_lists(header: Header, theta: &[f64], y: &[f64], weights: &[f64], offset: 
 fn put_rows(header: Header, starts: &[usize], columns: &[usize], values: &[f64]) {
     let settings = header.settings;
     let entries = settings.entries;
-    put_counts(b"starts", starts, least(settings.rows, 32) + 2);
-    put_counts(b"columns", columns, least(entries, 8192) + 1);
+    put_counts(b"starts", starts, settings.rows.min(32) + 2);
+    put_counts(b"columns", columns, entries.min(8192) + 1);
     put_doubles(b"values", values, entries);
 }
 
@@ -152,13 +128,11 @@ fn put_accepted(
     columns: &[usize],
     values: &[f64],
 ) {
-    let settings = header.settings;
-    let n = settings.n;
     put_header(header);
     put_shape(shape);
     put_lists(header, theta, y, weights, offset, x);
     put_rows(header, starts, columns, values);
-    put_values(y, n);
+    put_values(y, header.settings.n);
 }
 
 // What reading answers and leaves in the slices.
@@ -246,14 +220,13 @@ fn end_lines() {
 
 // The first n bytes as a job.
 fn front_job(bytes: &[u8], n: usize) {
-    let m = least(n, bytes.len());
-    one_job(&bytes[0..m]);
+    one_job(&bytes[..n.min(bytes.len())]);
 }
 
 // The next n bytes of standard input as a job; at most as many as the space has.
 fn fed_job(space: &mut [u8], n: usize) {
-    let m = least(n, space.len());
-    io::read_full(0, &mut space[0..m]);
+    let m = n.min(space.len());
+    io::read_full(0, &mut space[..m]);
     front_job(space, m);
 }
 
@@ -269,7 +242,7 @@ fn next_job() -> bool {
 }
 
 fn all_jobs() {
-    for i in 0usize..2000 {
+    for _ in 0..2000 {
         if !next_job() {
             return;
         }
