@@ -6,7 +6,7 @@ mod specials;
 ghost use Rattle.std.specs.Prelude.{◌≡◌, ◌<◌, ◌≤◌, length};
 ghost use Rattle.text.specs.Hex.{hex_digit, hex_digits};
 
-pub use specials::{SPECIALS, special};
+pub use specials::{SPECIALS, each_special, special};
 
 // The digit d as a byte.
 fn hex_digit(d: u64) -> u8
@@ -25,11 +25,9 @@ pub fn hex16(n: u64) -> [u8; 16]
 {
     let mut out = [0u8; 16];
     let mut rest = n;
-    let mut i = 16;
-    while 0 < i {
-        i -= 1;
+    for i in (0..16).rev() {
         out[i] = hex_digit(rest % 16);
-        rest = rest / 16;
+        rest /= 16;
     }
     out
 }
@@ -54,11 +52,7 @@ pub fn put_count(n: u64) {
 
 // A blank and 1 or 0.
 pub fn put_test(t: bool) {
-    if t {
-        put_count(1);
-    } else {
-        put_count(0);
-    }
+    put_count(u64::from(t));
 }
 
 // The end of a line.
@@ -71,8 +65,8 @@ pub fn put_list(word: &[u8], xs: &[f64], n: usize)
     requires { n ≤ length xs.now }
 {
     put_word(word);
-    for i in 0..n {
-        put_double(xs[i]);
+    for x in &xs[..n] {
+        put_double(*x);
     }
     end_line();
 }

@@ -43,3 +43,12 @@ pub fn special(i: usize) -> f64
     }
     0.0
 }
+
+// `f` at each of them.
+pub fn each_special<F: Fn(f64)>(f: F)
+    requires { F.IsAlwaysCallable f }
+{
+    for i in 0..SPECIALS {
+        f(special(i));
+    }
+}

@@ -4,7 +4,6 @@ use Rattle.text.proofs.Digits.{digit_stored}
 use mathlib.Core.Path.{◌≡◌}
 use native.Mathlib.Omega.{arith}
 use Rattle.text.specs.Hex.{hex_digits}
-use borrow.Author.Rules.{rules}
 use Rattle.text.proofs.hex16.Goals as goal
 
 pub loop-i-preserved : goal.loop-i-preserved
