@@ -1,7 +1,6 @@
 -- What the normal matrix's factorisation and the solution for β leave. Document 01, "The inner fit": β, and end 11. Assumes nothing.
-use Rattle.std.specs.Prelude.{Result, Ok, ⊤}
+use Rattle.std.specs.Prelude.{Result, Ok, ⊤, ◌≡◌, List, ℕ, ◌*◌, ◌≤◌, length, Float}
 use Prim.{tt}
-use Rattle.std.specs.Prelude.{◌≡◌, List, ℕ, ◌*◌, ◌≤◌, length, Float}
 use Rattle.base.specs.Rows.{row, Only, Wrote}
 use Rattle.factor.specs.Factor.{cholesky_of, cholesky_end}
 use Rattle.factor.specs.Substitution.{cholesky_solve}

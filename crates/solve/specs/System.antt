@@ -1,7 +1,6 @@
 -- What `factor_system` leaves. Document 01, "The inner fit": A and its factor, and end 10. Assumes nothing.
-use Rattle.std.specs.Prelude.{Result, Ok, ⊤}
+use Rattle.std.specs.Prelude.{Result, Ok, ⊤, ◌≡◌, List, ℕ, ◌*◌, Float}
 use Prim.{tt}
-use Rattle.std.specs.Prelude.{◌≡◌, List, ◌*◌, Float}
 use Rattle.base.specs.Rows.{row, Only, Wrote}
 use Rattle.factor.specs.Factor.{ldl_end}
 use Rattle.factor.specs.Triangle.{SameBelow}
