@@ -133,7 +133,7 @@ fn ln_main(x: f64, bias: f64) -> f64
 }
 
 // ln but near 1: the zeros, numbers below zero, subnormal numbers, the rest, and last +infinity and NaN.
-#[tactic(auto, using(base::proofs::Doubles::no_quotient), unfolding(crate::specs::Log::ln_far))]
+#[tactic(auto, using(base::proofs::Doubles::no_quotient, crate::proofs::Infinite::minus_infinity), unfolding(crate::specs::Log::ln_far))]
 fn ln_far(x: f64) -> f64
     ensures { result ≡ ln_far x }
 {

@@ -83,7 +83,7 @@ fn published(x: f64) -> f64
 }
 
 // ln(1 + x).
-#[tactic(auto, using(base::proofs::Doubles::no_quotient), unfolding(crate::specs::Log1p::ln1p_of))]
+#[tactic(auto, using(base::proofs::Doubles::no_quotient, crate::proofs::Infinite::minus_infinity), unfolding(crate::specs::Log1p::ln1p_of))]
 pub fn ln_1p(x: f64) -> f64
     ensures { result ≡ ln1p_of x }
 {
