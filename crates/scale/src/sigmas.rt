@@ -12,14 +12,10 @@ use quadrature::Decline;
 fn sigma_of(entry: f64) -> Result<f64, Decline>
     ensures { result ≡ one_scale_of entry }
 {
-    if entry <= EPSILON {
+    if entry <= EPSILON || !base::is_finite(entry) {
         return Err(Decline::Diagonal);
     }
-    if !base::is_finite(entry) {
-        return Err(Decline::Diagonal);
-    }
-    let root = root::sqrt(entry);
-    Ok(1.0 / root)
+    Ok(1.0 / root::sqrt(entry))
 }
 
 // Group g, whose diagonal entry of A stands in m.
