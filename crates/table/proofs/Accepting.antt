@@ -109,7 +109,7 @@ passed true refusal rest f l e = (refl, e)
 passed false refusal rest f l e = absurd (ff (ap is_accepted e))
 
 -- an accepting verdict has one family and one link
-pub one_pair : (g f : CarriedFamily) (k l : CarriedLink) → Ok (g, k) ≡ Ok (f, l) → (g ≡ f) × (k ≡ l)
+pub one_pair : (g f : CarriedFamily) (k l : CarriedLink) → ◌≡◌ {A = Result (CarriedFamily × CarriedLink) Refusal} (Ok (g, k)) (Ok (f, l)) → (g ≡ f) × (k ≡ l)
 one_pair g f k l e = (ap (family_in f) e, ap (link_in l) e)
 
 pub accepted_sound : (r : ℕ) (t : Settings) (s : Shape) (I : Inputs) (L : LentLengths) (f : CarriedFamily) (l : CarriedLink) → table_of r t s I L ≡ Ok (f, l) → Sound r t s I L f l
