@@ -13,37 +13,11 @@ pub struct BitReader<'a> {
     pub at: usize,
 }
 
-// A byte as a number that it can be shifted and summed in.
-fn wide(x: u8) -> u64
-    ensures { (result ≡ x) × (result < 256) }
-{
-    x as u64
-}
-
-// Byte i as a number.
-fn byte_at(s: &[u8], i: usize) -> u64
-    requires { i < length s.now }
-    ensures { (result ≡ (s.now !! i)) × (result < 256) }
-{
-    wide(s[i])
-}
-
 // Byte i as a number, 0 past the end.
 fn byte_or(s: &[u8], i: usize) -> u64
     ensures { (result ≡ (s.now !! i)) × (result < 256) }
 {
-    if i < s.len() {
-        return byte_at(s, i);
-    }
-    0
-}
-
-// How many numbers n bits make.
-fn power(n: usize) -> u64
-    requires { n ≤ 16 }
-    ensures { (result ≡ 2 ^ n) × (1 ≤ result) }
-{
-    1 << n
+    s.get(i).map_or(0, |b| u64::from(*b))
 }
 
 // The number that `width` bits from `at` on make, at most 16: they lie in three bytes.
@@ -56,7 +30,7 @@ pub fn field_at(s: &[u8], at: usize, width: usize) -> usize
     let b = a * 256 + byte_or(s, i + 1);
     let c = b * 256 + byte_or(s, i + 2);
     let cut = c >> (24 - at % 8 - width);
-    (cut % power(width)) as usize
+    (cut % (1 << width)) as usize
 }
 
 // A reader of these bytes that stands at bit `at`.
@@ -90,17 +64,11 @@ pub fn word_at(s: &[u8], p: usize) -> u64
     requires { p + 8 ≤ length s.now }
     ensures { result ≡ bits_of s.now (8 * p) 64 }
 {
-    let a = byte_at(s, p);
-    let b = a * 256 + byte_at(s, p + 1);
-    let c = b * 256 + byte_at(s, p + 2);
-    let d = c * 256 + byte_at(s, p + 3);
-    let e = d * 256 + byte_at(s, p + 4);
-    let f = e * 256 + byte_at(s, p + 5);
-    let g = f * 256 + byte_at(s, p + 6);
-    g * 256 + byte_at(s, p + 7)
+    u64::from_be_bytes(*s[p..].first_chunk().unwrap())
 }
 
 // The double in the eight bytes from byte p on; every pattern is read, a NaN's as NaN.
+#[tactic(auto, unfolding(crate::specs::Bits::double_of))]
 pub fn double_at(s: &[u8], p: usize) -> f64
     requires { p + 8 ≤ length s.now }
     ensures { result ≡ double_of s.now p }
