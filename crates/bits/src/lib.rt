@@ -1,5 +1,5 @@
 // Bits of a byte slice, most significant first, 0 past its end: what stands at a position, and the record that holds the slice and a position and is moved on over its fields.
-// The record's three functions are thin: `take` leaves the work to `field_at`.
+// The record's two methods are thin: `take` leaves the work to `field_at`.
 #![tactic(auto)]
 
 ghost use Rattle.std.specs.Prelude.{◌≡◌, ◌+◌, ◌*◌, ◌<◌, ◌≤◌, ◌^◌, length};
@@ -33,29 +33,22 @@ pub fn field_at(s: &[u8], at: usize, width: usize) -> usize
     (cut % (1 << width)) as usize
 }
 
-// A reader of these bytes that stands at bit `at`.
-pub fn new<'a>(src: &'a [u8], at: usize) -> BitReader<'a>
-    ensures { (result.src ≡ src.entry) × (result.at ≡ at) }
-{
-    BitReader { src, at }
-}
+impl<'a> BitReader<'a> {
+    // A reader of these bytes that stands at bit `at`.
+    pub fn new(src: &'a [u8], at: usize) -> BitReader<'a>
+        ensures { (result.src ≡ src.entry) × (result.at ≡ at) }
+    {
+        BitReader { src, at }
+    }
 
-// The number that the next `width` bits make.
-pub fn take<'a>(r: BitReader<'a>, width: usize) -> usize
-    requires { Near r.at width }
-    ensures { result ≡ bits_of r.entry.src.now r.entry.at width }
-{
-    field_at(r.src, r.at, width)
-}
-
-// The reader behind them.
-pub fn past<'a>(r: BitReader<'a>, width: usize) -> BitReader<'a>
-    requires { Near r.at width }
-    ensures { (result.src ≡ r.entry.src) × (result.at ≡ r.entry.at + width) }
-{
-    BitReader {
-        src: r.src,
-        at: r.at + width,
+    // The number that the next `width` bits make; the reader then stands behind them.
+    pub fn take(&mut self, width: usize) -> usize
+        requires { Near self.old.at width }
+        ensures { (result ≡ bits_of self.old.src.now self.old.at width) × (self.new.src ≡ self.old.src) × (self.new.at ≡ self.old.at + width) }
+    {
+        let field = field_at(self.src, self.at, width);
+        self.at += width;
+        field
     }
 }
 
