@@ -106,6 +106,7 @@ pub fn weighted_dots(x: &[f64], w: &[f64], v: &[f64], n: usize, p: usize, out: &
     ensures { out.new ≡ fill_to p (weighted_dot x.now p n w.now v.now) out.old }
 {
     let mut b = 0;
+    // `while`: how far a turn comes is its width, and the last turn begins earlier.
     while b < p {
         b = dots_from(x, w, v, n, p, b, out);
     }
@@ -264,6 +265,7 @@ fn row_sides(
         ≡ fill_to p (entries_side columns.now values.now x.now p w.now begin end) out.old }
 {
     let mut b = 0;
+    // `while`: how far a turn comes is its width, and the last turn begins earlier.
     while b < p {
         b = sides_from(begin, end, columns, values, x, w, n, p, b, out);
     }
