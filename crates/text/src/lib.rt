@@ -13,10 +13,7 @@ fn hex_digit(d: u64) -> u8
     requires { d < 16 }
     ensures { result ≡ hex_digit d }
 {
-    if d < 10 {
-        return (48 + d) as u8;
-    }
-    (55 + d) as u8
+    b"0123456789ABCDEF"[d as usize]
 }
 
 // The sixteen digits of n, the highest first.
