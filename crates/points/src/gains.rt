@@ -18,9 +18,7 @@ pub fn mark_all(n: usize, mark: usize, r: &mut [f64])
     requires { mark + n ≤ length r.old }
     ensures { Wrote mark n (build one_at n) r.old r.new }
 {
-    for i in 0..n {
-        r[mark + i] = 1.0;
-    }
+    r[mark..mark + n].fill(1.0);
 }
 
 // 1.0 into the row at mark wherever row a of Z' stores an observation.
@@ -50,11 +48,9 @@ pub fn mark_group(
     requires k_bound { (s + k ≤ rows) × (mark + n ≤ length r.old) }
     ensures { Wrote mark n (build (mark_at (sparse_in zt.now) s k) n) r.old r.new }
 {
-    let e = mark + n;
-    base::wipe(&mut r[mark..e], n);
+    r[mark..mark + n].fill(0.0);
     for i in 0..k {
-        let a = s + i;
-        mark_one(zt, rows, n, a, mark, r);
+        mark_one(zt, rows, n, s + i, mark, r);
     }
 }
 
@@ -74,10 +70,10 @@ fn mean_over(
 {
     let effect = r[zb + i];
     if 0.0 < r[mark + i] {
-        let eta = plus_offset(offset, i, r[xbeta + i] + effect);
-        return link_inv(link, eta);
+        link_inv(link, plus_offset(offset, i, r[xbeta + i] + effect))
+    } else {
+        effect
     }
-    effect
 }
 
 // The means of the marked observations over their Zb, in its row; Xβ and the mark stand in rows of their own. Means and deviances are formed
@@ -125,11 +121,11 @@ fn add_gain(
         (entered family y.now weights.now (row means n r.now) (row devs n r.now) i) }
 {
     if 0.0 < r[mark + i] {
-        let wt = weight_at(weights, i);
-        let dev = dev_resid(family, y[i], r[means + i], wt);
-        return sum + (dev - r[devs + i]);
+        let dev = dev_resid(family, y[i], r[means + i], weight_at(weights, i));
+        sum + (dev - r[devs + i])
+    } else {
+        sum
     }
-    sum
 }
 
 // dd: the sum over the marked observations of the deviance at the point less that at the mode.
