@@ -1,7 +1,6 @@
 -- What an inner fit with its quadrature tells: its number, the order used, its account, and the deviance where it reached a mode. Assumes nothing.
 use Rattle.quadrature.specs.declared.orders.Order.{Order}
-use Rattle.std.specs.Prelude.{Result, Ok, Err}
-use Rattle.std.specs.Prelude.{ℕ, Float}
+use Rattle.std.specs.Prelude.{Result, Ok, Err, ℕ, Float}
 use Rattle.base.specs.Number.{zero_f, one_f}
 use Rattle.model.specs.Answer.{end_number}
 use Rattle.model.specs.Items.{tally}
