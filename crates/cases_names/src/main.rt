@@ -59,12 +59,10 @@ fn other_bytes() {
 
 fn name_line(link: Link) {
     let name = names::name(link);
-    let count = name.count;
-    let bytes = name.bytes;
     text::put_word(b"name");
-    text::put_count(count as u64);
-    for i in 0..8 {
-        text::put_count(bytes[i] as u64);
+    text::put_count(name.count as u64);
+    for byte in name.bytes {
+        text::put_count(u64::from(byte));
     }
     text::end_line();
 }

@@ -1,30 +1,24 @@
 // Prints the five rules, the order choice over a grid of wishes, and some log sums, every bit, for comparison with the Rust.
 #![tactic(auto)]
 
-use quadrature::{Decline, Order, Rule};
+use quadrature::{Decline, Order};
 
 // The order chosen, or 0 where there is none.
 fn put_choice(choice: Result<Order, Decline>) {
     match choice {
-        Ok(order) => {
-            text::put_count(quadrature::order_size(order) as u64);
-        }
-        Err(_) => {
-            text::put_count(0);
-        }
+        Ok(order) => text::put_count(quadrature::order_size(order) as u64),
+        Err(_) => text::put_count(0),
     }
 }
 
 // The rule of an order: its nodes, then its weights.
 fn rule(order: Order) {
-    let r = quadrature::gh_rule(order);
-    let nodes = r.nodes;
-    let weights = r.weights;
+    let rule = quadrature::gh_rule(order);
     text::put_word(b"rule");
-    text::put_count(r.size as u64);
-    for i in 0..11 {
-        text::put_double(nodes[i]);
-        text::put_double(weights[i]);
+    text::put_count(rule.size as u64);
+    for (node, weight) in rule.nodes.iter().zip(&rule.weights) {
+        text::put_double(*node);
+        text::put_double(*weight);
     }
     text::end_line();
 }
@@ -32,9 +26,7 @@ fn rule(order: Order) {
 // What a number names: its rule, or a line that there is none.
 fn number(n: usize) {
     match quadrature::order_of(n) {
-        Some(order) => {
-            rule(order);
-        }
+        Some(order) => rule(order),
         None => {
             text::put_word(b"none");
             text::put_count(n as u64);
@@ -88,7 +80,7 @@ fn log_sum(xs: &[f64]) {
 fn ordinary() {
     let some = [-1.5, 0.25, 3.0, 2.999, -700.0, 0.1];
     for n in 0..7 {
-        log_sum(&some[0..n]);
+        log_sum(&some[..n]);
     }
 }
 
