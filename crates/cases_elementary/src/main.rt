@@ -82,15 +82,9 @@ fn line(x: f64) {
     text::end_line();
 }
 
-fn specials() {
-    for i in 0..text::SPECIALS {
-        line(text::special(i));
-    }
-}
-
 fn branches() {
-    for i in 0..60 {
-        line(base::double(BRANCHES[i]));
+    for pattern in BRANCHES {
+        line(base::double(pattern));
     }
 }
 
@@ -108,29 +102,19 @@ fn draw(low: u64, count: u64)
     requires { (0 < count) × (low + count ≤ 2047) }
 {
     let mut w: u64 = 0;
-    for i in 0u64..200 {
+    for _ in 0..200 {
         w = std::num::wrapping_add_u64(w, 0x9e37_79b9_7f4a_7c15);
         line(drawn(w, low, count));
     }
 }
 
-// The fed arguments, of which some meet each row of the two tables so that a wrong entry is seen (tools/cases/rows.py); an empty word is their end.
-fn rows() {
-    for i in 0usize..1000 {
-        let w = fed::word();
-        if w == 0 {
-            return;
-        }
-        line(base::double(w));
-    }
-}
-
-// All sizes; 2^-60 to 2^60; 2^-10 to 2^10; every row.
+// All sizes; 2^-60 to 2^60; 2^-10 to 2^10; then the fed arguments, of which some meet each row of the two tables so that a wrong entry is seen
+// (tools/cases/rows.py).
 fn main() {
-    specials();
+    text::each_special(line);
     branches();
     draw(0, 2047);
     draw(963, 121);
     draw(1013, 20);
-    rows();
+    fed::each_number(1000, line);
 }

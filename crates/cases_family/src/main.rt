@@ -200,15 +200,9 @@ fn element_lines(x: f64) {
     start_line(x);
 }
 
-fn specials() {
-    for i in 0..text::SPECIALS {
-        element_lines(text::special(i));
-    }
-}
-
 fn ordinary() {
-    for i in 0..63 {
-        element_lines(base::double(VALUES[i]));
+    for pattern in VALUES {
+        element_lines(base::double(pattern));
     }
 }
 
@@ -233,8 +227,8 @@ fn dev_line(y: f64, mu: f64) {
 }
 
 fn with_each_mean(y: f64) {
-    for i in 0..10 {
-        dev_line(y, base::double(MEANS[i]));
+    for pattern in MEANS {
+        dev_line(y, base::double(pattern));
     }
 }
 
@@ -255,8 +249,8 @@ fn response_lines(y: f64) {
 }
 
 fn responses() {
-    for i in 0..19 {
-        response_lines(base::double(RESPONSES[i]));
+    for pattern in RESPONSES {
+        response_lines(base::double(pattern));
     }
 }
 
@@ -276,14 +270,14 @@ fn density_line(y: f64, shape: f64) {
 }
 
 fn with_each_shape(y: f64) {
-    for i in 0..9 {
-        density_line(y, base::double(SHAPES[i]));
+    for pattern in SHAPES {
+        density_line(y, base::double(pattern));
     }
 }
 
 fn densities() {
-    for i in 0..7 {
-        with_each_shape(base::double(DENSITY_RESPONSES[i]));
+    for pattern in DENSITY_RESPONSES {
+        with_each_shape(base::double(pattern));
     }
 }
 
@@ -307,12 +301,7 @@ fn put_link(link: Link) {
 }
 
 fn put_family(family: Family) {
-    match family::carried_family(family) {
-        CarriedFamily::Binomial => text::put_count(0),
-        CarriedFamily::Poisson => text::put_count(1),
-        CarriedFamily::Gaussian => text::put_count(2),
-        CarriedFamily::Gamma => text::put_count(3),
-    }
+    text::put_count(family::carried_family(family) as u64);
 }
 
 // Seven links and four families, all carried, by their codes.
@@ -339,7 +328,7 @@ fn carried() {
 }
 
 fn main() {
-    specials();
+    text::each_special(element_lines);
     ordinary();
     responses();
     densities();

@@ -6,12 +6,7 @@ use family::{CarriedFamily, CarriedLink};
 use family_lists::ListError;
 
 fn next_family() -> CarriedFamily {
-    match fed::count() {
-        0 => CarriedFamily::Binomial,
-        1 => CarriedFamily::Poisson,
-        2 => CarriedFamily::Gaussian,
-        _ => CarriedFamily::Gamma,
-    }
+    CarriedFamily::from(fed::family())
 }
 
 fn next_link() -> CarriedLink {
@@ -96,7 +91,7 @@ fn step(code: usize, out: &mut [f64]) {
 
 fn main() {
     let mut out = [0.0; 3];
-    for i in 0usize..1000 {
+    for _ in 0..1000 {
         let code = fed::count();
         if code == 0 {
             return;

@@ -8,24 +8,8 @@ fn line(x: f64) {
     text::end_line();
 }
 
-fn specials() {
-    for i in 0..text::SPECIALS {
-        line(text::special(i));
-    }
-}
-
-// The fed arguments; an empty word is their end. tools/cases/log_gamma.py feeds those of the test, tools/accuracy those whose distance is measured.
-fn fed_ones() {
-    for i in 0usize..1000000 {
-        let w = fed::word();
-        if w == 0 {
-            return;
-        }
-        line(base::double(w));
-    }
-}
-
+// tools/cases/log_gamma.py feeds the arguments of the test, tools/accuracy those whose distance is measured.
 fn main() {
-    specials();
-    fed_ones();
+    text::each_special(line);
+    fed::each_number(1000000, line);
 }

@@ -40,21 +40,9 @@ fn put_start(start: Start) {
     }
 }
 
-fn put_account(account: Account) {
-    text::put_count(account.fits);
-    text::put_count(account.solves);
-    text::put_count(account.tries);
-    text::put_count(account.points);
-    text::put_count(account.eta);
-    text::put_count(account.mean);
-    text::put_count(account.pwrss);
-    text::put_count(account.ok);
-}
-
 // From a code to the family, and back.
 fn family() {
-    let found = model::family_coded(fed::count());
-    match found {
+    match model::family_coded(fed::count()) {
         Some(f) => {
             put_family(f);
             put_size(model::family_code(f));
@@ -65,8 +53,7 @@ fn family() {
 
 // From a code to the link, and back.
 fn link() {
-    let found = model::link_coded(fed::count());
-    match found {
+    match model::link_coded(fed::count()) {
         Some(l) => {
             put_link(l);
             put_size(model::link_code(l));
@@ -77,8 +64,7 @@ fn link() {
 
 // From a code to the start, and back.
 fn start() {
-    let found = model::start_coded(fed::count());
-    match found {
+    match model::start_coded(fed::count()) {
         Some(s) => {
             put_start(s);
             put_size(model::start_code(s));
@@ -103,8 +89,7 @@ fn put_blocks(shape: Shape)
 {
     put_size(model::effects(shape));
     put_size(model::theta_length(shape));
-    let count = shape.count;
-    for i in 0..count {
+    for i in 0..shape.count {
         put_size(model::first_effect(shape, i));
         put_size(model::first_theta(shape, i));
     }
@@ -118,17 +103,11 @@ fn put_shape(shape: Shape) {
     }
 }
 
-fn eight() -> [usize; 8] {
-    let mut out = [0usize; 8];
-    fed::counts(&mut out);
-    out
-}
-
 fn next_shape() -> Shape {
     Shape {
         count: fed::count(),
-        m: eight(),
-        k: eight(),
+        m: fed::next_counts(),
+        k: fed::next_counts(),
     }
 }
 
@@ -155,8 +134,7 @@ fn put_answer(answer: Answer) {
     put_size(answer.why);
     text::put_test(answer.converged);
     put_size(answer.iterations);
-    let account = answer.account;
-    put_account(account);
+    fed::put_account(answer.account);
 }
 
 // The refusal of the next code, in the order of the table.
@@ -179,18 +157,17 @@ fn refused(refusal: Refusal) {
     put_answer(Answer::refused(refusal));
 }
 
-fn work() -> Account {
-    Account {
-        fits: 241,
-        solves: 1205,
-        tries: 4820,
-        points: 14461,
-        eta: 2400,
-        mean: 1000,
-        pwrss: 220,
-        ok: 1200,
-    }
-}
+// An account whose eight counts differ.
+const WORK: Account = Account {
+    fits: 241,
+    solves: 1205,
+    tries: 4820,
+    points: 14461,
+    eta: 2400,
+    mean: 1000,
+    pwrss: 220,
+    ok: 1200,
+};
 
 fn next_end() -> End {
     match fed::count() {
@@ -203,7 +180,7 @@ fn next_end() -> End {
 
 fn unfitted(end: End) {
     put_size(model::end_number(end));
-    put_answer(Answer::unfitted(end, work()));
+    put_answer(Answer::unfitted(end, WORK));
 }
 
 fn fitted() {
@@ -214,16 +191,16 @@ fn fitted() {
         fed::count(),
         fed::count() == 1,
         fed::count(),
-        work(),
+        WORK,
     ));
 }
 
 // What an account is summed from.
 fn items() {
-    put_account(Account::none());
-    put_account(Account::of_points(fed::word()));
-    put_account(Account::one_fit());
-    put_account(Account::one_solve());
+    fed::put_account(Account::none());
+    fed::put_account(Account::of_points(fed::word()));
+    fed::put_account(Account::one_fit());
+    fed::put_account(Account::one_solve());
 }
 
 // The call of a code.
@@ -244,36 +221,16 @@ fn run(code: usize) {
     text::end_line();
 }
 
-// The calls, until a word is empty.
-fn calls() {
-    for i in 0usize..1000 {
-        if !fed::put_name() {
-            return;
-        }
-        run(fed::count());
-    }
-}
-
 fn sum(a: Account, b: Account)
     requires { SumFits a b }
 {
     fed::put_name();
-    put_account(a.plus(b));
+    fed::put_account(a.plus(b));
     text::end_line();
 }
 
 // A sum whose eight counts differ, and sums at the end of the range.
 fn sums() {
-    let a = Account {
-        fits: 241,
-        solves: 1205,
-        tries: 4820,
-        points: 14461,
-        eta: 2400,
-        mean: 1000,
-        pwrss: 220,
-        ok: 1200,
-    };
     let b = Account {
         fits: 3,
         solves: 50,
@@ -284,7 +241,7 @@ fn sums() {
         pwrss: 120,
         ok: 50,
     };
-    sum(a, b);
+    sum(WORK, b);
     let most = Account {
         fits: 18446744073709551615,
         solves: 9223372036854775808,
@@ -384,7 +341,7 @@ fn places(n: usize, p: usize, q: usize)
 }
 
 fn main() {
-    calls();
+    fed::each_call(|| run(fed::count()));
     sums();
     places(1, 1, 1);
     places(512, 16, 32);
