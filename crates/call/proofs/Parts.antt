@@ -2,7 +2,7 @@
 use Rattle.family.specs.declared.carried.CarriedFamily.{CarriedFamily}
 use Rattle.family.specs.declared.carried.CarriedLink.{CarriedLink}
 use Rattle.model.specs.declared.ends.Refusal.{Refusal}
-use Rattle.std.specs.Prelude.{Ok, Err}
+use Rattle.std.specs.Prelude.{Result, Ok, Err}
 use mathlib.Core.Path.{◌≡◌, refl, sym}
 use mathlib.Core.Bool.{Bool, true, false}
 use mathlib.Core.List.{List}
@@ -29,7 +29,7 @@ use Rattle.agq_rule.specs.Inner.{with_points, after_run, inner_with, inner_of}
 use Rattle.agq_rule.proofs.Caps.{inner_paid}
 use Rattle.table.specs.Table.{table_of}
 use Rattle.dispersion.specs.Phi.{effective_n}
-use Rattle.dispersion.specs.Rounds.{Result, result, no_result, Dispersed}
+use Rattle.dispersion.specs.Rounds.{Result as FitResult, result, no_result, Dispersed}
 use Rattle.dispersion.proofs.Accepted.{stuck_by, TotalPaid, loop_paid, fixed_paid}
 use Rattle.call.specs.Fit.{Fitted, sum_of, result_by, total_of, inner_at, fit_by, fit_of, result_answer, answer_of}
 use Rattle.call.specs.Call.{Lent, lengths_of, call_given, call_means, fit_left, call_by, call_of}
@@ -66,7 +66,7 @@ record Parted (a : Answer) : Type 0 where
   all : (a.number ≡ 12 → ⊥) → a.account.ok ≡ a.account.solves
   stuck : a.number ≡ 12 → a.account.ok + 1 ≡ a.account.solves
 
-by_result : (x : Result (Dispersed Fitted)) (c : Account) → AddsUp c → c.solves ≡ c.ok + stuck_by x → Parted (result_answer x c)
+by_result : (x : FitResult (Dispersed Fitted)) (c : Account) → AddsUp c → c.solves ≡ c.ok + stuck_by x → Parted (result_answer x c)
 unfolding result_answer unfitted_answer fitted_answer
 by_result (result d) c p q = record { parts = p; accepts = omega (arith, q); all = λ h. omega (arith, q); stuck = λ h. absurd (omega (arith, h)) }
 by_result (no_result SystemPivot) c p q = record { parts = p; accepts = omega (arith, q); all = λ h. omega (arith, q); stuck = λ h. absurd (omega (arith, h)) }

@@ -2,7 +2,7 @@
 use lib.Ieee.{Float}
 use Rattle.quadrature.specs.declared.orders.Order.{Order}
 use Rattle.model.specs.declared.ends.Refusal.{Refusal}
-use Rattle.std.specs.Prelude.{Ok, Err}
+use Rattle.std.specs.Prelude.{Result, Ok, Err}
 use mathlib.Core.Path.{◌≡◌, refl, sym, ap, ◌∙◌}
 use mathlib.Core.Logic.{◌↔◌, ◌⊎◌}
 use Prim.Native.Nat.{◌≤◌, ◌<◌}
@@ -27,7 +27,7 @@ use Rattle.agq_rule.specs.Steps.{quadrature_of}
 use Rattle.agq_rule.specs.Inner.{why_by}
 use Rattle.agq_rule.proofs.Whys.{why_to, why_zero, why_names, wish_exactly, effects_exactly, cap_exactly}
 use Rattle.table.specs.Table.{table_of}
-use Rattle.dispersion.specs.Rounds.{Result, result, no_result, Dispersed}
+use Rattle.dispersion.specs.Rounds.{Result as FitResult, result, no_result, Dispersed}
 use Rattle.call.specs.Fit.{Fitted, result_answer, answer_of}
 use Rattle.call.specs.Call.{Lent, lengths_of, call_given, fit_left, call_by, call_of}
 use Rattle.call.proofs.Leaves.{asked_fit}
@@ -39,7 +39,7 @@ record Reasoned (a : Answer) : Type 0 where
   none : (a.number ≡ 0 → ⊥) → a.why ≡ 0
   few : a.why ≤ 6
 
-by_result : (x : Result (Dispersed Fitted)) (c : Account) → Reasoned (result_answer x c)
+by_result : (x : FitResult (Dispersed Fitted)) (c : Account) → Reasoned (result_answer x c)
 unfolding result_answer unfitted_answer fitted_answer
 by_result (no_result e) c = record { used = λ h. absurd (omega (arith, h, end_range e)); none = λ h. refl; few = omega arith }
 by_result (result d) c =

@@ -1,7 +1,6 @@
 -- What a call answers and what it leaves in every lent slice. Document 01, "Numbers of an answer"; document 02, P10. Assumes nothing.
 use Rattle.model.specs.declared.ends.Refusal.{Refusal}
-use Rattle.std.specs.Prelude.{Ok, Err}
-use Rattle.std.specs.Prelude.{◌≡◌, List, ◌⊎◌, ℕ, ◌≤◌, length, Float}
+use Rattle.std.specs.Prelude.{◌≡◌, List, ◌⊎◌, ℕ, ◌≤◌, length, Float, Result, Ok, Err}
 use Rattle.base.specs.List.{zero_at, fill_to}
 use Rattle.model.specs.Answer.{refused_answer}
 use Rattle.model.specs.Names.{limit_of}
@@ -23,7 +22,7 @@ use Rattle.results.specs.Nine.{Results, nine, results_of}
 use Rattle.model.specs.Inputs.{Inputs}
 use Rattle.table.specs.Table.{table_of}
 use Rattle.table.specs.declared.verdicts.LentLengths.{LentLengths}
-use Rattle.dispersion.specs.Rounds.{Result, result, no_result, Total, Dispersed}
+use Rattle.dispersion.specs.Rounds.{Result as FitResult, result, no_result, Total, Dispersed}
 use Rattle.call.specs.Fit.{Fitted, fit_of, answer_of}
 
 -- the slices that a call may write: nine results and three work slices
@@ -75,7 +74,7 @@ abbrev pub call_means : CarriedFamily → CarriedLink → Settings → Shape →
 call_means f l t s I = start_means t.start (call_given f l t s I)
 
 -- the results after a fit: those of the last inner fit's mode; without a result those before
-unfoldable pub results_after : Result (Dispersed Fitted) → Given → Results → Results
+unfoldable pub results_after : FitResult (Dispersed Fitted) → Given → Results → Results
 results_after (no_result e) G before = before
 results_after (result d) G before = results_of G d.last.mode
 
