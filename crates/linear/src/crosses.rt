@@ -37,44 +37,22 @@ fn crosses(
     }
 }
 
-// Twelve columns of row a from b on, into out.
-fn twelve(x: &[f64], w: &[f64], n: usize, p: usize, a: usize, b: usize, out: &mut [f64])
-    requires { (n * p ≤ length x.now) × (n ≤ length w.now) × (a < p) × (b + 12 ≤ p) × (12 ≤ length out.old) }
-    ensures { out.new ≡ fill_to 12 (cross_from x.now p n w.now a b) out.old }
+// N columns of row a from b on, into the front of out. Each width that is called is a function of its own, so the count of its sums is a constant.
+fn some_columns<const N: usize>(
+    x: &[f64],
+    w: &[f64],
+    n: usize,
+    p: usize,
+    a: usize,
+    b: usize,
+    out: &mut [f64],
+)
+    requires { (n * p ≤ length x.now) × (n ≤ length w.now) × (a < p) × (b + N ≤ p) × (N ≤ length out.old) }
+    ensures { out.new ≡ fill_to N (cross_from x.now p n w.now a b) out.old }
 {
-    let mut sums = [0.0; 12];
-    crosses(x, w, n, p, a, b, 12, &mut sums);
-    base::copy(&sums, out, 12);
-}
-
-// Six of them.
-fn six(x: &[f64], w: &[f64], n: usize, p: usize, a: usize, b: usize, out: &mut [f64])
-    requires { (n * p ≤ length x.now) × (n ≤ length w.now) × (a < p) × (b + 6 ≤ p) × (6 ≤ length out.old) }
-    ensures { out.new ≡ fill_to 6 (cross_from x.now p n w.now a b) out.old }
-{
-    let mut sums = [0.0; 6];
-    crosses(x, w, n, p, a, b, 6, &mut sums);
-    base::copy(&sums, out, 6);
-}
-
-// Two of them.
-fn two(x: &[f64], w: &[f64], n: usize, p: usize, a: usize, b: usize, out: &mut [f64])
-    requires { (n * p ≤ length x.now) × (n ≤ length w.now) × (a < p) × (b + 2 ≤ p) × (2 ≤ length out.old) }
-    ensures { out.new ≡ fill_to 2 (cross_from x.now p n w.now a b) out.old }
-{
-    let mut sums = [0.0; 2];
-    crosses(x, w, n, p, a, b, 2, &mut sums);
-    base::copy(&sums, out, 2);
-}
-
-// One of them.
-fn one(x: &[f64], w: &[f64], n: usize, p: usize, a: usize, b: usize, out: &mut [f64])
-    requires { (n * p ≤ length x.now) × (n ≤ length w.now) × (a < p) × (b + 1 ≤ p) × (1 ≤ length out.old) }
-    ensures { out.new ≡ fill_to 1 (cross_from x.now p n w.now a b) out.old }
-{
-    let mut sums = [0.0; 1];
-    crosses(x, w, n, p, a, b, 1, &mut sums);
-    base::copy(&sums, out, 1);
+    let mut sums = [0.0; N];
+    crosses(x, w, n, p, a, b, N, &mut sums);
+    base::copy(&sums, out, N);
 }
 
 // Where `count` columns that are to begin at b begin, so that they end within p: at b, or before it, and then some are summed once more.
@@ -100,23 +78,23 @@ fn cross_from(
 {
     if p < 2 {
         let e = b + 1;
-        one(x, w, n, p, a, b, &mut out[b..e]);
+        some_columns::<1>(x, w, n, p, a, b, &mut out[b..e]);
         return e;
     }
     if p < 6 {
         let o = begin_at(b, p, 2);
         let e = o + 2;
-        two(x, w, n, p, a, o, &mut out[o..e]);
+        some_columns::<2>(x, w, n, p, a, o, &mut out[o..e]);
         return e;
     }
     if b + 6 <= a && b + 12 <= p {
         let e = b + 12;
-        twelve(x, w, n, p, a, b, &mut out[b..e]);
+        some_columns::<12>(x, w, n, p, a, b, &mut out[b..e]);
         return e;
     }
     let o = begin_at(b, p, 6);
     let e = o + 6;
-    six(x, w, n, p, a, o, &mut out[o..e]);
+    some_columns::<6>(x, w, n, p, a, o, &mut out[o..e]);
     e
 }
 

@@ -10,14 +10,14 @@ use Rattle.linear.proofs.crosses.cross_from.Goals as goal
 
 pub returns-then-p-lt2 : goal.returns-then-p-lt2
 returns-then-p-lt2 c =
-    let one = c.one in
+    let one = c.some_columns in
     let entry = cross_at c.args.x.now c.args.p c.args.n c.args.w.now c.args.a in
     let wrote = filled_part c.args.b 1 _ (λ k. entry (c.args.b + k)) c.args.out.now one.new.out refl (omega arith) one.auto.out one.ensures in
     row_on c.args.p entry c.args.b c.args.b 1 c.args.out.now _ (le_refl _) (omega arith) (omega arith) c.requires.4 wrote
 
 pub returns-then-p-lt6 : goal.returns-then-p-lt6
 returns-then-p-lt6 c =
-    let two = c.two in
+    let two = c.some_columns-then-p-lt6 in
     let begin = c.begin_at-o in
     let entry = cross_at c.args.x.now c.args.p c.args.n c.args.w.now c.args.a in
     let within = begin_within c.args.b c.args.p 2 begin.result (omega arith) (omega arith) (omega arith) begin.ensures in
@@ -26,14 +26,14 @@ returns-then-p-lt6 c =
 
 pub returns-then-b-p : goal.returns-then-b-p
 returns-then-b-p c =
-    let twelve = c.twelve in
+    let twelve = c.some_columns-then-b-p in
     let entry = cross_at c.args.x.now c.args.p c.args.n c.args.w.now c.args.a in
     let wrote = filled_part c.args.b 12 _ (λ k. entry (c.args.b + k)) c.args.out.now twelve.new.out refl (omega arith) twelve.auto.out twelve.ensures in
     row_on c.args.p entry c.args.b c.args.b 12 c.args.out.now _ (le_refl _) (omega arith) (omega arith) c.requires.4 wrote
 
 pub returns : goal.returns
 returns c =
-    let six = c.six in
+    let six = c.some_columns-2 in
     let begin = c.begin_at-o-2 in
     let entry = cross_at c.args.x.now c.args.p c.args.n c.args.w.now c.args.a in
     let within = begin_within c.args.b c.args.p 6 begin.result (omega arith) (omega arith) (omega arith) begin.ensures in
