@@ -63,7 +63,7 @@ pub returns : goal.returns
 returns c =
     let args = c.args in
     call_left
-    (given_of args.family args.link args.y.now args.weights.now
-    (design_of args.n args.p args.shape args.theta.now args.offset.now args.x.now
-    (sparse args.starts.now args.columns.now args.values.now))) _ args.q c.requires.asked.ready.effects _ _ _ _ _ _ _ _ _ _ _ _
+    (given_of args.given.now.family args.given.now.link args.given.now.y.now args.given.now.weights.now
+    (design_of args.given.now.design.n args.given.now.design.p args.given.now.design.shape args.given.now.design.theta.now args.given.now.design.offset.now args.given.now.design.x.now
+    (sparse args.given.now.design.zt.starts.now args.given.now.design.zt.columns.now args.given.now.design.zt.values.now))) _ args.given.now.design.q c.requires.asked.ready.effects _ _ _ _ _ _ _ _ _ _ _ _
     c.requires.asked.lent c.fit_in-f.ensures c.write_fit.ensures c.wipe_work.ensures

@@ -8,16 +8,16 @@ unfolding lengths_of
 fit_accepted-requires c =
     let args = c.args in
     record {
-      asked = call_asked args.settings args.shape args.theta.now args.y.now args.weights.now args.offset.now args.x.now
-          args.starts.now args.columns.now args.values.now args.beta.now args.se.now args.z.now args.u.now args.b.now
+      asked = call_asked args.settings args.shape args.lists.now.theta.now args.lists.now.y.now args.lists.now.weights.now args.lists.now.offset.now args.lists.now.x.now
+          args.lists.now.starts.now args.lists.now.columns.now args.lists.now.values.now args.beta.now args.se.now args.z.now args.u.now args.b.now
           args.mu.now args.eta.now args.residual.now args.v.now args.rows.now args.matrices.now args.terms.now _ _ _
           c.verdict_of-verdict.ensures c.in-Accepted.is;
-      limit_bound = call_limit args.settings args.shape args.theta.now args.y.now args.weights.now args.offset.now args.x.now
-          args.starts.now args.columns.now args.values.now args.beta.now args.se.now args.z.now args.u.now args.b.now
+      limit_bound = call_limit args.settings args.shape args.lists.now.theta.now args.lists.now.y.now args.lists.now.weights.now args.lists.now.offset.now args.lists.now.x.now
+          args.lists.now.starts.now args.lists.now.columns.now args.lists.now.values.now args.beta.now args.se.now args.z.now args.u.now args.b.now
           args.mu.now args.eta.now args.residual.now args.v.now args.rows.now args.matrices.now args.terms.now _ _ _
           c.verdict_of-verdict.ensures c.in-Accepted.is _ c.limit_of-limit.ensures;
-      writable = call_writable args.settings args.shape args.theta.now args.y.now args.weights.now args.offset.now args.x.now
-          args.starts.now args.columns.now args.values.now args.beta.now args.se.now args.z.now args.u.now args.b.now
+      writable = call_writable args.settings args.shape args.lists.now.theta.now args.lists.now.y.now args.lists.now.weights.now args.lists.now.offset.now args.lists.now.x.now
+          args.lists.now.starts.now args.lists.now.columns.now args.lists.now.values.now args.beta.now args.se.now args.z.now args.u.now args.b.now
           args.mu.now args.eta.now args.residual.now args.v.now args.rows.now args.matrices.now args.terms.now _ _ _
           c.verdict_of-verdict.ensures c.in-Accepted.is;
     }
@@ -62,8 +62,8 @@ pub returns-in-Accepted : goal.returns-in-Accepted
 unfolding lengths_of call_given
 returns-in-Accepted c =
     let args = c.args in
-    call_fitted args.settings args.shape args.theta.now args.y.now args.weights.now args.offset.now args.x.now args.starts.now
-    args.columns.now args.values.now args.beta.now args.se.now args.z.now args.u.now args.b.now args.mu.now args.eta.now
+    call_fitted args.settings args.shape args.lists.now.theta.now args.lists.now.y.now args.lists.now.weights.now args.lists.now.offset.now args.lists.now.x.now args.lists.now.starts.now
+    args.lists.now.columns.now args.lists.now.values.now args.beta.now args.se.now args.z.now args.u.now args.b.now args.mu.now args.eta.now
     args.residual.now args.v.now args.rows.now args.matrices.now args.terms.now _ _ _ c.verdict_of-verdict.ensures
     c.in-Accepted.is _ _ _ c.limit_of-limit.ensures c.fit_accepted.ensures
 
@@ -71,7 +71,7 @@ pub returns-in-Refused : goal.returns-in-Refused
 unfolding lengths_of
 returns-in-Refused c =
     let args = c.args in
-    call_refused args.settings args.shape args.theta.now args.y.now args.weights.now args.offset.now args.x.now args.starts.now
-    args.columns.now args.values.now args.beta.now args.se.now args.z.now args.u.now args.b.now args.mu.now args.eta.now
+    call_refused args.settings args.shape args.lists.now.theta.now args.lists.now.y.now args.lists.now.weights.now args.lists.now.offset.now args.lists.now.x.now args.lists.now.starts.now
+    args.lists.now.columns.now args.lists.now.values.now args.beta.now args.se.now args.z.now args.u.now args.b.now args.mu.now args.eta.now
     args.residual.now args.v.now args.rows.now args.matrices.now args.terms.now _ _ _ c.verdict_of-verdict.ensures
     c.in-Refused.is c.refused.ensures

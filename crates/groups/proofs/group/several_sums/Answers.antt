@@ -74,8 +74,8 @@ shape_of-t c = ap length c.group_terms.ensures.terms ∙ length_fill _ _ _
 pub returns : goal.returns
 returns c =
     let args = c.args in
-    several_made args.family args.link args.shape args.theta.now (sparse args.starts.now args.columns.now args.values.now)
-    args.y.now args.weights.now args.offset.now args.n args.p args.q args.order args.phi _ _ _ _ _ _ _ _ _ _ _ _ _ _ _ _ _ _ _
+    several_made args.given.now.family args.given.now.link args.given.now.design.shape args.given.now.design.theta.now (sparse args.given.now.design.zt.starts.now args.given.now.design.zt.columns.now args.given.now.design.zt.values.now)
+    args.given.now.y.now args.given.now.weights.now args.given.now.design.offset.now args.given.now.design.n args.given.now.design.p args.given.now.design.q args.order args.phi _ _ _ _ _ _ _ _ _ _ _ _ _ _ _ _ _ _ _
     c.requires.roomy.ready.effects c.requires.roomy.lent
     (count_few args.order _ args.k 7000 _ c.gh_rule-rule.ensures (omega (arith, c.requires.k_bound.1)) c.power-count.ensures)
     c.mark_row-mark.ensures c.u_at-u.ensures c.trial_u_at-trial.ensures c.inverse_at-l.ensures c.xbeta_row-xbeta.ensures

@@ -21,7 +21,7 @@ shape_of-t-then-k-eq1 c = c.one_group.ensures.frame.terms_only.len
 pub returns-then-k-eq1 : goal.returns-then-k-eq1
 returns-then-k-eq1 c =
     let args = c.args in
-    group_one _ args.phi args.order args.n args.p args.q args.k args.g _ _ _ _ _ _ _ c.if-k-eq1.true c.one_group.ensures
+    group_one _ args.phi args.order args.given.now.design.n args.given.now.design.p args.given.now.design.q args.k args.g _ _ _ _ _ _ _ c.if-k-eq1.true c.one_group.ensures
 
 pub several_group-requires : goal.several_group-requires
 several_group-requires c = record {
@@ -41,5 +41,5 @@ shape_of-t c = c.several_group.ensures.frame.terms_only.len
 pub returns : goal.returns
 returns c =
     let args = c.args in
-    group_several _ args.phi args.order args.n args.p args.q args.k args.g _ _ _ _ _ _ _ _ c.if-k-eq1.false refl
+    group_several _ args.phi args.order args.given.now.design.n args.given.now.design.p args.given.now.design.q args.k args.g _ _ _ _ _ _ _ _ c.if-k-eq1.false refl
     c.several_group.ensures

@@ -16,8 +16,8 @@ log_weights-requires c = logs_room _ _ (replicate 11 zero_f) c.gh_rule-rule.ensu
 pub loop-g-init : goal.loop-g-init
 loop-g-init c =
     let args = c.args in
-    begun args.family args.link args.shape args.theta.now (sparse args.starts.now args.columns.now args.values.now) args.y.now
-    args.weights.now args.offset.now args.n args.p args.q args.order args.groups args.k args.phi _ _ _
+    begun args.given.now.family args.given.now.link args.given.now.design.shape args.given.now.design.theta.now (sparse args.given.now.design.zt.starts.now args.given.now.design.zt.columns.now args.given.now.design.zt.values.now) args.given.now.y.now
+    args.given.now.weights.now args.given.now.design.offset.now args.given.now.design.n args.given.now.design.p args.given.now.design.q args.order args.groups args.k args.phi _ _ _
 
 pub group-a-requires : goal.group-a-requires
 group-a-requires c = record {
@@ -36,8 +36,8 @@ overflow_add-points c =
     let args = c.args in
     omega (
       arith,
-      room_left args.family args.link args.shape args.theta.now (sparse args.starts.now args.columns.now args.values.now)
-          args.y.now args.weights.now args.offset.now args.n args.p args.q args.order args.groups args.k args.phi _ _ _
+      room_left args.given.now.family args.given.now.link args.given.now.design.shape args.given.now.design.theta.now (sparse args.given.now.design.zt.starts.now args.given.now.design.zt.columns.now args.given.now.design.zt.values.now)
+          args.given.now.y.now args.given.now.weights.now args.given.now.design.offset.now args.given.now.design.n args.given.now.design.p args.given.now.design.q args.order args.groups args.k args.phi _ _ _
           c.requires.roomy.ready.effects c.requires.roomy.lent c.requires.grouped _ _ _ _ _ _ c.loop-g.invariant _ c.group-a.ensures.few
           c.loop-g-test.true,
     )
@@ -54,8 +54,8 @@ shape_of-t-in-NoSum c = c.group-a.ensures.frame.terms_only.len ∙ c.loop-g.inva
 pub returns-in-NoSum : goal.returns-in-NoSum
 returns-in-NoSum c =
     let args = c.args in
-    declines args.family args.link args.shape args.theta.now (sparse args.starts.now args.columns.now args.values.now) args.y.now
-    args.weights.now args.offset.now args.n args.p args.q args.order args.groups args.k args.phi _ _ _
+    declines args.given.now.family args.given.now.link args.given.now.design.shape args.given.now.design.theta.now (sparse args.given.now.design.zt.starts.now args.given.now.design.zt.columns.now args.given.now.design.zt.values.now) args.given.now.y.now
+    args.given.now.weights.now args.given.now.design.offset.now args.given.now.design.n args.given.now.design.p args.given.now.design.q args.order args.groups args.k args.phi _ _ _
     c.requires.roomy.ready.effects c.requires.roomy.lent c.requires.grouped _ _ _ _ _ _ c.loop-g.invariant c.loop-g-test.true _ _ _ _
     c.group-a.ensures args.fit _ c.in-NoSum.is
 
@@ -74,8 +74,8 @@ loop-g-smaller c = omega (arith, c.loop-g-test.true)
 pub loop-g-preserved : goal.loop-g-preserved
 loop-g-preserved c =
     let args = c.args in
-    goes_on args.family args.link args.shape args.theta.now (sparse args.starts.now args.columns.now args.values.now) args.y.now
-    args.weights.now args.offset.now args.n args.p args.q args.order args.groups args.k args.phi _ _ _
+    goes_on args.given.now.family args.given.now.link args.given.now.design.shape args.given.now.design.theta.now (sparse args.given.now.design.zt.starts.now args.given.now.design.zt.columns.now args.given.now.design.zt.values.now) args.given.now.y.now
+    args.given.now.weights.now args.given.now.design.offset.now args.given.now.design.n args.given.now.design.p args.given.now.design.q args.order args.groups args.k args.phi _ _ _
     c.requires.roomy.ready.effects c.requires.roomy.lent c.requires.grouped _ _ _ _ _ _ c.loop-g.invariant c.loop-g-test.true _ _ _ _
     c.group-a.ensures _ c.in-LogSum.is
 
@@ -91,6 +91,6 @@ shape_of-t c = c.loop-g.invariant.frame.terms_only.len
 pub returns : goal.returns
 returns c =
     let args = c.args in
-    ends args.family args.link args.shape args.theta.now (sparse args.starts.now args.columns.now args.values.now) args.y.now
-    args.weights.now args.offset.now args.n args.p args.q args.order args.groups args.k args.phi _ _ _
+    ends args.given.now.family args.given.now.link args.given.now.design.shape args.given.now.design.theta.now (sparse args.given.now.design.zt.starts.now args.given.now.design.zt.columns.now args.given.now.design.zt.values.now) args.given.now.y.now
+    args.given.now.weights.now args.given.now.design.offset.now args.given.now.design.n args.given.now.design.p args.given.now.design.q args.order args.groups args.k args.phi _ _ _
     c.requires.roomy.ready.effects c.requires.roomy.lent c.requires.grouped _ _ _ _ _ _ c.loop-g.invariant args.fit c.loop-g-test.false

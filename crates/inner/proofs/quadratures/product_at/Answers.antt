@@ -16,8 +16,8 @@ product_step-requires c = record {
 pub returns-in-Without : goal.returns-in-Without
 returns-in-Without c =
     let args = c.args in
-    product_declined args.family args.link args.shape args.theta.now _ args.y.now args.weights.now args.offset.now args.n args.p
-    args.q args.x.now args.wish args.phi args.fit args.groups args.k _
+    product_declined args.given.now.family args.given.now.link args.given.now.design.shape args.given.now.design.theta.now _ args.given.now.y.now args.given.now.weights.now args.given.now.design.offset.now args.given.now.design.n args.given.now.design.p
+    args.given.now.design.q args.given.now.design.x.now args.wish args.phi args.fit args.groups args.k _
     (sym c.resolve_gh_order_product-choice.ensures ∙ c.in-Without.is) _ _ _ _ c.declined.ensures
 
 pub shape_of-r : goal.shape_of-r
@@ -32,7 +32,7 @@ shape_of-t c = c.product_step.ensures.frame.terms_only.len
 pub returns-in-Use : goal.returns-in-Use
 returns-in-Use c =
     let args = c.args in
-    product_made args.family args.link args.shape args.theta.now _ args.y.now args.weights.now args.offset.now args.n args.p
-    args.q args.x.now args.wish args.phi args.fit c.requires.asked.ready.effects _ args.r.now _ _ args.m.now _ args.t.now _ _
+    product_made args.given.now.family args.given.now.link args.given.now.design.shape args.given.now.design.theta.now _ args.given.now.y.now args.given.now.weights.now args.given.now.design.offset.now args.given.now.design.n args.given.now.design.p
+    args.given.now.design.q args.given.now.design.x.now args.wish args.phi args.fit c.requires.asked.ready.effects _ args.r.now _ _ args.m.now _ args.t.now _ _
     c.requires.asked.lent.rows_long c.fixed_row.ensures args.groups args.k
     (sym c.resolve_gh_order_product-choice.ensures ∙ c.in-Use.is) c.product_step.ensures

@@ -21,8 +21,8 @@ shape_of-t-then-shape-eq1 c = c.product_at.ensures.terms_only.len
 pub returns-then-shape-eq1 : goal.returns-then-shape-eq1
 returns-then-shape-eq1 c =
     let args = c.args in
-    by_product args.family args.link args.shape args.theta.now _ args.y.now args.weights.now args.offset.now args.n args.p args.q
-    args.x.now args.wish args.phi args.fit _ _ _ _ _ _ _ (eq-eqb _ _ c.if-shape-eq1.true) c.product_at.ensures
+    by_product args.given.now.family args.given.now.link args.given.now.design.shape args.given.now.design.theta.now _ args.given.now.y.now args.given.now.weights.now args.given.now.design.offset.now args.given.now.design.n args.given.now.design.p args.given.now.design.q
+    args.given.now.design.x.now args.wish args.phi args.fit _ _ _ _ _ _ _ (eq-eqb _ _ c.if-shape-eq1.true) c.product_at.ensures
 
 pub joint_at-requires : goal.joint_at-requires
 joint_at-requires c = c.requires
@@ -39,5 +39,5 @@ shape_of-t c = c.joint_at.ensures.terms_only.len
 pub returns : goal.returns
 returns c =
     let args = c.args in
-    by_joint args.family args.link args.shape args.theta.now _ args.y.now args.weights.now args.offset.now args.n args.p args.q
-    args.x.now args.wish args.phi args.fit _ _ _ _ _ _ _ (ne_eqb _ _ c.if-shape-eq1.false) c.joint_at.ensures
+    by_joint args.given.now.family args.given.now.link args.given.now.design.shape args.given.now.design.theta.now _ args.given.now.y.now args.given.now.weights.now args.given.now.design.offset.now args.given.now.design.n args.given.now.design.p args.given.now.design.q
+    args.given.now.design.x.now args.wish args.phi args.fit _ _ _ _ _ _ _ (ne_eqb _ _ c.if-shape-eq1.false) c.joint_at.ensures

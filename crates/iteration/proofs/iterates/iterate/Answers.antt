@@ -29,8 +29,8 @@ solve_into-solving-requires c = record {
 pub returns-in-Unsolved : goal.returns-in-Unsolved
 returns-in-Unsolved c =
     let args = c.args in
-    iterate_unsolvable args.family args.link args.phi args.n args.p args.q args.shape args.theta.now args.offset.now args.x.now
-    args.y.now args.weights.now _ args.in_second _ _ _ _ _ _ _ _ _ c.requires.asked.ready.effects c.requires.asked.lent c.weigh.ensures
+    iterate_unsolvable args.given.now.family args.given.now.link args.phi args.given.now.design.n args.given.now.design.p args.given.now.design.q args.given.now.design.shape args.given.now.design.theta.now args.given.now.design.offset.now args.given.now.design.x.now
+    args.given.now.y.now args.given.now.weights.now _ args.in_second _ _ _ _ _ _ _ _ _ c.requires.asked.ready.effects c.requires.asked.lent c.weigh.ensures
     c.solve_into-solving.ensures _ c.in-Unsolved.is
 
 pub step-end-requires : goal.step-end-requires
@@ -45,13 +45,13 @@ shape_of-r-in-Moved c = c.step-end.auto.r ∙ c.solve_into-solving.auto.r ∙ c.
 pub returns-in-Moved : goal.returns-in-Moved
 returns-in-Moved c =
     let args = c.args in
-    iterate_moved args.family args.link args.phi args.n args.p args.q args.shape args.theta.now args.offset.now args.x.now
-    args.y.now args.weights.now _ args.in_second _ _ _ _ _ _ _ _ _ c.requires.asked.ready.effects c.requires.asked.lent c.weigh.ensures
+    iterate_moved args.given.now.family args.given.now.link args.phi args.given.now.design.n args.given.now.design.p args.given.now.design.q args.given.now.design.shape args.given.now.design.theta.now args.given.now.design.offset.now args.given.now.design.x.now
+    args.given.now.y.now args.given.now.weights.now _ args.in_second _ _ _ _ _ _ _ _ _ c.requires.asked.ready.effects c.requires.asked.lent c.weigh.ensures
     c.solve_into-solving.ensures _ _ _ _ c.in-Found.is c.in-Moved.is c.step-end.ensures
 
 pub returns-in-NoMove : goal.returns-in-NoMove
 returns-in-NoMove c =
     let args = c.args in
-    iterate_stuck args.family args.link args.phi args.n args.p args.q args.shape args.theta.now args.offset.now args.x.now
-    args.y.now args.weights.now _ args.in_second _ _ _ _ _ _ _ _ _ c.requires.asked.ready.effects c.requires.asked.lent c.weigh.ensures
+    iterate_stuck args.given.now.family args.given.now.link args.phi args.given.now.design.n args.given.now.design.p args.given.now.design.q args.given.now.design.shape args.given.now.design.theta.now args.given.now.design.offset.now args.given.now.design.x.now
+    args.given.now.y.now args.given.now.weights.now _ args.in_second _ _ _ _ _ _ _ _ _ c.requires.asked.ready.effects c.requires.asked.lent c.weigh.ensures
     c.solve_into-solving.ensures _ _ _ c.in-Found.is c.in-NoMove.is c.step-end.ensures

@@ -34,6 +34,6 @@ shape_of-t c = c.normal_columns.auto.t
 pub returns : goal.returns
 returns c =
     let args = c.args in
-    sides_made args.n args.p args.q c.weighted_row-weighted.result _ c.wy_at-wy.result args.shape args.theta.now args.x.now _ _ _
+    sides_made args.design.now.n args.design.now.p args.design.now.q c.weighted_row-weighted.result _ c.wy_at-wy.result args.design.now.shape args.design.now.theta.now args.design.now.x.now _ _ _
     _ _ _ _ c.requires.ready.effects c.requires.work_room c.weighted_row-weighted.ensures refl c.wy_at-wy.ensures c.solve_side.ensures
     c.normal_columns.ensures

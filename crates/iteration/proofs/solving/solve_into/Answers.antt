@@ -22,7 +22,7 @@ factor_system-factored-requires c = record {
 pub returns-in-Bad : goal.returns-in-Bad
 returns-in-Bad c =
     let args = c.args in
-    system_ends args.n args.p args.q c.w_at.result _ args.shape args.theta.now args.offset.now args.x.now _ _ _ _ _ _ _
+    system_ends args.design.now.n args.design.now.p args.design.now.q c.w_at.result _ args.design.now.shape args.design.now.theta.now args.design.now.offset.now args.design.now.x.now _ _ _ _ _ _ _
     c.requires.ready.effects c.requires.work_room c.w_at.ensures c.factor_system-factored.ensures c.in-Bad.is
 
 pub right_sides-requires : goal.right_sides-requires
@@ -47,7 +47,7 @@ solve_root-rooted-requires c = record {
 pub returns-in-Bad-rooted : goal.returns-in-Bad-rooted
 returns-in-Bad-rooted c =
     let args = c.args in
-    normal_ends args.n args.p args.q c.w_at.result _ args.shape args.theta.now args.offset.now args.x.now _ _ _ _ _ _ _
+    normal_ends args.design.now.n args.design.now.p args.design.now.q c.w_at.result _ args.design.now.shape args.design.now.theta.now args.design.now.offset.now args.design.now.x.now _ _ _ _ _ _ _
     c.requires.ready.effects c.requires.work_room c.w_at.ensures c.factor_system-factored.ensures _ _ _ _ _ c.in-Done.is
     c.right_sides.ensures c.solve_root-rooted.ensures c.in-Bad-rooted.is
 
@@ -78,6 +78,6 @@ shape_of-t c =
 pub returns : goal.returns
 returns c =
     let args = c.args in
-    solve_finds args.n args.p args.q c.w_at.result 0 args.shape args.theta.now args.offset.now args.x.now _ _ _ _ _ _ _
+    solve_finds args.design.now.n args.design.now.p args.design.now.q c.w_at.result 0 args.design.now.shape args.design.now.theta.now args.design.now.offset.now args.design.now.x.now _ _ _ _ _ _ _
     c.requires.ready.effects c.requires.work_room c.w_at.ensures c.factor_system-factored.ensures _ _ _ _ _ c.in-Done.is
     c.right_sides.ensures c.solve_root-rooted.ensures _ _ _ c.in-Done-rooted.is c.raw_into.ensures

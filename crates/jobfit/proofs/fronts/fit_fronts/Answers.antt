@@ -19,5 +19,5 @@ pub returns : goal.returns
 returns c =
     let a = c.args in
     c.fit_results.ensures
-    ∙ done_parts a.header a.shape a.theta.now a.y.now a.weights.now a.offset.now a.x.now a.starts.now a.columns.now
-    a.values.now a.rows.now a.matrices.now a.terms.now a.results.now
+    ∙ done_parts a.header a.shape a.lists.now.theta.now a.lists.now.y.now a.lists.now.weights.now a.lists.now.offset.now a.lists.now.x.now a.lists.now.starts.now a.lists.now.columns.now
+    a.lists.now.values.now a.rows.now a.matrices.now a.terms.now a.results.now

@@ -39,5 +39,5 @@ returns c =
     let args = c.args in
     c.fit_written.ensures
     ∙ done_fresh args.settings args.shape
-    (inputs args.theta.now args.y.now args.weights.now args.offset.now args.x.now args.starts.now args.columns.now
-    args.values.now) args.rows.now args.matrices.now args.terms.now args.results.now _ c.requires c.beta_length-width.ensures
+    (inputs args.lists.now.theta.now args.lists.now.y.now args.lists.now.weights.now args.lists.now.offset.now args.lists.now.x.now args.lists.now.starts.now args.lists.now.columns.now
+    args.lists.now.values.now) args.rows.now args.matrices.now args.terms.now args.results.now _ c.requires c.beta_length-width.ensures

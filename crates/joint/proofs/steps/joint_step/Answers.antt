@@ -24,8 +24,8 @@ shape_of-t-in-Unscaled c = c.block_scale.ensures.terms_only.len
 pub returns-in-Unscaled : goal.returns-in-Unscaled
 returns-in-Unscaled c =
     let args = c.args in
-    joint_unscaled args.family args.link args.shape args.theta.now (sparse args.starts.now args.columns.now args.values.now)
-    args.y.now args.weights.now args.offset.now args.n args.p args.q args.order args.phi args.fit _ _ _ _ _ _
+    joint_unscaled args.given.now.family args.given.now.link args.given.now.design.shape args.given.now.design.theta.now (sparse args.given.now.design.zt.starts.now args.given.now.design.zt.columns.now args.given.now.design.zt.values.now)
+    args.given.now.y.now args.given.now.weights.now args.given.now.design.offset.now args.given.now.design.n args.given.now.design.p args.given.now.design.q args.order args.phi args.fit _ _ _ _ _ _
     c.requires.roomy.ready.effects c.requires.roomy.lent c.block_scale.ensures _ c.in-Unscaled.is
 
 pub shape_of-r : goal.shape_of-r
@@ -40,7 +40,7 @@ shape_of-t-in-Scaled c = c.joint_sums-a.ensures.frame.terms_only.len ∙ c.block
 pub returns-in-Scaled : goal.returns-in-Scaled
 returns-in-Scaled c =
     let args = c.args in
-    joint_scaled args.family args.link args.shape args.theta.now (sparse args.starts.now args.columns.now args.values.now)
-    args.y.now args.weights.now args.offset.now args.n args.p args.q args.order args.phi args.fit _ _ _ _ _ _
+    joint_scaled args.given.now.family args.given.now.link args.given.now.design.shape args.given.now.design.theta.now (sparse args.given.now.design.zt.starts.now args.given.now.design.zt.columns.now args.given.now.design.zt.values.now)
+    args.given.now.y.now args.given.now.weights.now args.given.now.design.offset.now args.given.now.design.n args.given.now.design.p args.given.now.design.q args.order args.phi args.fit _ _ _ _ _ _
     c.requires.roomy.ready.effects c.requires.roomy.lent c.block_scale.ensures _ _ _ _ _ c.requires.q_bound c.in-Scaled.is
     c.joint_sums-a.ensures c.joint_answer.ensures

@@ -10,4 +10,4 @@ returns c =
     let a = c.args in
     c.verdict_of.ensures
     ∙ ap (λ (I : Inputs). table_of a.responses a.header.settings a.shape I a.lent)
-    (fronts_many a.header a.theta.now a.y.now a.weights.now a.offset.now a.x.now a.starts.now a.columns.now a.values.now)
+    (fronts_many a.header a.lists.now.theta.now a.lists.now.y.now a.lists.now.weights.now a.lists.now.offset.now a.lists.now.x.now a.lists.now.starts.now a.lists.now.columns.now a.lists.now.values.now)

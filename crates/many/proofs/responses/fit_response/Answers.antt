@@ -74,8 +74,8 @@ slice_bounds-fit_fronts-end-2 c =
 pub fit_fronts-answer-requires : goal.fit_fronts-answer-requires
 fit_fronts-answer-requires c =
     let a = c.args in
-    fronts_part a.header a.shape a.theta.now a.y.now a.weights.now a.offset.now a.x.now a.starts.now a.columns.now
-    a.values.now _ _ _ _ refl c.offset-from.ensures.0 refl c.requires.1.fronts (omega (arith, c.offset-from.ensures.1, c.requires.1.y))
+    fronts_part a.header a.shape a.lists.now.theta.now a.lists.now.y.now a.lists.now.weights.now a.lists.now.offset.now a.lists.now.x.now a.lists.now.starts.now a.lists.now.columns.now
+    a.lists.now.values.now _ _ _ _ refl c.offset-from.ensures.0 refl c.requires.1.fronts (omega (arith, c.offset-from.ensures.1, c.requires.1.y))
 
 pub offset_bounds-counts-at : goal.offset_bounds-counts-at
 offset_bounds-counts-at c = omega (arith, c.offset-at.ensures.1, c.requires.1.few)
@@ -95,6 +95,6 @@ shape_of-terms c = c.fit_fronts-answer.auto.terms
 pub returns : goal.returns
 returns c =
     let a = c.args in
-    response_done a.header a.shape a.theta.now a.y.now a.weights.now a.offset.now a.x.now a.starts.now a.columns.now
-    a.values.now a.i _ _ _ refl c.offset-from.ensures.0 refl _ _ _ _ _ c.results_length-block.ensures c.offset-first.ensures.0 refl
+    response_done a.header a.shape a.lists.now.theta.now a.lists.now.y.now a.lists.now.weights.now a.lists.now.offset.now a.lists.now.x.now a.lists.now.starts.now a.lists.now.columns.now
+    a.lists.now.values.now a.i _ _ _ refl c.offset-from.ensures.0 refl _ _ _ _ _ c.results_length-block.ensures c.offset-first.ensures.0 refl
     c.offset-at.ensures.0 refl _ _ _ _ _ _ _ _ _ _ _ c.fit_fronts-answer.ensures c.put_counts.ensures

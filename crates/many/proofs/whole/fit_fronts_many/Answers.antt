@@ -19,11 +19,11 @@ pub fit_each-requires : goal.fit_each-requires
 fit_each-requires c =
     let a = c.args in
     roomy_by a.responses a.header a.shape
-    (inputs a.theta.now a.y.now a.weights.now a.offset.now a.x.now a.starts.now a.columns.now a.values.now)
+    (inputs a.lists.now.theta.now a.lists.now.y.now a.lists.now.weights.now a.lists.now.offset.now a.lists.now.x.now a.lists.now.starts.now a.lists.now.columns.now a.lists.now.values.now)
     (buffers a.rows.now a.matrices.now a.terms.now a.results.now a.counts.now) _ _
     (verdict_is a.responses a.header.settings a.shape
     (many_fronts a.header
-    (inputs a.theta.now a.y.now a.weights.now a.offset.now a.x.now a.starts.now a.columns.now a.values.now)) a.rows.now
+    (inputs a.lists.now.theta.now a.lists.now.y.now a.lists.now.weights.now a.lists.now.offset.now a.lists.now.x.now a.lists.now.starts.now a.lists.now.columns.now a.lists.now.values.now)) a.rows.now
     a.matrices.now a.terms.now a.results.now a.counts.now _ _ _ c.few_of-few.ensures c.lengths_for-lent.ensures
     c.verdict_fronts-verdict.ensures _ c.in-Accepted.is) c.requires.1
 
@@ -35,7 +35,7 @@ returns-in-Refused c =
     let a = c.args in
     refused_told a.responses a.header.settings a.shape
     (many_fronts a.header
-    (inputs a.theta.now a.y.now a.weights.now a.offset.now a.x.now a.starts.now a.columns.now a.values.now)) a.rows.now
+    (inputs a.lists.now.theta.now a.lists.now.y.now a.lists.now.weights.now a.lists.now.offset.now a.lists.now.x.now a.lists.now.starts.now a.lists.now.columns.now a.lists.now.values.now)) a.rows.now
     a.matrices.now a.terms.now a.results.now a.counts.now _ _ _ c.few_of-few.ensures c.lengths_for-lent.ensures
     c.verdict_fronts-verdict.ensures _ _ _ c.in-Refused.is c.refusal_number-number.ensures
     c.put_refusal.ensures
@@ -60,6 +60,6 @@ returns-in-Accepted c =
     let a = c.args in
     fitted_told a.responses a.header.settings a.shape
     (many_fronts a.header
-    (inputs a.theta.now a.y.now a.weights.now a.offset.now a.x.now a.starts.now a.columns.now a.values.now)) a.rows.now
+    (inputs a.lists.now.theta.now a.lists.now.y.now a.lists.now.weights.now a.lists.now.offset.now a.lists.now.x.now a.lists.now.starts.now a.lists.now.columns.now a.lists.now.values.now)) a.rows.now
     a.matrices.now a.terms.now a.results.now a.counts.now _ _ _ c.few_of-few.ensures c.lengths_for-lent.ensures
     c.verdict_fronts-verdict.ensures _ _ _ c.in-Accepted.is c.fit_each.ensures

@@ -25,8 +25,8 @@ start_eta-requires c = (
 pub loop-k-init : goal.loop-k-init
 loop-k-init c =
     let args = c.args in
-    begun args.family args.link args.phi args.limit args.n args.p args.q args.shape args.theta.now args.offset.now
-    args.x.now args.y.now args.weights.now _ c.requires.asked.ready.effects _ _ _ _ _ c.requires.asked.lent c.mu_row.ensures
+    begun args.given.now.family args.given.now.link args.phi args.limit args.given.now.design.n args.given.now.design.p args.given.now.design.q args.given.now.design.shape args.given.now.design.theta.now args.given.now.design.offset.now
+    args.given.now.design.x.now args.given.now.y.now args.given.now.weights.now _ c.requires.asked.ready.effects _ _ _ _ _ c.requires.asked.lent c.mu_row.ensures
     c.start_eta.ensures _ c.one_fit-account.ensures
 
 pub iterate-it-requires : goal.iterate-it-requires
@@ -48,8 +48,8 @@ shape_of-t-in-Unsolvable c = c.iterate-it.auto.t ∙ c.loop-k.invariant.terms_on
 pub returns-in-Unsolvable : goal.returns-in-Unsolvable
 returns-in-Unsolvable c =
     let args = c.args in
-    end_unsolved args.family args.link args.phi args.limit args.n args.p args.q args.shape args.theta.now args.offset.now
-    args.x.now args.y.now args.weights.now _ c.requires.asked.ready.effects _ _ _ _ _ c.requires.asked.lent c.mu_row.ensures
+    end_unsolved args.given.now.family args.given.now.link args.phi args.limit args.given.now.design.n args.given.now.design.p args.given.now.design.q args.given.now.design.shape args.given.now.design.theta.now args.given.now.design.offset.now
+    args.given.now.design.x.now args.given.now.y.now args.given.now.weights.now _ c.requires.asked.ready.effects _ _ _ _ _ c.requires.asked.lent c.mu_row.ensures
     c.start_eta.ensures _ _ _ _ _ _ _ c.loop-k.invariant _ _ _ _ c.loop-k-test.true c.iterate-it.ensures _ _
     c.in-Unsolvable.is c.failed_fit.ensures
 
@@ -70,8 +70,8 @@ shape_of-t-in-Stuck c = c.iterate-it.auto.t ∙ c.loop-k.invariant.terms_only.le
 pub returns-in-Stuck : goal.returns-in-Stuck
 returns-in-Stuck c =
     let args = c.args in
-    end_stuck args.family args.link args.phi args.limit args.n args.p args.q args.shape args.theta.now args.offset.now
-    args.x.now args.y.now args.weights.now _ c.requires.asked.ready.effects _ _ _ _ _ c.requires.asked.lent c.mu_row.ensures
+    end_stuck args.given.now.family args.given.now.link args.phi args.limit args.given.now.design.n args.given.now.design.p args.given.now.design.q args.given.now.design.shape args.given.now.design.theta.now args.given.now.design.offset.now
+    args.given.now.design.x.now args.given.now.y.now args.given.now.weights.now _ c.requires.asked.ready.effects _ _ _ _ _ c.requires.asked.lent c.mu_row.ensures
     c.start_eta.ensures _ _ _ _ _ _ _ c.loop-k.invariant _ _ _ _ c.loop-k-test.true c.iterate-it.ensures _ _ _
     c.in-Stuck.is c.with_solve.ensures c.failed_fit-in-Stuck.ensures
 
@@ -104,8 +104,8 @@ shape_of-t-then-stops c = c.iterate-it.auto.t ∙ c.loop-k.invariant.terms_only.
 pub returns-then-stops : goal.returns-then-stops
 returns-then-stops c =
     let args = c.args in
-    end_stopped args.family args.link args.phi args.limit args.n args.p args.q args.shape args.theta.now args.offset.now
-    args.x.now args.y.now args.weights.now _ c.requires.asked.ready.effects _ _ _ _ _ c.requires.asked.lent c.mu_row.ensures
+    end_stopped args.given.now.family args.given.now.link args.phi args.limit args.given.now.design.n args.given.now.design.p args.given.now.design.q args.given.now.design.shape args.given.now.design.theta.now args.given.now.design.offset.now
+    args.given.now.design.x.now args.given.now.y.now args.given.now.weights.now _ c.requires.asked.ready.effects _ _ _ _ _ c.requires.asked.lent c.mu_row.ensures
     c.start_eta.ensures _ _ _ _ _ _ _ c.loop-k.invariant _ _ _ _ c.loop-k-test.true c.iterate-it.ensures _ _ _ c.in-Moved.is
     c.with_solve-account.ensures _ _ _ _ (sym c.stops.ensures ∙ c.if-stops.true)
     (lent_kept c.requires.asked.lent
@@ -120,8 +120,8 @@ loop-k-smaller c = omega (arith, c.loop-k-test.true)
 pub loop-k-preserved : goal.loop-k-preserved
 loop-k-preserved c =
     let args = c.args in
-    turn_on args.family args.link args.phi args.limit args.n args.p args.q args.shape args.theta.now args.offset.now
-    args.x.now args.y.now args.weights.now _ c.requires.asked.ready.effects _ _ _ _ _ c.requires.asked.lent c.mu_row.ensures
+    turn_on args.given.now.family args.given.now.link args.phi args.limit args.given.now.design.n args.given.now.design.p args.given.now.design.q args.given.now.design.shape args.given.now.design.theta.now args.given.now.design.offset.now
+    args.given.now.design.x.now args.given.now.y.now args.given.now.weights.now _ c.requires.asked.ready.effects _ _ _ _ _ c.requires.asked.lent c.mu_row.ensures
     c.start_eta.ensures _ _ _ _ _ _ _ c.loop-k.invariant _ _ _ _ c.loop-k-test.true c.iterate-it.ensures _ _ _ c.in-Moved.is
     c.with_solve-account.ensures (sym c.stops.ensures ∙ c.if-stops.false)
 
@@ -137,6 +137,6 @@ shape_of-t c = c.loop-k.invariant.terms_only.len
 pub returns : goal.returns
 returns c =
     let args = c.args in
-    end_spent args.family args.link args.phi args.limit args.n args.p args.q args.shape args.theta.now args.offset.now
-    args.x.now args.y.now args.weights.now _ c.requires.asked.ready.effects _ _ _ _ _ c.requires.asked.lent c.mu_row.ensures
+    end_spent args.given.now.family args.given.now.link args.phi args.limit args.given.now.design.n args.given.now.design.p args.given.now.design.q args.given.now.design.shape args.given.now.design.theta.now args.given.now.design.offset.now
+    args.given.now.design.x.now args.given.now.y.now args.given.now.weights.now _ c.requires.asked.ready.effects _ _ _ _ _ c.requires.asked.lent c.mu_row.ensures
     c.start_eta.ensures _ _ _ _ _ _ _ c.loop-k.invariant _ (omega arith) c.failed_fit-2.ensures

@@ -13,9 +13,9 @@ pub loop-k-init : goal.loop-k-init
 loop-k-init c =
     let args = c.args in
     let given =
-    given_of args.family args.link args.y.now args.weights.now
-    (design_of args.n args.p args.shape args.theta.now args.offset.now args.x.now
-    (sparse args.starts.now args.columns.now args.values.now)) in
+    given_of args.given.now.family args.given.now.link args.given.now.y.now args.given.now.weights.now
+    (design_of args.given.now.design.n args.given.now.design.p args.given.now.design.shape args.given.now.design.theta.now args.given.now.design.offset.now args.given.now.design.x.now
+    (sparse args.given.now.design.zt.starts.now args.given.now.design.zt.columns.now args.given.now.design.zt.values.now)) in
     begun given (start_means args.start given) args.wish args.limit _ _ _ _ _ c.none-account.ensures
 
 pub inner_at-a-requires : goal.inner_at-a-requires
@@ -28,9 +28,9 @@ pub plus-account-requires : goal.plus-account-requires
 plus-account-requires c =
     let args = c.args in
     let given =
-    given_of args.family args.link args.y.now args.weights.now
-    (design_of args.n args.p args.shape args.theta.now args.offset.now args.x.now
-    (sparse args.starts.now args.columns.now args.values.now)) in
+    given_of args.given.now.family args.given.now.link args.given.now.y.now args.given.now.weights.now
+    (design_of args.given.now.design.n args.given.now.design.p args.given.now.design.shape args.given.now.design.theta.now args.given.now.design.offset.now args.given.now.design.x.now
+    (sparse args.given.now.design.zt.starts.now args.given.now.design.zt.columns.now args.given.now.design.zt.values.now)) in
     sums_fit given (start_means args.start given) args.wish args.limit _ _ _ _ _ _ _ _ _ _ _ _ _ c.loop-k.invariant _
     c.inner_at-a.ensures c.requires.asked.ready.good c.requires.limit_bound
 
@@ -47,9 +47,9 @@ pub returns-in-Settled : goal.returns-in-Settled
 returns-in-Settled c =
     let args = c.args in
     let given =
-    given_of args.family args.link args.y.now args.weights.now
-    (design_of args.n args.p args.shape args.theta.now args.offset.now args.x.now
-    (sparse args.starts.now args.columns.now args.values.now)) in
+    given_of args.given.now.family args.given.now.link args.given.now.y.now args.given.now.weights.now
+    (design_of args.given.now.design.n args.given.now.design.p args.given.now.design.shape args.given.now.design.theta.now args.given.now.design.offset.now args.given.now.design.x.now
+    (sparse args.given.now.design.zt.starts.now args.given.now.design.zt.columns.now args.given.now.design.zt.values.now)) in
     rw (← c.effective_n-effective.ensures)
     (end_settled given (start_means args.start given) args.wish args.limit _ _ _ _ _ _ _ _ _ _ _ _ _ c.loop-k.invariant _
     c.inner_at-a.ensures c.loop-k-test.true _ _ (sym c.round_after-round.ensures ∙ c.in-Settled.is)
@@ -65,9 +65,9 @@ pub loop-k-preserved : goal.loop-k-preserved
 loop-k-preserved c =
     let args = c.args in
     let given =
-    given_of args.family args.link args.y.now args.weights.now
-    (design_of args.n args.p args.shape args.theta.now args.offset.now args.x.now
-    (sparse args.starts.now args.columns.now args.values.now)) in
+    given_of args.given.now.family args.given.now.link args.given.now.y.now args.given.now.weights.now
+    (design_of args.given.now.design.n args.given.now.design.p args.given.now.design.shape args.given.now.design.theta.now args.given.now.design.offset.now args.given.now.design.x.now
+    (sparse args.given.now.design.zt.starts.now args.given.now.design.zt.columns.now args.given.now.design.zt.values.now)) in
     turn_on given (start_means args.start given) args.wish args.limit _ _ _ _ _ _ _ _ _ _ _ _ _ c.loop-k.invariant _
     c.inner_at-a.ensures c.loop-k-test.true _ _ c.requires.asked.ready.good c.requires.limit_bound
     (sym c.round_after-round.ensures ∙ c.in-Next.is) c.plus-account.ensures
@@ -82,9 +82,9 @@ pub plus-account-requires-2 : goal.plus-account-requires-2
 plus-account-requires-2 c =
     let args = c.args in
     let given =
-    given_of args.family args.link args.y.now args.weights.now
-    (design_of args.n args.p args.shape args.theta.now args.offset.now args.x.now
-    (sparse args.starts.now args.columns.now args.values.now)) in
+    given_of args.given.now.family args.given.now.link args.given.now.y.now args.given.now.weights.now
+    (design_of args.given.now.design.n args.given.now.design.p args.given.now.design.shape args.given.now.design.theta.now args.given.now.design.offset.now args.given.now.design.x.now
+    (sparse args.given.now.design.zt.starts.now args.given.now.design.zt.columns.now args.given.now.design.zt.values.now)) in
     sums_fit given (start_means args.start given) args.wish args.limit _ _ _ _ _ _ _ _ _ _ _ _ _ c.loop-k.invariant _
     c.inner_at-a-2.ensures c.requires.asked.ready.good c.requires.limit_bound
 
@@ -101,9 +101,9 @@ pub returns : goal.returns
 returns c =
     let args = c.args in
     let given =
-    given_of args.family args.link args.y.now args.weights.now
-    (design_of args.n args.p args.shape args.theta.now args.offset.now args.x.now
-    (sparse args.starts.now args.columns.now args.values.now)) in
+    given_of args.given.now.family args.given.now.link args.given.now.y.now args.given.now.weights.now
+    (design_of args.given.now.design.n args.given.now.design.p args.given.now.design.shape args.given.now.design.theta.now args.given.now.design.offset.now args.given.now.design.x.now
+    (sparse args.given.now.design.zt.starts.now args.given.now.design.zt.columns.now args.given.now.design.zt.values.now)) in
     rw (← c.effective_n-effective.ensures)
     (end_spent given (start_means args.start given) args.wish args.limit _ _ _ _ _ _ _ _ _ _ _ _ _ c.loop-k.invariant _
     c.inner_at-a-2.ensures _ _ c.loop-k-test.false c.plus-account-2.ensures c.fit_from-2.ensures)

@@ -10,9 +10,9 @@ pub returns-then-uses_dispersion : goal.returns-then-uses_dispersion
 returns-then-uses_dispersion c =
     let args = c.args in
     let given =
-    given_of args.family args.link args.y.now args.weights.now
-    (design_of args.n args.p args.shape args.theta.now args.offset.now args.x.now
-    (sparse args.starts.now args.columns.now args.values.now)) in
+    given_of args.given.now.family args.given.now.link args.given.now.y.now args.given.now.weights.now
+    (design_of args.given.now.design.n args.given.now.design.p args.given.now.design.shape args.given.now.design.theta.now args.given.now.design.offset.now args.given.now.design.x.now
+    (sparse args.given.now.design.zt.starts.now args.given.now.design.zt.columns.now args.given.now.design.zt.values.now)) in
     free_left given (start_means args.start given) args.wish args.limit _ _ _ _ _ _ _
     (sym c.uses_dispersion.ensures ∙ c.if-uses_dispersion.true) c.dispersed_fit.ensures
 
@@ -20,8 +20,8 @@ pub returns : goal.returns
 returns c =
     let args = c.args in
     let given =
-    given_of args.family args.link args.y.now args.weights.now
-    (design_of args.n args.p args.shape args.theta.now args.offset.now args.x.now
-    (sparse args.starts.now args.columns.now args.values.now)) in
+    given_of args.given.now.family args.given.now.link args.given.now.y.now args.given.now.weights.now
+    (design_of args.given.now.design.n args.given.now.design.p args.given.now.design.shape args.given.now.design.theta.now args.given.now.design.offset.now args.given.now.design.x.now
+    (sparse args.given.now.design.zt.starts.now args.given.now.design.zt.columns.now args.given.now.design.zt.values.now)) in
     fixed_left given (start_means args.start given) args.wish args.limit _ _ _ _ _ _ _
     (sym c.uses_dispersion.ensures ∙ c.if-uses_dispersion.false) c.fixed_fit.ensures

@@ -19,11 +19,11 @@ pub returns : goal.returns
 returns c =
     let args = c.args in
     let given =
-    given_of args.family args.link args.y.now args.weights.now
-    (design_of args.n args.p args.shape args.theta.now args.offset.now args.x.now
-    (sparse args.starts.now args.columns.now args.values.now)) in
+    given_of args.given.now.family args.given.now.link args.given.now.y.now args.given.now.weights.now
+    (design_of args.given.now.design.n args.given.now.design.p args.given.now.design.shape args.given.now.design.theta.now args.given.now.design.offset.now args.given.now.design.x.now
+    (sparse args.given.now.design.zt.starts.now args.given.now.design.zt.columns.now args.given.now.design.zt.values.now)) in
     started args.start given args.wish args.phi args.limit _ args.r.now _ _ _ _ _ _ _
     c.mu_row-mu.ensures
-    (filled_part _ args.n _ _ args.r.now c.start_means.new.out (omega (arith, c.mu_row-mu.ensures, c.raw_row-raw.ensures))
+    (filled_part _ args.given.now.design.n _ _ args.r.now c.start_means.new.out (omega (arith, c.mu_row-mu.ensures, c.raw_row-raw.ensures))
     (omega (arith, c.raw_row-raw.ensures, c.requires.asked.lent.rows_long)) c.start_means.auto.out
     c.start_means.ensures) c.inner_answer.ensures

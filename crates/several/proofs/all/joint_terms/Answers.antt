@@ -26,16 +26,16 @@ slice_bounds-dot-end-2 c = omega (arith, c.requires.grid.in_m, c.requires.grid.h
 pub loop-i-init : goal.loop-i-init
 loop-i-init c =
     let a = c.args in
-    (omega arith, hats_of a.u a.q a.m.now _ _ (part_is a.u a.q _ _ refl) c.dot-hats.ensures, terms_none)
+    (omega arith, hats_of a.u a.given.now.design.q a.m.now _ _ (part_is a.u a.given.now.design.q _ _ refl) c.dot-hats.ensures, terms_none)
 
 pub joint_point-term-requires : goal.joint_point-term-requires
 joint_point-term-requires c =
     let a = c.args in
     let at = c.loop-i in
     record {
-      room = room_kept a.shape a.theta.now a.starts.now a.columns.now a.values.now a.y.now a.offset.now a.n a.q a.xbeta
+      room = room_kept a.given.now.design.shape a.given.now.design.theta.now a.given.now.design.zt.starts.now a.given.now.design.zt.columns.now a.given.now.design.zt.values.now a.given.now.y.now a.given.now.design.offset.now a.given.now.design.n a.given.now.design.q a.xbeta
           a.r.now at.r a.trial a.m.now at.m at.invariant.2.in_r.len at.invariant.2.in_m.len c.requires.room;
-      grid = grid_kept a.q 0 a.q a.size a.l a.u a.trial a.nodes.now a.m.now at.m at.invariant.2.in_m.len c.requires.grid;
+      grid = grid_kept a.given.now.design.q 0 a.given.now.design.q a.size a.l a.u a.trial a.nodes.now a.m.now at.m at.invariant.2.in_m.len c.requires.grid;
       size_in_bounds = c.requires.size_in_bounds.0;
     }
 
@@ -57,8 +57,8 @@ loop-i-preserved c =
     let at = c.loop-i in (
       omega (arith, c.loop-i-test.true),
       at.invariant.1,
-      joint_turn a.family a.link a.shape a.theta.now (sparse a.starts.now a.columns.now a.values.now) a.y.now a.weights.now
-          a.offset.now a.n a.q a.xbeta a.r.now at.r c.requires.room.in_r a.size a.l a.u a.trial a.nodes.now
+      joint_turn a.given.now.family a.given.now.link a.given.now.design.shape a.given.now.design.theta.now (sparse a.given.now.design.zt.starts.now a.given.now.design.zt.columns.now a.given.now.design.zt.values.now) a.given.now.y.now a.given.now.weights.now
+          a.given.now.design.offset.now a.given.now.design.n a.given.now.design.q a.xbeta a.r.now at.r c.requires.room.in_r a.size a.l a.u a.trial a.nodes.now
           a.node_logs.now a.inv_phi a.m.now at.m a.terms.now at.terms at.i _ c.requires.grid at.invariant.1 at.invariant.2 _ _ _
           c.joint_point-term.ensures,
     )

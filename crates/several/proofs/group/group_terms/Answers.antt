@@ -15,9 +15,9 @@ group_point-term-requires c =
     let a = c.args in
     let at = c.loop-i in
     record {
-      room = room_kept a.shape a.theta.now a.starts.now a.columns.now a.values.now a.y.now a.offset.now a.n a.q a.xbeta
+      room = room_kept a.given.now.design.shape a.given.now.design.theta.now a.given.now.design.zt.starts.now a.given.now.design.zt.columns.now a.given.now.design.zt.values.now a.given.now.y.now a.given.now.design.offset.now a.given.now.design.n a.given.now.design.q a.xbeta
           a.r.now at.r a.trial a.m.now at.m at.invariant.1.in_r.len at.invariant.1.in_m.len c.requires.room;
-      grid = grid_kept a.q a.s a.k a.size a.l a.u a.trial a.nodes.now a.m.now at.m at.invariant.1.in_m.len c.requires.grid;
+      grid = grid_kept a.given.now.design.q a.s a.k a.size a.l a.u a.trial a.nodes.now a.m.now at.m at.invariant.1.in_m.len c.requires.grid;
       size_in_bounds = c.requires.size_in_bounds.0;
     }
 
@@ -37,8 +37,8 @@ pub loop-i-preserved : goal.loop-i-preserved
 loop-i-preserved c =
     let a = c.args in
     let at = c.loop-i in
-    let p = group_turn a.family a.link a.shape a.theta.now (sparse a.starts.now a.columns.now a.values.now) a.y.now
-    a.weights.now a.offset.now a.n a.q a.xbeta a.r.now at.r c.requires.room.in_r a.size a.l a.u a.trial a.nodes.now
+    let p = group_turn a.given.now.family a.given.now.link a.given.now.design.shape a.given.now.design.theta.now (sparse a.given.now.design.zt.starts.now a.given.now.design.zt.columns.now a.given.now.design.zt.values.now) a.given.now.y.now
+    a.given.now.weights.now a.given.now.design.offset.now a.given.now.design.n a.given.now.design.q a.xbeta a.r.now at.r c.requires.room.in_r a.size a.l a.u a.trial a.nodes.now
     a.node_logs.now a.inv_phi a.m.now at.m a.terms.now at.terms at.i a.s a.k c.requires.grid at.invariant.1 at.invariant.2 _ _ _
     c.group_point-term.ensures in
     (omega (arith, c.loop-i-test.true), p.0, p.1)

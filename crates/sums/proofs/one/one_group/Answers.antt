@@ -16,8 +16,8 @@ one_sums-requires c = record {
 pub returns-in-NoSigma : goal.returns-in-NoSigma
 returns-in-NoSigma c =
     let args = c.args in
-    group_declined args.family args.link args.shape args.theta.now (sparse args.starts.now args.columns.now args.values.now)
-    args.y.now args.weights.now args.offset.now args.n args.p args.q args.order args.g args.phi _ _ _ _
+    group_declined args.given.now.family args.given.now.link args.given.now.design.shape args.given.now.design.theta.now (sparse args.given.now.design.zt.starts.now args.given.now.design.zt.columns.now args.given.now.design.zt.values.now)
+    args.given.now.y.now args.given.now.weights.now args.given.now.design.offset.now args.given.now.design.n args.given.now.design.p args.given.now.design.q args.order args.g args.phi _ _ _ _
     c.requires.roomy.ready.effects c.one_sigma.ensures _ c.in-NoSigma.is
 
 pub shape_of-r : goal.shape_of-r
@@ -32,6 +32,6 @@ shape_of-t c = c.one_sums.ensures.frame.terms_only.len
 pub returns-in-Sigma : goal.returns-in-Sigma
 returns-in-Sigma c =
     let args = c.args in
-    group_summed args.family args.link args.shape args.theta.now (sparse args.starts.now args.columns.now args.values.now)
-    args.y.now args.weights.now args.offset.now args.n args.p args.q args.order args.g args.phi _ _ _ _
+    group_summed args.given.now.family args.given.now.link args.given.now.design.shape args.given.now.design.theta.now (sparse args.given.now.design.zt.starts.now args.given.now.design.zt.columns.now args.given.now.design.zt.values.now)
+    args.given.now.y.now args.given.now.weights.now args.given.now.design.offset.now args.given.now.design.n args.given.now.design.p args.given.now.design.q args.order args.g args.phi _ _ _ _
     c.requires.roomy.ready.effects c.one_sigma.ensures _ _ _ _ _ c.in-Sigma.is c.one_sums.ensures
