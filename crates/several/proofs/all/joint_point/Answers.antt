@@ -7,18 +7,6 @@ use Rattle.agq.specs.Gained.{gain_in}
 use Rattle.several.proofs.Terms.{joint_made}
 use Rattle.several.proofs.all.joint_point.Goals as goal
 
-pub overflow_add-end : goal.overflow_add-end
-overflow_add-end c = omega (arith, c.requires.grid.in_m)
-
-pub offset_bounds-m-trial : goal.offset_bounds-m-trial
-offset_bounds-m-trial c = omega (arith, c.requires.grid.in_m)
-
-pub offset_bounds-m-trial-2 : goal.offset_bounds-m-trial-2
-offset_bounds-m-trial-2 c = omega (arith, c.requires.grid.in_m)
-
-pub log_weight-weight-requires : goal.log_weight-weight-requires
-log_weight-weight-requires c = (c.requires.grid.some, c.requires.size_in_bounds)
-
 pub returns : goal.returns
 returns c =
     let a = c.args in

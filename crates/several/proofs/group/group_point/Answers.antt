@@ -8,51 +8,6 @@ use Rattle.agq.specs.Gained.{gain_in}
 use Rattle.several.proofs.Terms.{group_made}
 use Rattle.several.proofs.group.group_point.Goals as goal
 
-pub overflow_add-at : goal.overflow_add-at
-overflow_add-at c = omega (arith, c.requires.grid.in_m, c.requires.grid.within)
-
-pub overflow_add-end : goal.overflow_add-end
-overflow_add-end c = omega (arith, c.requires.grid.in_m, c.requires.grid.within)
-
-pub overflow_add-hat : goal.overflow_add-hat
-overflow_add-hat c =
-    omega (
-      arith,
-      c.requires.grid.in_m,
-      c.requires.grid.within,
-      c.requires.grid.hats,
-    )
-
-pub overflow_add-hat_end : goal.overflow_add-hat_end
-overflow_add-hat_end c =
-    omega (
-      arith,
-      c.requires.grid.in_m,
-      c.requires.grid.within,
-      c.requires.grid.hats,
-    )
-
-pub offset_bounds-m-at : goal.offset_bounds-m-at
-offset_bounds-m-at c = omega (arith, c.requires.grid.in_m, c.requires.grid.within)
-
-pub slice_bounds-group_penalty-end : goal.slice_bounds-group_penalty-end
-slice_bounds-group_penalty-end c = omega (arith, c.requires.grid.in_m, c.requires.grid.within, c.trial_gain-dd.ensures.in_m.len)
-
-pub offset_bounds-m-hat : goal.offset_bounds-m-hat
-offset_bounds-m-hat c =
-    omega (
-      arith,
-      c.requires.grid.in_m,
-      c.requires.grid.within,
-      c.requires.grid.hats,
-    )
-
-pub slice_bounds-group_penalty-end-2 : goal.slice_bounds-group_penalty-end-2
-slice_bounds-group_penalty-end-2 c = omega (arith, c.requires.grid.in_m, c.requires.grid.within, c.requires.grid.hats, c.trial_gain-dd.ensures.in_m.len)
-
-pub log_weight-weight-requires : goal.log_weight-weight-requires
-log_weight-weight-requires c = (c.requires.grid.some, c.requires.size_in_bounds)
-
 pub returns : goal.returns
 returns c =
     let a = c.args in
