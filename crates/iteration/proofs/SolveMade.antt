@@ -1,7 +1,9 @@
 -- A solve from its parts: what each later part leaves of what the earlier ones wrote, and the rule's cases. Assumes nothing.
 use Rattle.std.specs.Prelude.{Result, Ok, Err, ⊤}
 use Prim.{tt}
-use mathlib.Core.Path.{◌≡◌, refl, ◌∙◌}
+use Rattle.std.specs.Result.{MatchResult, IsErrAnd}
+use Rattle.std.proofs.lemmas.Result.{err_from_is_err_and}
+use mathlib.Core.Path.{◌≡◌, refl, sym, ◌∙◌}
 use mathlib.Core.List.{List}
 use mathlib.Core.Logic.{inl, inr}
 use Prim.Native.Nat.{ℕ, ◌+◌, ◌*◌, ◌≤◌}
@@ -21,6 +23,7 @@ use Rattle.layout.specs.WorkTerms.{factor_place, w_place, z_place, unsolved_plac
 use Rattle.layout.proofs.LaidOut.{laid_out}
 use Rattle.model.specs.Shape.{effects_of}
 use Rattle.model.specs.declared.sizes.Shape.{Shape}
+use Rattle.model.specs.declared.ends.End.{End}
 use Rattle.model.specs.declared.ends.End.TheVariants.{SystemPivot, NormalPivot}
 use Rattle.rule.specs.Given.{Design, q_of, design_of}
 use Rattle.rule.specs.Working.{targets, weighted_targets}
@@ -29,6 +32,20 @@ use Rattle.solve.specs.Ready.{Whatever}
 use Rattle.solve.specs.System.{SystemLeaves}
 use Rattle.iteration.specs.Held.{Prepared}
 use Rattle.iteration.specs.Solving.{SidesLeft, SidesOf, RootLeft, RootSolved, RawLeft, SolveLeft, SolvesWorking}
+
+-- ---- an end that `map_err` tells in place of the index of a pivot
+pub end_mapped : {Q : ℕ → End → Type 0} (d : End) (z : Result ⊤ ℕ) (r : Result ⊤ End) → MatchResult z (λ x. r ≡ Ok x) (λ i. IsErrAnd r (Q i)) → ((i : ℕ) (y : End) → Q i y → y ≡ d) → (y : End) → r ≡ Err y
+    → (i : ℕ) × (z ≡ Err i) × (y ≡ d)
+end_mapped d (Ok tt) r m k y e = cc
+end_mapped {Q} d (Err i) r m k y e =
+    let f : (x : End) × (r ≡ Err x) × Q i x = err_from_is_err_and r m in
+    let o : ◌≡◌ {A = Result ⊤ End} (Err y) (Err f.0) = sym e ∙ f.1 in
+    let g : y ≡ f.0 = cc in
+    (i, refl, g ∙ k i f.0 f.2)
+
+pub ok_mapped : (Q : ℕ → End → Type 0) (z : Result ⊤ ℕ) (r : Result ⊤ End) → MatchResult z (λ x. r ≡ Ok x) (λ i. IsErrAnd r (Q i)) → (x : ⊤) → r ≡ Ok x → z ≡ Ok tt
+ok_mapped Q (Ok tt) r m x e = refl
+ok_mapped Q (Err i) r m x e = let f : (y : End) × (r ≡ Err y) × Q i y = err_from_is_err_and r m in cc
 
 -- ---- the rule's cases
 module _ (D : Design) (w z : List Float) where
