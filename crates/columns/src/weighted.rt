@@ -148,7 +148,8 @@ fn some_sides<const N: usize>(
     base::copy(&sums, &mut out[b..e], N);
 }
 
-// Column b and as many behind it as go at once, into out. Tells the column that comes next.
+// Column b and as many behind it as go at once, into out. Tells the column that comes next. The choice of a width stands here beside that of dots_from: it
+// takes a function that has a const parameter, and no closure is one.
 fn sides_from(
     zt: &Sparse<'_>,
     begin: usize,
