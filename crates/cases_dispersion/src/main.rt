@@ -11,8 +11,7 @@ fn count(weights: &[f64], n: usize) {
 // What follows one round.
 fn round(effective: f64, phi: f64, sum: f64) {
     text::put_word(b"round");
-    let round = dispersion::round_of(effective, phi, sum);
-    match round {
+    match dispersion::round_of(effective, phi, sum) {
         None => text::put_word(b" settled"),
         Some(next) => text::put_double(next),
     }
@@ -33,24 +32,15 @@ fn rounds(effective: f64, first: f64, second: f64) {
     let mut phi = 1.0;
     let mut sum = first;
     let mut other = second;
-    let mut k: u64 = 0;
-    while k < 240 {
-        let round = dispersion::round_of(effective, phi, sum);
-        match round {
-            None => {
-                put_end(true, k, phi);
-                return;
-            }
-            Some(next) => {
-                phi = next;
-            }
-        }
-        let used = sum;
-        sum = other;
-        other = used;
-        k += 1;
+    for k in 0..240 {
+        let Some(next) = dispersion::round_of(effective, phi, sum) else {
+            put_end(true, k, phi);
+            return;
+        };
+        phi = next;
+        std::mem::swap(&mut sum, &mut other);
     }
-    put_end(false, k, phi);
+    put_end(false, 240, phi);
 }
 
 fn counts() {

@@ -8,25 +8,14 @@ ghost use Rattle.std.specs.Prelude.{◌≡◌, length};
 use model::Account;
 use tries::TryRefusal;
 
-fn put_account(account: Account) {
-    text::put_count(account.fits);
-    text::put_count(account.solves);
-    text::put_count(account.tries);
-    text::put_count(account.points);
-    text::put_count(account.eta);
-    text::put_count(account.mean);
-    text::put_count(account.pwrss);
-    text::put_count(account.ok);
-}
-
 // Their account, and the PWRSS where one was accepted.
 fn put_tries(t: Result<(f64, Account), Account>) {
     match t {
         Ok((p, made)) => {
-            put_account(made);
+            fed::put_account(made);
             text::put_double(p);
         }
-        Err(made) => put_account(made),
+        Err(made) => fed::put_account(made),
     }
 }
 
@@ -51,30 +40,20 @@ fn run(u: &[f64], w: &[f64], z: &[f64], rows: &mut [f64])
     let link = family::carried_link(fed::link());
     if step == 0.0 {
         put_tries(tries::tries(link, 2, 2, 0, 2, 4, 6, u, w, z, rows));
-        text::put_list(b"", rows, 9);
-        return;
+    } else {
+        put_try(tries::one_try(link, 2, 2, 0, 2, 4, 6, step, u, w, z, rows));
     }
-    put_try(tries::one_try(link, 2, 2, 0, 2, 4, 6, step, u, w, z, rows));
     text::put_list(b"", rows, 9);
 }
 
 fn next_case() {
-    let mut u = [0.0; 2];
-    let mut w = [0.0; 2];
-    let mut z = [0.0; 2];
-    let mut rows = [0.0; 9];
-    fed::numbers(&mut u);
-    fed::numbers(&mut w);
-    fed::numbers(&mut z);
-    fed::numbers(&mut rows);
+    let u = fed::next_numbers::<2>();
+    let w = fed::next_numbers::<2>();
+    let z = fed::next_numbers::<2>();
+    let mut rows = fed::next_numbers::<9>();
     run(&u, &w, &z, &mut rows);
 }
 
 fn main() {
-    for i in 0usize..1000 {
-        if !fed::put_name() {
-            return;
-        }
-        next_case();
-    }
+    fed::each_call(next_case);
 }
