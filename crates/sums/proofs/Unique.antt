@@ -1,4 +1,5 @@
 -- One answer, where the work slices hold a mode: what the steps and the groups answer is decided by their contracts. Assumes nothing.
+use Rattle.base.specs.Number.{zero_f}
 use Rattle.quadrature.specs.declared.orders.Decline.{Decline}
 use Rattle.std.specs.Prelude.{Result, Ok, Err}
 use mathlib.Core.Path.{◌≡◌, sym, ap, ◌∙◌}
@@ -9,6 +10,7 @@ use lib.ListN.{length, replicate, length-replicate}
 use lib.Ieee.{Float}
 use Rattle.base.proofs.Unique.{one_value}
 use Rattle.model.specs.Items.{a_point}
+use Rattle.quadrature.specs.declared.orders.Order.{Order}
 use Rattle.quadrature.specs.declared.orders.Order.TheVariants.{Three}
 use Rattle.rule.specs.Given.{Given}
 use Rattle.rule.specs.Stop.{Mode}
@@ -44,9 +46,13 @@ sum_unique G term n p q count r r1 r2 m m1 m2 t t1 t2 a b x M s u v = one_value 
 shown : Float → Integrated
 shown s = answers (Ok (s, Three))
 
+abbrev sum_in : Result (Float × Order) Decline → Float
+sum_in (Ok (s, o)) = s
+sum_in (Err d) = zero_f
+
 same_sum : (s v : Result Float Decline) → (carry s shown).answer ≡ (carry v shown).answer → s ≡ v
 unfolding carry shown answers
-same_sum (Ok s) (Ok v) e = let z : s ≡ v = cc in ap Ok z
+same_sum (Ok s) (Ok v) e = let z : s ≡ v = ap sum_in e in ap Ok z
 same_sum (Ok s) (Err d) e = let z : ◌≡◌ {A = ℕ} 0 1 = cc in absurd (omega arith)
 same_sum (Err d) (Ok s) e = let z : ◌≡◌ {A = ℕ} 0 1 = cc in absurd (omega arith)
 same_sum (Err d) (Err f) e = let z : d ≡ f = cc in ap Err z

@@ -42,22 +42,22 @@ overflow_add-points c =
           c.loop-g-test.true,
     )
 
-pub shape_of-r-in-NoSum : goal.shape_of-r-in-NoSum
-shape_of-r-in-NoSum c = c.group-a.ensures.frame.rows_only.len ∙ c.loop-g.invariant.frame.rows_only.len
+pub shape_of-r-in-Err : goal.shape_of-r-in-Err
+shape_of-r-in-Err c = c.group-a.ensures.frame.rows_only.len ∙ c.loop-g.invariant.frame.rows_only.len
 
-pub shape_of-m-in-NoSum : goal.shape_of-m-in-NoSum
-shape_of-m-in-NoSum c = c.group-a.ensures.frame.matrices_only.len ∙ c.loop-g.invariant.frame.matrices_only.len
+pub shape_of-m-in-Err : goal.shape_of-m-in-Err
+shape_of-m-in-Err c = c.group-a.ensures.frame.matrices_only.len ∙ c.loop-g.invariant.frame.matrices_only.len
 
-pub shape_of-t-in-NoSum : goal.shape_of-t-in-NoSum
-shape_of-t-in-NoSum c = c.group-a.ensures.frame.terms_only.len ∙ c.loop-g.invariant.frame.terms_only.len
+pub shape_of-t-in-Err : goal.shape_of-t-in-Err
+shape_of-t-in-Err c = c.group-a.ensures.frame.terms_only.len ∙ c.loop-g.invariant.frame.terms_only.len
 
-pub returns-in-NoSum : goal.returns-in-NoSum
-returns-in-NoSum c =
+pub returns-in-Err : goal.returns-in-Err
+returns-in-Err c =
     let args = c.args in
     declines args.given.now.family args.given.now.link args.given.now.design.shape args.given.now.design.theta.now (sparse args.given.now.design.zt.starts.now args.given.now.design.zt.columns.now args.given.now.design.zt.values.now) args.given.now.y.now
     args.given.now.weights.now args.given.now.design.offset.now args.given.now.design.n args.given.now.design.p args.given.now.design.q args.order args.groups args.k args.phi _ _ _
     c.requires.roomy.ready.effects c.requires.roomy.lent c.requires.grouped _ _ _ _ _ _ c.loop-g.invariant c.loop-g-test.true _ _ _ _
-    c.group-a.ensures args.fit _ c.in-NoSum.is
+    c.group-a.ensures args.fit _ c.in-Err.is
 
 pub overflow_add-g : goal.overflow_add-g
 overflow_add-g c =
@@ -77,7 +77,7 @@ loop-g-preserved c =
     goes_on args.given.now.family args.given.now.link args.given.now.design.shape args.given.now.design.theta.now (sparse args.given.now.design.zt.starts.now args.given.now.design.zt.columns.now args.given.now.design.zt.values.now) args.given.now.y.now
     args.given.now.weights.now args.given.now.design.offset.now args.given.now.design.n args.given.now.design.p args.given.now.design.q args.order args.groups args.k args.phi _ _ _
     c.requires.roomy.ready.effects c.requires.roomy.lent c.requires.grouped _ _ _ _ _ _ c.loop-g.invariant c.loop-g-test.true _ _ _ _
-    c.group-a.ensures _ c.in-LogSum.is
+    c.group-a.ensures _ c.in-Ok.is
 
 pub shape_of-r : goal.shape_of-r
 shape_of-r c = c.loop-g.invariant.frame.rows_only.len

@@ -15,32 +15,32 @@ joint_sums-a-requires c = record {
   q_bound = c.requires.q_bound;
 }
 
-pub shape_of-m-in-Unscaled : goal.shape_of-m-in-Unscaled
-shape_of-m-in-Unscaled c = c.block_scale.ensures.matrices_only.len
+pub shape_of-m-in-Err : goal.shape_of-m-in-Err
+shape_of-m-in-Err c = c.block_scale.ensures.matrices_only.len
 
-pub shape_of-t-in-Unscaled : goal.shape_of-t-in-Unscaled
-shape_of-t-in-Unscaled c = c.block_scale.ensures.terms_only.len
+pub shape_of-t-in-Err : goal.shape_of-t-in-Err
+shape_of-t-in-Err c = c.block_scale.ensures.terms_only.len
 
-pub returns-in-Unscaled : goal.returns-in-Unscaled
-returns-in-Unscaled c =
+pub returns-in-Err : goal.returns-in-Err
+returns-in-Err c =
     let args = c.args in
     joint_unscaled args.given.now.family args.given.now.link args.given.now.design.shape args.given.now.design.theta.now (sparse args.given.now.design.zt.starts.now args.given.now.design.zt.columns.now args.given.now.design.zt.values.now)
     args.given.now.y.now args.given.now.weights.now args.given.now.design.offset.now args.given.now.design.n args.given.now.design.p args.given.now.design.q args.order args.phi args.fit _ _ _ _ _ _
-    c.requires.roomy.ready.effects c.requires.roomy.lent c.block_scale.ensures _ c.in-Unscaled.is
+    c.requires.roomy.ready.effects c.requires.roomy.lent c.block_scale.ensures _ c.in-Err.is
 
 pub shape_of-r : goal.shape_of-r
 shape_of-r c = c.joint_sums-a.ensures.frame.rows_only.len
 
-pub shape_of-m-in-Scaled : goal.shape_of-m-in-Scaled
-shape_of-m-in-Scaled c = c.joint_sums-a.ensures.frame.matrices_only.len ∙ c.block_scale.ensures.matrices_only.len
+pub shape_of-m-in-Ok : goal.shape_of-m-in-Ok
+shape_of-m-in-Ok c = c.joint_sums-a.ensures.frame.matrices_only.len ∙ c.block_scale.ensures.matrices_only.len
 
-pub shape_of-t-in-Scaled : goal.shape_of-t-in-Scaled
-shape_of-t-in-Scaled c = c.joint_sums-a.ensures.frame.terms_only.len ∙ c.block_scale.ensures.terms_only.len
+pub shape_of-t-in-Ok : goal.shape_of-t-in-Ok
+shape_of-t-in-Ok c = c.joint_sums-a.ensures.frame.terms_only.len ∙ c.block_scale.ensures.terms_only.len
 
-pub returns-in-Scaled : goal.returns-in-Scaled
-returns-in-Scaled c =
+pub returns-in-Ok : goal.returns-in-Ok
+returns-in-Ok c =
     let args = c.args in
     joint_scaled args.given.now.family args.given.now.link args.given.now.design.shape args.given.now.design.theta.now (sparse args.given.now.design.zt.starts.now args.given.now.design.zt.columns.now args.given.now.design.zt.values.now)
     args.given.now.y.now args.given.now.weights.now args.given.now.design.offset.now args.given.now.design.n args.given.now.design.p args.given.now.design.q args.order args.phi args.fit _ _ _ _ _ _
-    c.requires.roomy.ready.effects c.requires.roomy.lent c.block_scale.ensures _ _ _ _ _ c.requires.q_bound c.in-Scaled.is
+    c.requires.roomy.ready.effects c.requires.roomy.lent c.block_scale.ensures _ _ _ _ _ c.requires.q_bound c.in-Ok.is
     c.joint_sums-a.ensures c.joint_answer.ensures
