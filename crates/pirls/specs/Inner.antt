@@ -1,7 +1,6 @@
 -- What the inner fit answers and leaves. Document 01, "The inner fit". Assumes nothing.
 use Rattle.std.specs.Prelude.{Ok, Err}
 use Rattle.std.specs.Prelude.{◌≡◌, List, Bool, false, not, ℕ, zero, suc, ◌*◌, Float}
-use Rattle.base.specs.Number.{zero_f}
 use Rattle.base.specs.Rows.{row, Only}
 use Rattle.factor.specs.Inverse.{cholesky_inverse}
 use Rattle.layout.specs.WorkRows.{mu_row, deviance_row, rows_length}
