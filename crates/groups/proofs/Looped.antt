@@ -9,7 +9,6 @@ use native.Mathlib.Omega.{arith}
 use lib.Ieee.{Float, neg}
 use borrow.Author.Tests.{eq-eqb, ne_eqb}
 use Rattle.base.specs.Number.{◌⊕◌, ◌⊗◌, two_f, zero_f}
-use Rattle.base.specs.List.{at}
 use Rattle.base.specs.Sparse.{Sparse}
 use Rattle.base.proofs.Sums.{lt_or_ge}
 use Rattle.base.proofs.Fills.{row_fits}

@@ -1,13 +1,12 @@
 -- `groups::product_step` meets its contract: the row is the order's, and before group g, what the groups before it told is points before what the rule says of the rest.
-use mathlib.Core.Path.{refl, ◌∙◌}
-use Prim.Native.Nat.{◌-◌}
+use mathlib.Core.Path.{refl}
 use native.Mathlib.Omega.{arith}
 use lib.ListN.{replicate}
 use Rattle.base.specs.Number.{zero_f}
 use Rattle.stored.specs.Stored.{sparse}
 use Rattle.sums.proofs.Framed.{roomy_kept}
 use Rattle.sums.proofs.Grids.{logs_room, logs_of}
-use Rattle.groups.proofs.Looped.{effects_within, groups_few, begun, room_left, goes_on, declines, ends}
+use Rattle.groups.proofs.Looped.{effects_within, begun, room_left, goes_on, declines, ends}
 use Rattle.groups.proofs.product.product_step.Goals as goal
 
 pub log_weights-requires : goal.log_weights-requires
@@ -18,18 +17,6 @@ loop-g-init c =
     let args = c.args in
     begun args.given.now.family args.given.now.link args.given.now.design.shape args.given.now.design.theta.now (sparse args.given.now.design.zt.starts.now args.given.now.design.zt.columns.now args.given.now.design.zt.values.now) args.given.now.y.now
     args.given.now.weights.now args.given.now.design.offset.now args.given.now.design.n args.given.now.design.p args.given.now.design.q args.order args.groups args.k args.phi _ _ _
-
-pub group-a-requires : goal.group-a-requires
-group-a-requires c = record {
-  roomy = roomy_kept c.requires.roomy c.loop-g.invariant.frame.rows_only.len c.loop-g.invariant.frame.matrices_only.len
-      c.loop-g.invariant.frame.terms_only.len;
-  k_bound = (
-    effects_within c.args.given.now.design.q c.args.groups c.args.k c.loop-g.g c.args.order c.requires.grouped
-        c.loop-g-test.true,
-    c.requires.grouped.capped,
-    logs_of _ _ _ c.gh_rule-rule.ensures refl _ c.log_weights.ensures,
-  );
-}
 
 pub overflow_add-points : goal.overflow_add-points
 overflow_add-points c =
@@ -42,15 +29,6 @@ overflow_add-points c =
           c.loop-g-test.true,
     )
 
-pub shape_of-r-in-Err : goal.shape_of-r-in-Err
-shape_of-r-in-Err c = c.group-a.ensures.frame.rows_only.len ∙ c.loop-g.invariant.frame.rows_only.len
-
-pub shape_of-m-in-Err : goal.shape_of-m-in-Err
-shape_of-m-in-Err c = c.group-a.ensures.frame.matrices_only.len ∙ c.loop-g.invariant.frame.matrices_only.len
-
-pub shape_of-t-in-Err : goal.shape_of-t-in-Err
-shape_of-t-in-Err c = c.group-a.ensures.frame.terms_only.len ∙ c.loop-g.invariant.frame.terms_only.len
-
 pub returns-in-Err : goal.returns-in-Err
 returns-in-Err c =
     let args = c.args in
@@ -58,18 +36,6 @@ returns-in-Err c =
     args.given.now.weights.now args.given.now.design.offset.now args.given.now.design.n args.given.now.design.p args.given.now.design.q args.order args.groups args.k args.phi _ _ _
     c.requires.roomy.ready.effects c.requires.roomy.lent c.requires.grouped _ _ _ _ _ _ c.loop-g.invariant c.loop-g-test.true _ _ _ _
     c.group-a.ensures args.fit _ c.in-Err.is
-
-pub overflow_add-g : goal.overflow_add-g
-overflow_add-g c =
-    omega (
-      arith,
-      c.loop-g-test.true,
-      groups_few c.args.given.now.design.q c.args.groups c.args.k c.args.order c.requires.roomy.lent.sizes.q_some
-          c.requires.roomy.lent.sizes.q_few c.requires.grouped,
-    )
-
-pub loop-g-smaller : goal.loop-g-smaller
-loop-g-smaller c = omega (arith, c.loop-g-test.true)
 
 pub loop-g-preserved : goal.loop-g-preserved
 loop-g-preserved c =
@@ -79,18 +45,21 @@ loop-g-preserved c =
     c.requires.roomy.ready.effects c.requires.roomy.lent c.requires.grouped _ _ _ _ _ _ c.loop-g.invariant c.loop-g-test.true _ _ _ _
     c.group-a.ensures _ c.in-Ok.is
 
-pub shape_of-r : goal.shape_of-r
-shape_of-r c = c.loop-g.invariant.frame.rows_only.len
-
-pub shape_of-m : goal.shape_of-m
-shape_of-m c = c.loop-g.invariant.frame.matrices_only.len
-
-pub shape_of-t : goal.shape_of-t
-shape_of-t c = c.loop-g.invariant.frame.terms_only.len
-
 pub returns : goal.returns
 returns c =
     let args = c.args in
     ends args.given.now.family args.given.now.link args.given.now.design.shape args.given.now.design.theta.now (sparse args.given.now.design.zt.starts.now args.given.now.design.zt.columns.now args.given.now.design.zt.values.now) args.given.now.y.now
     args.given.now.weights.now args.given.now.design.offset.now args.given.now.design.n args.given.now.design.p args.given.now.design.q args.order args.groups args.k args.phi _ _ _
     c.requires.roomy.ready.effects c.requires.roomy.lent c.requires.grouped _ _ _ _ _ _ c.loop-g.invariant args.fit c.loop-g-test.false
+
+pub group-a-requires : goal.group-a-requires
+group-a-requires c = record {
+  roomy = roomy_kept c.requires.roomy c.loop-g.invariant.frame.rows_only.len c.loop-g.invariant.frame.matrices_only.len
+      c.loop-g.invariant.frame.terms_only.len;
+  k_bound = (
+    effects_within c.args.given.now.design.q c.args.groups c.args.k c.loop-g.g c.args.order c.requires.grouped
+        c.loop-g-test.true,
+    c.requires.grouped.capped,
+    logs_of _ _ _ c.gh_rule-rule.ensures refl _ c.log_weights.ensures,
+  );
+}

@@ -1,25 +1,7 @@
 -- `joint::joint_step` meets its contract: the scale of A is the rule's, and so is the sum.
-use mathlib.Core.Path.{refl, ◌∙◌}
-use native.Mathlib.Omega.{arith}
 use Rattle.stored.specs.Stored.{sparse}
-use Rattle.sums.proofs.Framed.{roomy_kept, scale_room}
 use Rattle.joint.proofs.JointSummed.{joint_unscaled, joint_scaled}
 use Rattle.joint.proofs.steps.joint_step.Goals as goal
-
-pub block_scale-requires : goal.block_scale-requires
-block_scale-requires c = scale_room 0 c.args.given.now.design.q c.requires.roomy.lent (omega arith)
-
-pub joint_sums-a-requires : goal.joint_sums-a-requires
-joint_sums-a-requires c = record {
-  roomy = roomy_kept c.requires.roomy refl c.block_scale.ensures.matrices_only.len c.block_scale.ensures.terms_only.len;
-  q_bound = c.requires.q_bound;
-}
-
-pub shape_of-m-in-Err : goal.shape_of-m-in-Err
-shape_of-m-in-Err c = c.block_scale.ensures.matrices_only.len
-
-pub shape_of-t-in-Err : goal.shape_of-t-in-Err
-shape_of-t-in-Err c = c.block_scale.ensures.terms_only.len
 
 pub returns-in-Err : goal.returns-in-Err
 returns-in-Err c =
@@ -27,15 +9,6 @@ returns-in-Err c =
     joint_unscaled args.given.now.family args.given.now.link args.given.now.design.shape args.given.now.design.theta.now (sparse args.given.now.design.zt.starts.now args.given.now.design.zt.columns.now args.given.now.design.zt.values.now)
     args.given.now.y.now args.given.now.weights.now args.given.now.design.offset.now args.given.now.design.n args.given.now.design.p args.given.now.design.q args.order args.phi args.fit _ _ _ _ _ _
     c.requires.roomy.ready.effects c.requires.roomy.lent c.block_scale.ensures _ c.in-Err.is
-
-pub shape_of-r : goal.shape_of-r
-shape_of-r c = c.joint_sums-a.ensures.frame.rows_only.len
-
-pub shape_of-m-in-Ok : goal.shape_of-m-in-Ok
-shape_of-m-in-Ok c = c.joint_sums-a.ensures.frame.matrices_only.len ∙ c.block_scale.ensures.matrices_only.len
-
-pub shape_of-t-in-Ok : goal.shape_of-t-in-Ok
-shape_of-t-in-Ok c = c.joint_sums-a.ensures.frame.terms_only.len ∙ c.block_scale.ensures.terms_only.len
 
 pub returns-in-Ok : goal.returns-in-Ok
 returns-in-Ok c =
