@@ -8,21 +8,16 @@ use job::Fault;
 use model::{Account, Answer, Shape};
 use reader::Header;
 
-// The first n bytes.
-fn put_front(bytes: &[u8], n: usize) {
-    text::put_word(&bytes[..n.min(bytes.len())]);
-}
-
 fn put_refused(fault: Fault) {
     let mut buffer = [0u8; 256];
     let n = lines::refused_line(&mut buffer, fault);
-    put_front(&buffer, n);
+    text::put_word(fed::front(&buffer, n));
 }
 
 fn put_end(answer: Answer) {
     let mut buffer = [0u8; 512];
     let n = lines::end_line(&mut buffer, answer);
-    put_front(&buffer, n);
+    text::put_word(fed::front(&buffer, n));
 }
 
 fn put_value(name: &[u8], index: usize, x: f64)
@@ -30,13 +25,13 @@ fn put_value(name: &[u8], index: usize, x: f64)
 {
     let mut buffer = [0u8; 256];
     let n = lines::value_line(&mut buffer, name, index, x);
-    put_front(&buffer, n);
+    text::put_word(fed::front(&buffer, n));
 }
 
 // The first n counts, after a word.
 fn put_counts(word: &[u8], xs: &[usize], n: usize) {
     text::put_word(word);
-    for x in &xs[..n.min(xs.len())] {
+    for x in fed::front(xs, n) {
         text::put_count(*x as u64);
     }
     text::end_line();
@@ -84,8 +79,8 @@ fn put_shape(shape: Shape) {
 
 // Each double of y on a line of its own, as the program prints its results.
 fn put_values(y: &[f64], n: usize) {
-    for i in 0..n.min(y.len()) {
-        put_value(b"y", i, y[i]);
+    for (i, x) in fed::front(y, n).iter().enumerate() {
+        put_value(b"y", i, *x);
     }
 }
 
@@ -218,18 +213,6 @@ fn end_lines() {
     put_value(b"v", 255, 1.0 / 0.0);
 }
 
-// The first n bytes as a job.
-fn front_job(bytes: &[u8], n: usize) {
-    one_job(&bytes[..n.min(bytes.len())]);
-}
-
-// The next n bytes of standard input as a job; at most as many as the space has.
-fn fed_job(space: &mut [u8], n: usize) {
-    let m = n.min(space.len());
-    io::read_full(0, &mut space[..m]);
-    front_job(space, m);
-}
-
 // The next job, behind one more than its length; whether there was one.
 fn next_job() -> bool {
     let n = fed::count();
@@ -237,7 +220,7 @@ fn next_job() -> bool {
         return false;
     }
     let mut space = [0u8; 1024];
-    fed_job(&mut space, n - 1);
+    one_job(fed::bytes(&mut space, n - 1));
     true
 }
 

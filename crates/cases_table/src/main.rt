@@ -6,20 +6,11 @@ use family::{CarriedFamily, CarriedLink};
 use model::{Inputs, Refusal, Settings, Shape};
 use table::LentLengths;
 
-fn family_code(family: CarriedFamily) -> u64 {
-    match family {
-        CarriedFamily::Binomial => 0,
-        CarriedFamily::Poisson => 1,
-        CarriedFamily::Gaussian => 2,
-        CarriedFamily::Gamma => 3,
-    }
-}
-
 fn put_verdict(verdict: Result<(CarriedFamily, CarriedLink), Refusal>) {
     match verdict {
         Ok((family, link)) => {
             text::put_count(0);
-            text::put_count(family_code(family));
+            text::put_count(family as u64);
             text::put_count(model::link_code(family::link_of(link)) as u64);
         }
         Err(refusal) => text::put_count(model::refusal_number(refusal) as u64),
@@ -83,8 +74,8 @@ fn ask(ns: &[usize], xs: &[f64]) {
             weights: fed::part(xs, 6),
             offset: fed::part(xs, 10),
             x: fed::part(xs, 14),
-            starts: fed::part_counts(ns, 0),
-            columns: fed::part_counts(ns, 4),
+            starts: fed::part(ns, 0),
+            columns: fed::part(ns, 4),
             values: fed::part(xs, 21),
         },
         next_lent(),
@@ -92,18 +83,11 @@ fn ask(ns: &[usize], xs: &[f64]) {
 }
 
 fn next_call() {
-    let mut ns = [0usize; 8];
-    let mut xs = [0.0; 25];
-    fed::counts(&mut ns);
-    fed::numbers(&mut xs);
+    let ns = fed::next_counts::<8>();
+    let xs = fed::next_numbers::<25>();
     ask(&ns, &xs);
 }
 
 fn main() {
-    for i in 0usize..1000 {
-        if !fed::put_name() {
-            return;
-        }
-        next_call();
-    }
+    fed::each_call(next_call);
 }
