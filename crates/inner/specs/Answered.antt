@@ -2,8 +2,7 @@
 use Rattle.quadrature.specs.declared.orders.Decline.{Decline}
 use Rattle.quadrature.specs.declared.orders.Order.{Order}
 use Rattle.std.specs.Prelude.{Result, Ok, Err}
-use Rattle.std.specs.Prelude.{◌≡◌, List, false, ℕ, Float}
-use Rattle.base.specs.Number.{zero_f}
+use Rattle.std.specs.Prelude.{◌≡◌, List, ℕ, Float}
 use Rattle.base.specs.Rows.{Only}
 use Rattle.layout.specs.WorkRows.{rows_length}
 use Rattle.layout.specs.WorkMatrices.{matrices_length}
