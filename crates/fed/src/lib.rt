@@ -131,6 +131,12 @@ pub fn limit() -> Option<usize> {
     (limit != usize::MAX).then_some(limit)
 }
 
+// A word, a blank and n.
+pub fn put_named(word: &[u8], n: u64) {
+    text::put_word(word);
+    text::put_count(n);
+}
+
 // The eight counts of an account.
 pub fn put_account(account: Account) {
     text::put_count(account.fits);
