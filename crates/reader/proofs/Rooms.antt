@@ -80,7 +80,7 @@ pub with_room : (s : List ℕ) (b : Inputs) → roomy b ≡ true → read_fault 
 unfolding read_fault demand first
 with_room s b e = rw e
 
-sound_is : (f : Checked) → f ≡ Ok tt → is_sound f ≡ true
+pub sound_is : (f : Checked) → f ≡ Ok tt → is_sound f ≡ true
 unfolding is_sound
 sound_is f e = rw e
 
