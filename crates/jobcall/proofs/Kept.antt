@@ -1,5 +1,5 @@
 -- A call that returns another number than 0 leaves all buffers but the counts as they were lent. Assumes nothing.
-use Rattle.std.specs.Prelude.{Ok, Err}
+use Rattle.std.specs.Prelude.{Ok, Err, Result}
 use mathlib.Core.Path.{◌≡◌, refl}
 use mathlib.Core.Bool.{Bool, true, false}
 use mathlib.Core.List.{List}
@@ -20,7 +20,7 @@ use Rattle.model.specs.Inputs.{Inputs}
 use Rattle.table.specs.Table.{table_of}
 use Rattle.family.specs.declared.carried.CarriedFamily.{CarriedFamily}
 use Rattle.family.specs.declared.carried.CarriedLink.{CarriedLink}
-use Rattle.dispersion.specs.Rounds.{Result, result, no_result, Dispersed}
+use Rattle.dispersion.specs.Rounds.{Result as FitResult, result, no_result, Dispersed}
 use Rattle.call.specs.Fit.{Fitted}
 use Rattle.call.specs.Call.{Lent, lengths_of, call_of}
 use Rattle.call.proofs.Leaves.{refused_left, asked_fit, unfitted_answer_lem, fitted_number}
@@ -56,7 +56,7 @@ module _ (t : Settings) (s : Shape) (I : Inputs) (rows matrices terms results : 
   unfolding done_for done_of
   accepted_returned f l e = by (asked_fit f l t s I).outcome refl
     where
-      by : (x : Result (Dispersed Fitted)) → (asked_fit f l t s I).outcome ≡ x → returned_by (call_of t s I given).answer.number ≡ 0
+      by : (x : FitResult (Dispersed Fitted)) → (asked_fit f l t s I).outcome ≡ x → returned_by (call_of t s I given).answer.number ≡ 0
       by (no_result end) q = rw (unfitted_answer_lem t s I given f l e end q) (end_returned end)
       by (result d) q = rw (fitted_number t s I given f l e d q) fitted_returned
 

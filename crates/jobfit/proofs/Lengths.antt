@@ -1,6 +1,6 @@
 -- The results of a fitted call are as long as the sizes ask: every list is made with its length, in the solve, in the tries and of the last mode. Assumes nothing.
 use Rattle.model.specs.declared.ends.Refusal.{Refusal}
-use Rattle.std.specs.Prelude.{Option, Some, None, Ok, Err, ⊤}
+use Rattle.std.specs.Prelude.{Option, Some, None, Ok, Err, ⊤, Result}
 use Prim.{Unit, tt}
 use mathlib.Core.Path.{◌≡◌, refl, ◌∙◌}
 use mathlib.Core.Bool.{Bool, true, false}
@@ -36,7 +36,7 @@ use Rattle.rule.specs.Run.{Ending, stopped, failed, Outcome, State, items_before
 use Rattle.rule.specs.Results.{v_from, se_of, z_values, residuals_of}
 use Rattle.agq_rule.specs.Inner.{with_points, after_run, inner_with, inner_of}
 use Rattle.dispersion.specs.Phi.{effective_n, round_of}
-use Rattle.dispersion.specs.Rounds.{Result, result, no_result, Total, Dispersed, total_before, with_flag, last_fit, after_round, after_fit, dispersion_from, dispersion_of, fixed_of}
+use Rattle.dispersion.specs.Rounds.{Result as FitResult, result, no_result, Total, Dispersed, total_before, with_flag, last_fit, after_round, after_fit, dispersion_from, dispersion_of, fixed_of}
 use Rattle.results.specs.Nine.{Results, results_from, results_of}
 use Rattle.model.specs.Inputs.{Inputs}
 use Rattle.table.specs.Table.{table_of}
@@ -139,7 +139,7 @@ abbrev EndingFits : Given → Ending → Type 0
 EndingFits G (stopped M) = ModeFits G M
 EndingFits G (failed e) = Unit {0}
 
-abbrev ResultFits : Given → Result Fitted → Type 0
+abbrev ResultFits : Given → FitResult Fitted → Type 0
 ResultFits G (result f) = ModeFits G f.mode
 ResultFits G (no_result e) = Unit {0}
 
@@ -181,12 +181,12 @@ module _ (G : Given) (phi : Float) where
   at_fits mu wish L = inner_fits (run_from G phi L (start_at G mu)).ending wish _ (run_fits L (start_at G mu))
 
 -- ---- the last of a fit
-abbrev LastFits : Given → Result (Dispersed Fitted) → Type 0
+abbrev LastFits : Given → FitResult (Dispersed Fitted) → Type 0
 LastFits G (result d) = ModeFits G d.last.mode
 LastFits G (no_result e) = Unit {0}
 
 module _ (G : Given) (count : Float) (inner : Float → Total Fitted) (fits : (phi : Float) → ResultFits G (inner phi).outcome) where
-  flag_fits : (flag : Bool) (phi : Float) (x : Result Fitted) → ResultFits G x → LastFits G (with_flag flag phi x)
+  flag_fits : (flag : Bool) (phi : Float) (x : FitResult Fitted) → ResultFits G x → LastFits G (with_flag flag phi x)
   unfolding with_flag
   flag_fits flag phi (result f) k = k
   flag_fits flag phi (no_result e) k = tt
@@ -196,7 +196,7 @@ module _ (G : Given) (count : Float) (inner : Float → Total Fitted) (fits : (p
   round_fits None f phi is rest k all = k
   round_fits (Some next) f phi is rest k all = all next
 
-  after_fit_lem : (x : Result Fitted) (phi : Float) (is : List Item) (rest : Float → Total (Dispersed Fitted)) → ResultFits G x → ((next : Float) → LastFits G (rest next).outcome) → LastFits G (after_fit count sum_of phi x is rest).outcome
+  after_fit_lem : (x : FitResult Fitted) (phi : Float) (is : List Item) (rest : Float → Total (Dispersed Fitted)) → ResultFits G x → ((next : Float) → LastFits G (rest next).outcome) → LastFits G (after_fit count sum_of phi x is rest).outcome
   unfolding after_fit
   after_fit_lem (no_result e) phi is rest k all = tt
   after_fit_lem (result f) phi is rest k all = round_fits (round_of count phi (sum_of f)) f phi is rest k all
@@ -251,7 +251,7 @@ module _ (t : Settings) (s : Shape) (I : Inputs) (L : Lent) (z : (call_of t s I 
       by (asked_fit f l t s I).outcome refl
       (by_fits (uses_dispersion (call_given f l t s I).family) (call_given f l t s I) (call_means f l t s I) t.n_agq (limit_of t.limit t.link))
     where
-      by : (x : Result (Dispersed Fitted)) → (asked_fit f l t s I).outcome ≡ x → LastFits (call_given f l t s I) x → ResultsFit t.n t.p t.rows (call_of t s I L).lent.results
+      by : (x : FitResult (Dispersed Fitted)) → (asked_fit f l t s I).outcome ≡ x → LastFits (call_given f l t s I) x → ResultsFit t.n t.p t.rows (call_of t s I L).lent.results
       by (no_result end) q k = absurd (end_some end (rw (unfitted_answer_lem t s I L f l e end q) at z))
       by (result d) q k =
           rw (fitted_results t s I L f l e d q, ← (accepted_sound 1 t s I (lengths_of L) f l e).sized.effects) (of_mode (call_given f l t s I) d.last.mode k)

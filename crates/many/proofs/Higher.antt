@@ -1,4 +1,5 @@
 -- A higher limit changes nothing of a response whose number is not 13, whatever the others came to, and shrinks no count of its work. Document 02, P13. Assumes nothing.
+use Prim.{tt}
 use Rattle.family.specs.declared.carried.CarriedFamily.{CarriedFamily}
 use Rattle.family.specs.declared.carried.CarriedLink.{CarriedLink}
 use Rattle.std.specs.Prelude.{Result, Ok, Err}
@@ -17,7 +18,6 @@ use Rattle.model.specs.Names.{limit_of}
 use Rattle.model.specs.declared.ends.Refusal.{Refusal}
 use Rattle.model.specs.declared.sizes.Shape.{Shape}
 use Rattle.model.specs.declared.sizes.Settings.{Settings}
-use Rattle.job.specs.declared.faults.Fault.TheVariants.{Sound}
 use Rattle.job.specs.Faults.{fault_of}
 use Rattle.job.specs.Lists.{laid}
 use Rattle.job.specs.Job.{Job, sound, job_of, read_by, read_of}
@@ -130,7 +130,7 @@ module _ (t : Settings) (s : Shape) (I : Inputs) (r : ℕ) (B : Buffers) (M : �
           rw (verdict_limited, e) (ap (told 0) (to_limited room r (le_refl r) (λ i h z. n i h (rw e (number_told room i h ∙ z)))))
 
 -- ---- the bytes of a sound job with r responses beside it, and a limit from its own to 1000; one that is not given counts as 100, with the inverse link as 1000
-module _ (s : List ℕ) (e : fault_of s ≡ Sound) (ys : List Float) (r : ℕ) (B : Buffers) (M : ℕ) (higher : limit_of (job_of s).settings.limit (job_of s).settings.link ≤ M) (few : M ≤ 1000) where
+module _ (s : List ℕ) (e : fault_of s ≡ Ok tt) (ys : List Float) (r : ℕ) (B : Buffers) (M : ℕ) (higher : limit_of (job_of s).settings.limit (job_of s).settings.link ≤ M) (few : M ≤ 1000) where
   abbrev asked : Job
   asked = job_of s
 

@@ -22,9 +22,7 @@ use Rattle.family.specs.declared.carried.CarriedFamily.{CarriedFamily}
 use Rattle.family.specs.declared.carried.CarriedLink.{CarriedLink}
 use Rattle.table.specs.Table.{table_of}
 use Rattle.table.proofs.When.{accepted_when}
-use Rattle.job.specs.declared.faults.Fault.{Fault}
-use Rattle.job.specs.declared.faults.Fault.TheVariants.{Sound, At}
-use Rattle.job.specs.Faults.{fault_of}
+use Rattle.job.specs.Faults.{Checked, fault_of}
 use Rattle.job.specs.Lists.{laid}
 use Rattle.job.specs.Job.{Job, sound, job_of, read_by, read_of}
 use Rattle.call.specs.Call.{FitNumber, lengths_of, call_of}
@@ -170,10 +168,10 @@ module _ (t : Settings) (s : Shape) (I : Inputs) (B : Buffers) (counts : counts_
 
 -- ---- a job
 module _ (B : Buffers) where
-  job_one : (f : Fault) (j : Job) → counts_length ≤ length B.counts → many_answered (read_by f j) 1 j.y B ≡ answered (read_by f j) B
+  job_one : (f : Checked) (j : Job) → counts_length ≤ length B.counts → many_answered (read_by f j) 1 j.y B ≡ answered (read_by f j) B
   unfolding many_answered answered read_by refused_with
-  job_one Sound j h = one_single j.settings j.shape (inputs_of j) B h
-  job_one (At k b) j h = refl
+  job_one (Ok t) j h = one_single j.settings j.shape (inputs_of j) B h
+  job_one (Err e) j h = refl
 
   pub one_by_one : (s : List ℕ) → fit_many_of s (job_of s).y 1 B ≡ fit_job_of s B
   unfolding fit_many_of fit_job_of counted read_of

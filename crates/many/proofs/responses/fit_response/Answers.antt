@@ -1,9 +1,9 @@
 -- `many::fit_response` meets its contract: the parts that it lends are those of response i, and they come back in their places. Assumes nothing.
 use mathlib.Core.Path.{refl}
-use native.Mathlib.Omega.{arith}
-use Rattle.many.proofs.Placing.{fronts_part, response_done, rows_small, block_small, block_room}
+use Rattle.many.proofs.Placing.{response_done}
 use Rattle.many.proofs.responses.fit_response.Goals as goal
 
+<<<<<<< Updated upstream
 pub results_length-block-requires : goal.results_length-block-requires
 results_length-block-requires c = let f = c.requires.1.fronts.sizes in (f.n, f.p, f.q)
 
@@ -97,4 +97,12 @@ returns c =
     let a = c.args in
     response_done a.header a.shape a.lists.now.theta.now a.lists.now.y.now a.lists.now.weights.now a.lists.now.offset.now a.lists.now.x.now a.lists.now.starts.now a.lists.now.columns.now
     a.lists.now.values.now a.i _ _ _ refl c.offset-from.ensures.0 refl _ _ _ _ _ c.results_length-block.ensures c.offset-first.ensures.0 refl
+=======
+pub returns : goal.returns
+returns c =
+    let a = c.args in
+    let l = a.lists.now in
+    response_done a.header a.shape l.theta.now l.y.now l.weights.now l.offset.now l.x.now l.starts.now l.columns.now
+    l.values.now a.i _ _ _ refl c.offset-from.ensures.0 refl _ _ _ _ _ c.results_length-block.ensures c.offset-first.ensures.0 refl
+>>>>>>> Stashed changes
     c.offset-at.ensures.0 refl _ _ _ _ _ _ _ _ _ _ _ c.fit_fronts-answer.ensures c.put_counts.ensures
