@@ -8,10 +8,5 @@ returns c =
     let a = c.args in
     let l = a.lists.now in
     c.fit_results.ensures
-<<<<<<< Updated upstream
-    ∙ done_parts a.header a.shape a.lists.now.theta.now a.lists.now.y.now a.lists.now.weights.now a.lists.now.offset.now a.lists.now.x.now a.lists.now.starts.now a.lists.now.columns.now
-    a.lists.now.values.now a.rows.now a.matrices.now a.terms.now a.results.now
-=======
     ∙ done_parts a.header a.shape l.theta.now l.y.now l.weights.now l.offset.now l.x.now l.starts.now l.columns.now
     l.values.now a.rows.now a.matrices.now a.terms.now a.results.now
->>>>>>> Stashed changes

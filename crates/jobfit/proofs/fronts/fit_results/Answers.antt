@@ -17,9 +17,4 @@ returns c =
     let args = c.args in
     c.fit_written.ensures
     ∙ done_fresh args.settings args.shape
-<<<<<<< Updated upstream
-    (inputs args.lists.now.theta.now args.lists.now.y.now args.lists.now.weights.now args.lists.now.offset.now args.lists.now.x.now args.lists.now.starts.now args.lists.now.columns.now
-    args.lists.now.values.now) args.rows.now args.matrices.now args.terms.now args.results.now _ c.requires c.beta_length-width.ensures
-=======
     (inputs_in args.lists.now) args.rows.now args.matrices.now args.terms.now args.results.now _ c.requires c.beta_length-width.ensures
->>>>>>> Stashed changes

@@ -11,8 +11,4 @@ returns c =
     let l = a.lists.now in
     c.verdict_of.ensures
     ∙ ap (λ (I : Inputs). table_of a.responses a.header.settings a.shape I a.lent)
-<<<<<<< Updated upstream
-    (fronts_many a.header a.lists.now.theta.now a.lists.now.y.now a.lists.now.weights.now a.lists.now.offset.now a.lists.now.x.now a.lists.now.starts.now a.lists.now.columns.now a.lists.now.values.now)
-=======
     (fronts_many a.header l.theta.now l.y.now l.weights.now l.offset.now l.x.now l.starts.now l.columns.now l.values.now)
->>>>>>> Stashed changes

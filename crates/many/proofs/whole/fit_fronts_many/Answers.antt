@@ -13,19 +13,11 @@ pub fit_each-requires : goal.fit_each-requires
 fit_each-requires c =
     let a = c.args in
     roomy_by a.responses a.header a.shape
-<<<<<<< Updated upstream
-    (inputs a.lists.now.theta.now a.lists.now.y.now a.lists.now.weights.now a.lists.now.offset.now a.lists.now.x.now a.lists.now.starts.now a.lists.now.columns.now a.lists.now.values.now)
-    (buffers a.rows.now a.matrices.now a.terms.now a.results.now a.counts.now) _ _
-    (verdict_is a.responses a.header.settings a.shape
-    (many_fronts a.header
-    (inputs a.lists.now.theta.now a.lists.now.y.now a.lists.now.weights.now a.lists.now.offset.now a.lists.now.x.now a.lists.now.starts.now a.lists.now.columns.now a.lists.now.values.now)) a.rows.now
-=======
     (inputs_in a.lists.now)
     (buffers a.rows.now a.matrices.now a.terms.now a.results.now a.counts.now) _ _
     (verdict_is a.responses a.header.settings a.shape
     (many_fronts a.header
     (inputs_in a.lists.now)) a.rows.now
->>>>>>> Stashed changes
     a.matrices.now a.terms.now a.results.now a.counts.now _ _ _ c.few_of-few.ensures c.lengths_for-lent.ensures
     c.verdict_fronts-verdict.ensures _ c.in-Ok.is) c.requires.1
 
@@ -34,11 +26,7 @@ returns-in-Err c =
     let a = c.args in
     refused_told a.responses a.header.settings a.shape
     (many_fronts a.header
-<<<<<<< Updated upstream
-    (inputs a.lists.now.theta.now a.lists.now.y.now a.lists.now.weights.now a.lists.now.offset.now a.lists.now.x.now a.lists.now.starts.now a.lists.now.columns.now a.lists.now.values.now)) a.rows.now
-=======
     (inputs_in a.lists.now)) a.rows.now
->>>>>>> Stashed changes
     a.matrices.now a.terms.now a.results.now a.counts.now _ _ _ c.few_of-few.ensures c.lengths_for-lent.ensures
     c.verdict_fronts-verdict.ensures _ _ _ c.in-Err.is c.refusal_number-number.ensures
     c.put_refusal.ensures
@@ -48,10 +36,6 @@ returns-in-Ok c =
     let a = c.args in
     fitted_told a.responses a.header.settings a.shape
     (many_fronts a.header
-<<<<<<< Updated upstream
-    (inputs a.lists.now.theta.now a.lists.now.y.now a.lists.now.weights.now a.lists.now.offset.now a.lists.now.x.now a.lists.now.starts.now a.lists.now.columns.now a.lists.now.values.now)) a.rows.now
-=======
     (inputs_in a.lists.now)) a.rows.now
->>>>>>> Stashed changes
     a.matrices.now a.terms.now a.results.now a.counts.now _ _ _ c.few_of-few.ensures c.lengths_for-lent.ensures
     c.verdict_fronts-verdict.ensures _ _ _ c.in-Ok.is c.fit_each.ensures
