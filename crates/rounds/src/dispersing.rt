@@ -40,7 +40,7 @@ fn dispersed_fit(
     let effective = effective_n(given.weights, design.n);
     let mut phi = 1.0;
     let mut account = Account::none();
-    for _k in 0..240 {
+    for _k in 0..240_usize {
         let a = inner_at(given, phi, limit, wish, start, r, m, t);
         account = account.plus(a.account);
         match round_after(a, effective, phi) {
