@@ -16,7 +16,10 @@ loop-i-init c =
 pub loop-i-preserved : goal.loop-i-preserved
 loop-i-preserved c =
     let a = c.args in
-    let at = c.loop-i in (at.invariant.0, joint_turn a.given.now.family a.given.now.link a.given.now.design.shape a.given.now.design.theta.now (sparse a.given.now.design.zt.starts.now a.given.now.design.zt.columns.now a.given.now.design.zt.values.now) a.given.now.y.now a.given.now.weights.now
+    let at = c.loop-i in (
+      at.invariant.0,
+      joint_turn a.given.now.family a.given.now.link a.given.now.design.shape a.given.now.design.theta.now (sparse a.given.now.design.zt.starts.now a.given.now.design.zt.columns.now a.given.now.design.zt.values.now) a.given.now.y.now a.given.now.weights.now
           a.given.now.design.offset.now a.given.now.design.n a.given.now.design.q a.xbeta a.r.now at.r c.requires.room.in_r a.size a.l a.u a.trial a.nodes.now
           a.node_logs.now a.inv_phi a.m.now at.m a.terms.now at.terms at.i _ c.requires.grid at.invariant.0 at.invariant.1 _ _ _
-          c.joint_point-term.ensures)
+          c.joint_point-term.ensures,
+    )
