@@ -5,7 +5,7 @@
 ghost use Rattle.std.specs.Prelude.{◌≤◌, length};
 
 use job::Fault;
-use model::{Account, Answer, Shape};
+use model::{Account, Answer, Inputs, Shape};
 use reader::Header;
 
 fn put_refused(fault: Fault) {
@@ -93,41 +93,30 @@ fn cells(n: usize, p: usize) -> usize
 }
 
 // The lists of an accepted job.
-fn put_lists(header: Header, theta: &[f64], y: &[f64], weights: &[f64], offset: &[f64], x: &[f64]) {
+fn put_lists(header: Header, lists: &Inputs<'_>) {
     let settings = header.settings;
-    put_doubles(b"theta", theta, header.thetas);
-    put_doubles(b"y", y, settings.n);
-    put_doubles(b"weights", weights, header.weights);
-    put_doubles(b"offset", offset, header.offset);
-    put_doubles(b"x", x, cells(settings.n, settings.p));
+    put_doubles(b"theta", lists.theta, header.thetas);
+    put_doubles(b"y", lists.y, settings.n);
+    put_doubles(b"weights", lists.weights, header.weights);
+    put_doubles(b"offset", lists.offset, header.offset);
+    put_doubles(b"x", lists.x, cells(settings.n, settings.p));
 }
 
 // The rows of Z' of an accepted job.
-fn put_rows(header: Header, starts: &[usize], columns: &[usize], values: &[f64]) {
+fn put_rows(header: Header, lists: &Inputs<'_>) {
     let settings = header.settings;
     let entries = settings.entries;
-    put_counts(b"starts", starts, settings.rows.min(32) + 2);
-    put_counts(b"columns", columns, entries.min(8192) + 1);
-    put_doubles(b"values", values, entries);
+    put_counts(b"starts", lists.starts, settings.rows.min(32) + 2);
+    put_counts(b"columns", lists.columns, entries.min(8192) + 1);
+    put_doubles(b"values", lists.values, entries);
 }
 
-fn put_accepted(
-    header: Header,
-    shape: Shape,
-    theta: &[f64],
-    y: &[f64],
-    weights: &[f64],
-    offset: &[f64],
-    x: &[f64],
-    starts: &[usize],
-    columns: &[usize],
-    values: &[f64],
-) {
+fn put_accepted(header: Header, shape: Shape, lists: &Inputs<'_>) {
     put_header(header);
     put_shape(shape);
-    put_lists(header, theta, y, weights, offset, x);
-    put_rows(header, starts, columns, values);
-    put_values(y, header.settings.n);
+    put_lists(header, lists);
+    put_rows(header, lists);
+    put_values(lists.y, header.settings.n);
 }
 
 // What reading answers and leaves in the slices.
@@ -156,14 +145,16 @@ fn one_job(job: &[u8]) {
         Ok(found) => put_accepted(
             found.header,
             found.shape,
-            &theta,
-            &y,
-            &weights,
-            &offset,
-            &x,
-            &starts,
-            &columns,
-            &values,
+            &Inputs {
+                theta: &theta,
+                y: &y,
+                weights: &weights,
+                offset: &offset,
+                x: &x,
+                starts: &starts,
+                columns: &columns,
+                values: &values,
+            },
         ),
     }
 }
