@@ -70,9 +70,9 @@ fn put_header(header: Header) {
 fn put_shape(shape: Shape) {
     text::put_word(b"blocks");
     text::put_count(shape.count as u64);
-    for i in 0..8 {
-        text::put_count(shape.m[i] as u64);
-        text::put_count(shape.k[i] as u64);
+    for (m, k) in shape.m.iter().zip(&shape.k) {
+        text::put_count(*m as u64);
+        text::put_count(*k as u64);
     }
     text::end_line();
 }

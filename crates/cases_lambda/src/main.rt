@@ -12,8 +12,8 @@ fn scatter(from: f64, out: &mut [f64], n: usize)
     requires { n ≤ length out.old }
 {
     let mut x = from;
-    for i in 0..n {
-        out[i] = x;
+    for place in &mut out[..n] {
+        *place = x;
         x = 3.9 * x * (1.0 - x);
     }
 }

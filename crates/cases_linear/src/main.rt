@@ -64,9 +64,9 @@ fn scatter(n: usize, out: &mut [f64])
     requires { n ≤ length out.old }
 {
     let mut v = 0.3;
-    for i in 0..n {
+    for place in &mut out[..n] {
         v = 3.7 * v * (1.0 - v);
-        out[i] = v - 0.5;
+        *place = v - 0.5;
     }
 }
 
