@@ -31,13 +31,13 @@ pub held_within : (input : Result ℕ InputError) (n most : ℕ) → input ≡ O
 held_within input n most e h = rw e at h
 
 -- ---- what is to be printed, by the input
-pub failed_printed : (input : Result ℕ InputError) (space : List ℕ) (terms : List Float) (out : List ℕ) → input ≡ (Err Failed) → Printed input space terms out 0 terms out
+pub failed_printed : (input : Result ℕ InputError) (e : InputError) (space : List ℕ) (terms : List Float) (out : List ℕ) → input ≡ Err e → e ≡ Failed → Printed input space terms out 0 terms out
 unfolding Printed
-failed_printed input space terms out e = rw e refl
+failed_printed input e space terms out d h = rw (d, h) refl
 
-pub long_printed : (input : Result ℕ InputError) (space : List ℕ) (terms : List Float) (out w : List ℕ) (r : ℕ) → input ≡ (Err TooLong) → RespondLong out r w → Printed input space terms out r terms w
+pub long_printed : (input : Result ℕ InputError) (e : InputError) (space : List ℕ) (terms : List Float) (out w : List ℕ) (r : ℕ) → input ≡ Err e → e ≡ TooLong → RespondLong out r w → Printed input space terms out r terms w
 unfolding Printed
-long_printed input space terms out w r e h = rw e (refl, h)
+long_printed input e space terms out w r d t h = rw (d, t) (refl, h)
 
 -- the bytes that are held are lent as a part from 0
 pub held_printed : (input : Result ℕ InputError) (n : ℕ) (space : List ℕ) (terms after : List Float) (out w : List ℕ) (r : ℕ) → input ≡ Ok n

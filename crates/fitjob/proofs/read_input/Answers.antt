@@ -1,5 +1,4 @@
 -- `fitjob::read_input` is safe and ends: each turn reads one byte at least, and what is held is within the space. Assumes nothing.
-use Prim.Native.Nat.{◌-◌}
 use native.Mathlib.Omega.{arith}
 use Rattle.fitjob.proofs.Reading.{ended_within, more_of}
 use borrow.Author.Rules.{rules}
@@ -20,8 +19,3 @@ returns-in-Break g c =
     let inv = c.loop-at.invariant in
     let within = ended_within _ _ _ _ _ c.after_read.ensures c.in-Break.is inv.0 in
     omega (arith, within, inv.2)
-
-pub returns : goal.returns
-returns g c =
-    let inv = c.loop-at.invariant in
-    omega (arith, c.read_past.ensures, inv.2)

@@ -3,13 +3,6 @@ use native.Mathlib.Omega.{arith}
 use Rattle.manytext.proofs.Written.{text_few}
 use Rattle.fitmany.proofs.put_pieces.Goals as goal
 
-pub loop-i-init : goal.loop-i-init
-loop-i-init c = c.count_of-count.ensures
-
-pub put_piece-n-requires : goal.put_piece-n-requires
-put_piece-n-requires c =
-    (omega (arith, c.loop-i.auto.out, c.requires.0), omega (arith, c.loop-i.invariant, c.loop-i-test.true), c.requires.1)
-
 pub slice_bounds-put-end : goal.slice_bounds-put-end
 slice_bounds-put-end c =
     let put-piece = c.put_piece-n in

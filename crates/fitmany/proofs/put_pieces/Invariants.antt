@@ -1,7 +1,8 @@
 -- `fitmany::put_pieces` is safe and ends: what the call left can be written piece by piece, and no piece is longer than the bytes. Assumes nothing.
 use mathlib.Core.Path.{◌≡◌}
+use lib.ListN.{length}
 use Rattle.manytext.specs.Pieces.{pieces_of}
 use Rattle.fitmany.proofs.put_pieces.Given as goal
 
 abbrev pub invariant-loop-i : goal.invariant-loop-i
-invariant-loop-i l = l.count ≡ pieces_of l.pieces
+invariant-loop-i l = (length l.out ≡ length l.initial.out) × (l.count ≡ pieces_of l.pieces)
