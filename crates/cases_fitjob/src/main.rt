@@ -9,7 +9,7 @@ fn put_job(number: u64, job: &[u8], terms: &mut [f64], out: &mut [u8]) {
     text::put_count(number);
     text::end_line();
     let n = respond::respond(job, terms, out);
-    text::put_word(&out[..n]);
+    text::put_word(&out[0..n]);
 }
 
 // A length in three bytes, the high byte first; at most as long as a job may be.
