@@ -20,7 +20,7 @@ def entries(job):
 def settings(job):
     limit = job.get("limit")
     return record(family="family." + job["family"].capitalize(), link="link." + job["link"].capitalize(), **{"n_agq": job.get("n_agq", 1)},
-                  limit="limit.NotGiven" if limit is None else f"limit.Given {limit}", n=len(job["y"]), p=len(job["x"][0]), rows=len(job["zt"]),
+                  limit="None" if limit is None else f"Some {limit}", n=len(job["y"]), p=len(job["x"][0]), rows=len(job["zt"]),
                   entries=len(entries(job)), start="start." + job.get("start", "usual").capitalize())
 
 
@@ -58,6 +58,7 @@ def file_of(about):
     uses = [f"use {module}.{{{', '.join(names)}}}" for module, names in opened]
     names = " ".join(["told_of", *IEEE, *(n for _, names in opened for n in names)])
     return f"""-- {about['says']} Made by tools/cases/call.py; the right side is the oracle's answer. Assumes nothing.
+use Rattle.std.specs.Prelude.{{{"None" if job.get("limit") is None else "Some"}}}
 use mathlib.Core.Path.{{◌≡◌, refl}}
 use mathlib.Core.Bool.{{{"true" if end["disp"] else "false"}}}
 use mathlib.Core.List.{{[], ◌∷◌}}
@@ -69,7 +70,6 @@ use Rattle.model.specs.declared.sizes.Shape.{{Shape}}
 use Rattle.model.specs.declared.sizes.Settings.{{Settings}}
 use Rattle.model.specs.declared.names.Family.TheVariants as family
 use Rattle.model.specs.declared.names.Link.TheVariants as link
-use Rattle.model.specs.declared.names.Limit.TheVariants as limit
 use Rattle.model.specs.declared.names.Start.TheVariants as start
 use Rattle.table.specs.declared.verdicts.LentLengths.{{LentLengths}}
 use Rattle.call.specs.Call.{{Lent}}

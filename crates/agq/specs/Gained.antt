@@ -11,6 +11,8 @@ use Rattle.family.specs.declared.carried.CarriedLink.{CarriedLink}
 use Rattle.stored.specs.Stored.{z_times_at}
 use Rattle.lambda.specs.Product.{lambda_times_at}
 use Rattle.working.specs.Optional.{Optional}
+use Rattle.stored.specs.Lent.{sparse_in}
+use Rattle.rule.specs.declared.given.Given.{Given}
 use Rattle.points.specs.Gain.{marked, mean_over, entered}
 
 -- the sizes that a point asks for
@@ -23,6 +25,12 @@ pub record Room (shape : Shape) (theta : List Float) (starts columns : List ℕ)
   pub offsets : Optional n offset
   pub in_r : xbeta + n + n + n + n ≤ length r
   pub in_m : trial + q + q ≤ length m
+
+-- the same of what is given as it is lent
+abbrev pub RoomFor : Given → ℕ → (r : List Float) → ℕ → (m : List Float) → Type 0
+RoomFor g xbeta r trial m =
+    Room g.design.shape g.design.theta.now g.design.zt.starts.now g.design.zt.columns.now g.design.zt.values.now g.y.now g.design.offset.now g.design.n
+    g.design.q xbeta r trial m
 
 -- Λu
 unfoldable pub effects_at : Shape → List Float → ℕ → List Float → List Float
@@ -46,3 +54,14 @@ pub record GainedIn (family : CarriedFamily) (link : CarriedLink) (shape : Shape
   pub gain : g ≡ gain_in family link shape theta Z y weights offset n q xbeta r (row trial q m)
   pub b : Wrote (trial + q) q (effects_at shape theta q (row trial q m)) m m'
   pub means : Wrote (xbeta + n + n) n (build (mean_over link offset (row xbeta n r) (predicted_at shape theta Z n q (row trial q m)) (row (xbeta + n + n + n) n r)) n) r r'
+
+-- dd of what is given as it is lent
+abbrev pub gain_for : Given → ℕ → List Float → List Float → Float
+gain_for g xbeta r t =
+    gain_in g.family g.link g.design.shape g.design.theta.now (sparse_in g.design.zt) g.y.now g.weights.now g.design.offset.now g.design.n g.design.q xbeta r t
+
+-- what `point_gain` answers and leaves of it
+abbrev pub GainedFor : Given → ℕ → ℕ → (r r' m m' : List Float) → Float → Type 0
+GainedFor g xbeta trial r r' m m' d =
+    GainedIn g.family g.link g.design.shape g.design.theta.now (sparse_in g.design.zt) g.y.now g.weights.now g.design.offset.now g.design.n g.design.q xbeta
+    trial r r' m m' d

@@ -9,6 +9,8 @@ use Rattle.model.specs.declared.sizes.Shape.{Shape}
 use Rattle.family.specs.declared.carried.CarriedFamily.{CarriedFamily}
 use Rattle.family.specs.declared.carried.CarriedLink.{CarriedLink}
 use Rattle.agq_rule.specs.Term.{delta_of, penalty_at, one_moved}
+use Rattle.stored.specs.Lent.{sparse_in}
+use Rattle.rule.specs.declared.given.Given.{Given}
 use Rattle.agq.specs.Gained.{effects_at, gain_in}
 
 -- the effects `before` with that of group g moved from û
@@ -38,3 +40,15 @@ pub record OnesIn (f : ℕ → Float) (n q xbeta trial size : ℕ) (r r' m m' t 
   pub terms : t' ≡ fill_to size f t
   pub in_m : Only trial (q + q) m m'
   pub in_r : Only (xbeta + n + n) n r r'
+
+-- what `one_point` answers and leaves of what is given as it is lent
+abbrev pub OneFor : Given → (xbeta g : ℕ) → (sigma node logWeight inv : Float) → (u trial : ℕ) → (r r' m m' : List Float) → Float → Type 0
+OneFor d xbeta g sigma node logWeight inv u trial r r' m m' x =
+    OneIn d.family d.link d.design.shape d.design.theta.now (sparse_in d.design.zt) d.y.now d.weights.now d.design.offset.now d.design.n d.design.q xbeta g sigma
+    node logWeight inv u trial r r' m m' x
+
+-- the log term at node i of what is given as it is lent
+abbrev pub one_term_for : Given → (xbeta g : ℕ) → (sigma inv : Float) → (u r before nodes logs : List Float) → ℕ → Float
+one_term_for d xbeta g sigma inv u r before nodes logs =
+    one_term_at_node d.family d.link d.design.shape d.design.theta.now (sparse_in d.design.zt) d.y.now d.weights.now d.design.offset.now d.design.n d.design.q
+    xbeta g sigma inv u r before nodes logs

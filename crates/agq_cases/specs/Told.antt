@@ -1,5 +1,6 @@
 -- What an inner fit with its quadrature tells: its number, the order used, its account, and the deviance where it reached a mode. Assumes nothing.
-use Rattle.std.specs.Prelude.{ℕ, Float}
+use Rattle.quadrature.specs.declared.orders.Order.{Order}
+use Rattle.std.specs.Prelude.{Result, Ok, Err, ℕ, Float}
 use Rattle.base.specs.Number.{zero_f, one_f}
 use Rattle.model.specs.Answer.{end_number}
 use Rattle.model.specs.Items.{tally}
@@ -9,8 +10,6 @@ use Rattle.quadrature.specs.declared.orders.Decline.{Decline}
 use Rattle.rule.specs.Given.{Given}
 use Rattle.rule.specs.Run.{start_means}
 use Rattle.agq_rule.specs.Inner.{deviance_by, order_by, InnerEnd, with_mode, without_mode, Inner, inner_of}
-use Rattle.agq_rule.specs.declared.answers.Integral.{Integral}
-use Rattle.agq_rule.specs.declared.answers.Integral.TheVariants.{Deviance, Declined}
 
 -- why a quadrature declined, if it did
 pub data Reason : Type 0 where
@@ -19,9 +18,9 @@ pub data Reason : Type 0 where
   no_mode : Reason
 
 -- of what it answered
-unfoldable pub reason_by : Integral → Reason
-reason_by (Deviance d o) = used
-reason_by (Declined d) = because d
+unfoldable pub reason_by : Result (Float × Order) Decline → Reason
+reason_by (Ok (d, o)) = used
+reason_by (Err d) = because d
 
 -- all that is compared
 pub record Told : Type 0 where

@@ -1,4 +1,6 @@
 -- The caps of the inner fit with its quadrature: the run's, and of points at most 11 a group of one effect, 400 a group of more, 7,000 over several blocks; and its accepted tries, which points are not. Assumes nothing.
+use Rattle.quadrature.specs.declared.orders.Decline.{Decline}
+use Rattle.std.specs.Prelude.{Result, Ok, Err}
 use mathlib.Core.Path.{◌≡◌, refl}
 use mathlib.Core.Bool.{Bool, true, false, cond}
 use mathlib.Core.List.{List, [], ◌++◌}
@@ -26,8 +28,6 @@ use Rattle.family.specs.Carried.{link_of}
 use Rattle.quadrature.specs.LogSum.{log_sum_exp}
 use Rattle.quadrature.specs.Orders.{size_of, product_order, joint_order}
 use Rattle.quadrature.specs.declared.orders.Order.{Order}
-use Rattle.quadrature.specs.declared.orders.Choice.{Choice}
-use Rattle.quadrature.specs.declared.orders.Choice.TheVariants.{Use, Without}
 use Rattle.quadrature.proofs.Chosen.{size_to}
 use Rattle.quadrature.proofs.OrderFacts.{product_within, joint_within}
 use Rattle.rule.specs.Given.{Given, q_of}
@@ -114,15 +114,15 @@ one_cap : (o : Order) (b : Bool) → b ≡ true → size_of o ≤ cond b 11 400
 one_cap o true e = size_to o
 one_cap o false e = omega (arith, size_to o)
 
-several_cap : (wish k : ℕ) (o : Order) (b : Bool) → product_order wish k ≡ Use o → eqb k 1 ≡ b → b ≡ false → size_of o ^ k ≤ cond b 11 400
+several_cap : (wish k : ℕ) (o : Order) (b : Bool) → product_order wish k ≡ Ok o → eqb k 1 ≡ b → b ≡ false → size_of o ^ k ≤ cond b 11 400
 several_cap wish k o true e t h = absurd (let z : ◌≡◌ {A = ℕ} 0 1 = cc in omega arith)
 several_cap wish k o false e t h = product_within wish k o (eqb-false k 1 t) e
 
 module _ (G : Given) (wish : ℕ) (M : Mode) (phi : Float) where
-  product_points : (m k : ℕ) (c : Choice) → product_order wish k ≡ c → Points (cond (eqb k 1) 11 400 * m) (product_with c G M phi m k).items
+  product_points : (m k : ℕ) (c : Result Order Decline) → product_order wish k ≡ c → Points (cond (eqb k 1) 11 400 * m) (product_with c G M phi m k).items
   unfolding product_with answers
-  product_points m k (Without d) e = no_points (cond (eqb k 1) 11 400 * m)
-  product_points m k (Use o) e =
+  product_points m k (Err d) e = no_points (cond (eqb k 1) 11 400 * m)
+  product_points m k (Ok o) e =
       groups_points G M phi o k (cond (eqb k 1) 11 400) (one_cap o (eqb k 1)) (several_cap wish k o (eqb k 1) e refl) m 0 zero_f
 
   -- ---- several blocks
@@ -132,10 +132,10 @@ module _ (G : Given) (wish : ℕ) (M : Mode) (phi : Float) where
   scale_points (scaled L) o l =
       points_more (omega arith) (terms_points 0 (joint_total M o) (λ s. no_points 0) 7000 (size_of o ^ q_of G.design) (joint_term G M phi o L) l)
 
-  joint_points : (c : Choice) → joint_order wish (q_of G.design) ≡ c → Points 7000 (joint_with c G M phi).items
+  joint_points : (c : Result Order Decline) → joint_order wish (q_of G.design) ≡ c → Points 7000 (joint_with c G M phi).items
   unfolding joint_with answers
-  joint_points (Without d) e = no_points 7000
-  joint_points (Use o) e = scale_points (block_scale (q_of G.design) M.system) o (joint_within wish (q_of G.design) o e).1
+  joint_points (Err d) e = no_points 7000
+  joint_points (Ok o) e = scale_points (block_scale (q_of G.design) M.system) o (joint_within wish (q_of G.design) o e).1
 
   -- ---- either
   step_points : (b : Bool) → Points (cond b (cond (eqb (G.design.shape.k !! 0) 1) 11 400 * (G.design.shape.m !! 0)) 7000) (step_by b G wish M phi).items

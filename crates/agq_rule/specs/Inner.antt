@@ -1,5 +1,7 @@
 -- The inner fit with its quadrature. Document 01, "The inner fit", what a step that declines leaves to the fit; document 02, P5. Assumes nothing.
-use Rattle.std.specs.Prelude.{List, ◌++◌, ℕ, Float}
+use Rattle.quadrature.specs.declared.orders.Decline.{Decline}
+use Rattle.quadrature.specs.declared.orders.Order.{Order}
+use Rattle.std.specs.Prelude.{List, ◌++◌, ℕ, Float, Result, Ok, Err}
 use Rattle.model.specs.Items.{Item}
 use Rattle.model.specs.declared.ends.End.{End}
 use Rattle.quadrature.specs.Orders.{size_of, decline_number}
@@ -7,27 +9,25 @@ use Rattle.rule.specs.Given.{Given}
 use Rattle.rule.specs.Stop.{Mode}
 use Rattle.rule.specs.Run.{Ending, stopped, failed, Outcome, run_of}
 use Rattle.agq_rule.specs.Steps.{Integrated, quadrature_of}
-use Rattle.agq_rule.specs.declared.answers.Integral.{Integral}
-use Rattle.agq_rule.specs.declared.answers.Integral.TheVariants.{Deviance, Declined}
 
 -- the deviance of an inner fit: declining keeps Laplace
-unfoldable pub deviance_by : Integral → Float → Float
-deviance_by (Deviance d o) laplace = d
-deviance_by (Declined w) laplace = laplace
+unfoldable pub deviance_by : Result (Float × Order) Decline → Float → Float
+deviance_by (Ok (d, o)) laplace = d
+deviance_by (Err w) laplace = laplace
 
 -- the order used, 1 for Laplace
-unfoldable pub order_by : Integral → ℕ
-order_by (Deviance d o) = size_of o
-order_by (Declined w) = 1
+unfoldable pub order_by : Result (Float × Order) Decline → ℕ
+order_by (Ok (d, o)) = size_of o
+order_by (Err w) = 1
 
 -- why it stayed with Laplace, 0 where the rule was used
-unfoldable pub why_by : Integral → ℕ
-why_by (Deviance d o) = 0
-why_by (Declined w) = decline_number w
+unfoldable pub why_by : Result (Float × Order) Decline → ℕ
+why_by (Ok (d, o)) = 0
+why_by (Err w) = decline_number w
 
 -- how an inner fit with its quadrature ends: with a mode and what the quadrature answered, or with neither
 pub data InnerEnd : Type 0 where
-  with_mode : Mode → Integral → InnerEnd
+  with_mode : Mode → Result (Float × Order) Decline → InnerEnd
   without_mode : End → InnerEnd
 
 -- how it ends, and what it did

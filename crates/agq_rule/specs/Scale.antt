@@ -1,13 +1,12 @@
 -- How far a group's points lie from the mode: 1 / √A_gg, or the Cholesky factor of the block's inverse. Document 01, "The inner fit", from "The block's inverse" to the pivots at which a step declines. Assumes nothing.
-use Rattle.std.specs.Prelude.{List, Bool, not, ◌||◌, ℕ, ◌+◌, ◌*◌, Float}
+use Rattle.std.specs.Prelude.{List, Bool, not, ◌||◌, ℕ, ◌+◌, ◌*◌, Float, Result, Ok, Err, ⊤}
+use Prim.{tt}
 use Rattle.std.specs.Float.Ieee.{le}
 use Rattle.base.specs.Number.{◌⊘◌, one_f, eps_f, finite}
 use Rattle.base.specs.List.{build, matrix, at, zero_at}
 use Rattle.root.specs.Sqrt.{sqrt_of}
 use Rattle.factor.specs.Factor.{ldl_of, ldl_end, cholesky_of, cholesky_end}
 use Rattle.factor.specs.Inverse.{ldl_inverse}
-use Rattle.factor.specs.declared.pivots.Factored.{Factored}
-use Rattle.factor.specs.declared.pivots.Factored.TheVariants.{Done, Bad}
 use Rattle.quadrature.specs.declared.orders.Decline.{Decline}
 use Rattle.quadrature.specs.declared.orders.Decline.TheVariants.{Inverse, Factor}
 
@@ -29,9 +28,9 @@ pub data Scale : Type 0 where
   unscaled : Decline → Scale
 
 -- by how the Cholesky factorisation of the inverse ended
-unfoldable pub after_cholesky : Factored → List Float → Scale
-after_cholesky (Bad i) C = unscaled Factor
-after_cholesky Done C = scaled C
+unfoldable pub after_cholesky : Result ⊤ ℕ → List Float → Scale
+after_cholesky (Err i) C = unscaled Factor
+after_cholesky (Ok tt) C = scaled C
 
 -- the inverse S with its factor C
 unfoldable pub cholesky_scale : ℕ → List Float → List Float → Scale
@@ -42,9 +41,9 @@ unfoldable pub inverse_scale : ℕ → List Float → Scale
 inverse_scale k S = cholesky_scale k S (cholesky_of k S)
 
 -- by how LDL' of the block ended
-unfoldable pub after_ldl : Factored → ℕ → List Float → Scale
-after_ldl (Bad i) k F = unscaled Inverse
-after_ldl Done k F = inverse_scale k (ldl_inverse k F)
+unfoldable pub after_ldl : Result ⊤ ℕ → ℕ → List Float → Scale
+after_ldl (Err i) k F = unscaled Inverse
+after_ldl (Ok tt) k F = inverse_scale k (ldl_inverse k F)
 
 -- the block's LDL' F
 unfoldable pub ldl_scale : ℕ → List Float → Scale

@@ -1,5 +1,6 @@
 -- The two quadrature steps: the product rule for one block, the joint rule for several. Document 01, "The inner fit", from the sentence on n_agq to the causes of declining. Assumes nothing.
-use Rattle.std.specs.Prelude.{List, [], ◌++◌, Bool, true, false, ℕ, zero, suc, ◌+◌, ◌*◌, ◌^◌, eqb, length, replicate, Float}
+use Rattle.quadrature.specs.declared.orders.Decline.{Decline}
+use Rattle.std.specs.Prelude.{List, [], ◌++◌, Bool, true, false, ℕ, zero, suc, ◌+◌, ◌*◌, ◌^◌, eqb, length, replicate, Float, Result, Ok, Err}
 use Rattle.std.specs.Float.Ieee.{neg}
 use Rattle.base.specs.Number.{◌⊕◌, ◌⊗◌, two_f, zero_f, finite}
 use Rattle.base.specs.Sum.{◌!!◌}
@@ -9,22 +10,18 @@ use Rattle.quadrature.specs.Orders.{size_of, product_order, joint_order}
 use Rattle.quadrature.specs.LogSum.{log_sum_exp}
 use Rattle.quadrature.specs.declared.orders.Order.{Order}
 use Rattle.quadrature.specs.declared.orders.Decline.TheVariants.{Diagonal, Sum}
-use Rattle.quadrature.specs.declared.orders.Choice.{Choice}
-use Rattle.quadrature.specs.declared.orders.Choice.TheVariants.{Use, Without}
 use Rattle.rule.specs.Given.{Given, q_of}
 use Rattle.rule.specs.Stop.{Mode}
 use Rattle.agq_rule.specs.Scale.{sigma_of, bad_diagonal, Scale, scaled, unscaled, block_scale, section_of}
 use Rattle.agq_rule.specs.Term.{one_term, group_term, joint_term}
-use Rattle.agq_rule.specs.declared.answers.Integral.{Integral}
-use Rattle.agq_rule.specs.declared.answers.Integral.TheVariants.{Deviance, Declined}
 
 -- what a step answers, and its points
 pub record Integrated : Type 0 where
-  pub answer : Integral
+  pub answer : Result (Float × Order) Decline
   pub items : List Item
 
 -- it ends here with this answer
-unfoldable pub answers : Integral → Integrated
+unfoldable pub answers : Result (Float × Order) Decline → Integrated
 answers a = record { answer = a; items = [] }
 
 -- n points before what follows them
@@ -33,7 +30,7 @@ points_before n r = record { answer = r.answer; items = replicate n a_point ++ r
 
 -- by the test of a log sum s
 unfoldable pub after_sum : Bool → Float → (Float → Integrated) → Integrated
-after_sum false s rest = answers (Declined Sum)
+after_sum false s rest = answers (Err Sum)
 after_sum true s rest = rest s
 
 -- a log sum s, then the rest
@@ -48,7 +45,7 @@ terms_then terms rest = points_before (length terms) (sum_then (log_sum_exp term
 
 -- by the test of the diagonal entry a: one effect a group
 unfoldable pub after_diagonal : Bool → Given → Mode → Float → Order → ℕ → Float → (Float → Integrated) → Integrated
-after_diagonal true G M phi o g a rest = answers (Declined Diagonal)
+after_diagonal true G M phi o g a rest = answers (Err Diagonal)
 after_diagonal false G M phi o g a rest = terms_then (build (one_term G M phi o g (sigma_of a)) (size_of o)) rest
 
 -- group g, its diagonal entry being a
@@ -57,7 +54,7 @@ one_group G M phi o g a rest = after_diagonal (bad_diagonal a) G M phi o g a res
 
 -- by the scale of the group whose k effects begin at s
 unfoldable pub after_scale : Scale → Given → Mode → Float → Order → ℕ → ℕ → (Float → Integrated) → Integrated
-after_scale (unscaled d) G M phi o s k rest = answers (Declined d)
+after_scale (unscaled d) G M phi o s k rest = answers (Err d)
 after_scale (scaled L) G M phi o s k rest = terms_then (build (group_term G M phi o s k L) (size_of o ^ k)) rest
 
 -- that group
@@ -75,14 +72,14 @@ with_sum total s = total ⊕ (neg two_f ⊗ s)
 
 -- the groups from g on, `left` of them: fit term + total after the last
 unfoldable pub groups_from : Given → Mode → Float → Order → ℕ → ℕ → ℕ → Float → Integrated
-groups_from G M phi o k zero g total = answers (Deviance (M.fit ⊕ total) o)
+groups_from G M phi o k zero g total = answers (Ok ((M.fit ⊕ total), o))
 groups_from G M phi o k (suc left) g total =
     group_by (eqb k 1) G M phi o k g (λ s. groups_from G M phi o k left (g + 1) (with_sum total s))
 
 -- by the order for m groups of k effects
-unfoldable pub product_with : Choice → Given → Mode → Float → ℕ → ℕ → Integrated
-product_with (Without d) G M phi m k = answers (Declined d)
-product_with (Use o) G M phi m k = groups_from G M phi o k m 0 zero_f
+unfoldable pub product_with : Result Order Decline → Given → Mode → Float → ℕ → ℕ → Integrated
+product_with (Err d) G M phi m k = answers (Err d)
+product_with (Ok o) G M phi m k = groups_from G M phi o k m 0 zero_f
 
 -- the product rule
 unfoldable pub product_step : Given → ℕ → Mode → Float → ℕ → ℕ → Integrated
@@ -92,17 +89,17 @@ product_step G wish M phi m k = product_with (product_order wish k) G M phi m k
 
 -- fit term + total, which is -2·log sum
 unfoldable pub joint_total : Mode → Order → Float → Integrated
-joint_total M o s = answers (Deviance (M.fit ⊕ (neg two_f ⊗ s)) o)
+joint_total M o s = answers (Ok ((M.fit ⊕ (neg two_f ⊗ s)), o))
 
 -- by the scale of all effects
 unfoldable pub after_joint : Scale → Given → Mode → Float → Order → Integrated
-after_joint (unscaled d) G M phi o = answers (Declined d)
+after_joint (unscaled d) G M phi o = answers (Err d)
 after_joint (scaled L) G M phi o = terms_then (build (joint_term G M phi o L) (size_of o ^ q_of G.design)) (joint_total M o)
 
 -- by the order
-unfoldable pub joint_with : Choice → Given → Mode → Float → Integrated
-joint_with (Without d) G M phi = answers (Declined d)
-joint_with (Use o) G M phi = after_joint (block_scale (q_of G.design) M.system) G M phi o
+unfoldable pub joint_with : Result Order Decline → Given → Mode → Float → Integrated
+joint_with (Err d) G M phi = answers (Err d)
+joint_with (Ok o) G M phi = after_joint (block_scale (q_of G.design) M.system) G M phi o
 
 -- the joint rule
 unfoldable pub joint_step : Given → ℕ → Mode → Float → Integrated

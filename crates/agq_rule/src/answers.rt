@@ -4,39 +4,35 @@ ghost use Rattle.agq_rule.specs.Inner.{deviance_by, order_by, why_by};
 
 use quadrature::{Decline, Order, decline_number, order_size};
 
-// A deviance with the order that was used, or why there is none.
-#[derive(Clone, Copy)]
-pub enum Integral {
-    Deviance(f64, Order),
-    Declined(Decline),
-}
-
 // The deviance of an inner fit: declining keeps Laplace.
-pub fn deviance_by(integral: Integral, laplace: f64) -> f64
+#[tactic(auto, unfolding(crate::specs::Inner::deviance_by))]
+pub fn deviance_by(integral: Result<(f64, Order), Decline>, laplace: f64) -> f64
     ensures { result ≡ deviance_by integral laplace }
 {
     match integral {
-        Integral::Deviance(d, _) => d,
-        Integral::Declined(_) => laplace,
+        Ok((d, _)) => d,
+        Err(_) => laplace,
     }
 }
 
 // The order that is reported: the one used, 1 for Laplace.
-pub fn order_by(integral: Integral) -> usize
+#[tactic(auto, unfolding(crate::specs::Inner::order_by))]
+pub fn order_by(integral: Result<(f64, Order), Decline>) -> usize
     ensures { result ≡ order_by integral }
 {
     match integral {
-        Integral::Deviance(_, order) => order_size(order),
-        Integral::Declined(_) => 1,
+        Ok((_, order)) => order_size(order),
+        Err(_) => 1,
     }
 }
 
 // Why it stayed with Laplace: 0 where the rule was used.
-pub fn why_by(integral: Integral) -> usize
+#[tactic(auto, unfolding(crate::specs::Inner::why_by))]
+pub fn why_by(integral: Result<(f64, Order), Decline>) -> usize
     ensures { result ≡ why_by integral }
 {
     match integral {
-        Integral::Deviance(_, _) => 0,
-        Integral::Declined(decline) => decline_number(decline),
+        Ok(_) => 0,
+        Err(decline) => decline_number(decline),
     }
 }

@@ -3,4 +3,4 @@
 
 mod answers;
 
-pub use answers::{Integral, deviance_by, order_by, why_by};
+pub use answers::{deviance_by, order_by, why_by};

@@ -7,6 +7,7 @@ pub mod Order
 pub mod Fills
 pub mod Rows
 pub mod TwoRows
+pub mod Every
 pub mod InPlace
 pub mod SparseRows
 pub mod Loops

@@ -131,6 +131,12 @@ all_step t k e h = rw (add-one, ← e, h) refl
 pub all_end : (t : ℕ → Bool) (k n : ℕ) → true ≡ all_to k t → k ≤ n → n ≤ k → true ≡ all_to n t
 all_end t k n e l m = let q : k ≡ n = omega arith in rw (← q) e
 
+-- tests that agree below n
+pub all_cong : (n : ℕ) (t u : ℕ → Bool) → ((k : ℕ) → k < n → t k ≡ u k) → all_to n t ≡ all_to n u
+unfolding all_to
+all_cong zero t u h = refl
+all_cong (suc n) t u h = rw (all_cong n t u (λ k l. h k (omega arith)), h n (omega arith)) refl
+
 and_false : (b : Bool) → false ≡ b && false
 and_false true = refl
 and_false false = refl

@@ -1,4 +1,4 @@
-// The vocabulary of the project: single numbers, plain loops over lent slices, sparse rows.
+// The vocabulary of the project: single numbers, sums, fills and tests over lent slices, sparse rows.
 #![tactic(auto)]
 
 mod number;

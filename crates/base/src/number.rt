@@ -49,20 +49,14 @@ pub fn is_finite(x: f64) -> bool
     ensures { result ≡ finite x }
 {
     let m = infinity();
-    if x < m {
-        return -m < x;
-    }
-    false
+    x < m && -m < x
 }
 
 // Infinite, of either sign.
 pub fn is_infinite(x: f64) -> bool
     ensures { result ≡ infinite x }
 {
-    if is_finite(x) {
-        return false;
-    }
-    !is_nan(x)
+    !is_finite(x) && !is_nan(x)
 }
 
 // The sign bit, which -0.0 has too; false of a NaN.
@@ -83,13 +77,7 @@ pub fn abs(x: f64) -> f64
 pub fn max(a: f64, b: f64) -> f64
     ensures { result ≡ max_f a b }
 {
-    if b < a {
-        return a;
-    }
-    if is_nan(b) {
-        return a;
-    }
-    b
+    if b < a || is_nan(b) { a } else { b }
 }
 
 // x, or the end of lo to hi that it lies past; a NaN stays.

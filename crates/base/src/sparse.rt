@@ -7,20 +7,7 @@ pub fn starts_ok(starts: &[usize], rows: usize, count: usize) -> bool
     requires { rows < length starts.now }
     ensures { result ≡ good_starts starts.now rows count }
 {
-    if starts[0] != 0 {
-        return false;
-    }
-    if starts[rows] != count {
-        return false;
-    }
-    let mut a = 0;
-    while a < rows {
-        if starts[a + 1] < starts[a] {
-            return false;
-        }
-        a += 1;
-    }
-    true
+    starts[0] == 0 && starts[rows] == count && (0..rows).all(|a| starts[a] <= starts[a + 1])
 }
 
 // Whether the column of entry t of the row at b is below n and, unless it is the row's first, above the one before it.
@@ -29,14 +16,7 @@ fn column_fits(columns: &[usize], n: usize, b: usize, t: usize) -> bool
     ensures { result ≡ column_fits columns.now n b t }
 {
     let k = b + t;
-    let column = columns[k];
-    if n <= column {
-        return false;
-    }
-    if t == 0 {
-        return true;
-    }
-    columns[k - 1] < column
+    columns[k] < n && (t == 0 || columns[k - 1] < columns[k])
 }
 
 // Whether each column of the row from b to e is below n and above the one before it.
@@ -44,15 +24,7 @@ pub fn columns_ok(columns: &[usize], n: usize, b: usize, e: usize) -> bool
     requires { (b ≤ e) × (e ≤ length columns.now) }
     ensures { result ≡ good_columns columns.now n b e }
 {
-    let count = e - b;
-    let mut t = 0;
-    while t < count {
-        if !column_fits(columns, n, b, t) {
-            return false;
-        }
-        t += 1;
-    }
-    true
+    (0..e - b).all(|t| column_fits(columns, n, b, t))
 }
 
 // Whether the starts are good, and the columns of every row.
@@ -60,15 +32,6 @@ pub fn rows_ok(starts: &[usize], columns: &[usize], rows: usize, n: usize) -> bo
     requires { rows < length starts.now }
     ensures { result ≡ good_rows starts.now columns.now rows n }
 {
-    if !starts_ok(starts, rows, columns.len()) {
-        return false;
-    }
-    let mut a = 0;
-    while a < rows {
-        if !columns_ok(columns, n, starts[a], starts[a + 1]) {
-            return false;
-        }
-        a += 1;
-    }
-    true
+    starts_ok(starts, rows, columns.len())
+        && (0..rows).all(|a| columns_ok(columns, n, starts[a], starts[a + 1]))
 }

@@ -1,4 +1,4 @@
-// Plain loops over lent slices. A slice may be longer than what is asked of it: the rest is not read and not written.
+// Sums, fills and tests over lent slices. A slice may be longer than what is asked of it: the rest is not read and not written.
 ghost use Rattle.std.specs.Prelude.{◌≡◌, ◌+◌, ◌*◌, ◌≤◌, ◌<◌, ◌^◌, length};
 ghost use Rattle.base.specs.Sum.{sum_to, all_to, dot_of, product_from, finite_at};
 ghost use Rattle.base.specs.List.{fill_to, zero_at, entry_of};
@@ -19,10 +19,8 @@ pub fn dot(a: &[f64], b: &[f64], n: usize) -> f64
     ensures { result ≡ dot_of n a.now b.now }
 {
     let mut sum = 0.0;
-    let mut i = 0;
-    while i < n {
+    for i in 0..n {
         sum = sum + a[i] * b[i];
-        i += 1;
     }
     sum
 }
@@ -33,10 +31,8 @@ pub fn dot_from(a: &[f64], o: usize, b: &[f64], n: usize) -> f64
     ensures { result ≡ sum_to n (product_from a.now o b.now) }
 {
     let mut sum = 0.0;
-    let mut i = 0;
-    while i < n {
+    for i in 0..n {
         sum = sum + a[o + i] * b[i];
-        i += 1;
     }
     sum
 }
@@ -46,11 +42,7 @@ pub fn wipe(out: &mut [f64], n: usize)
     requires { n ≤ length out.old }
     ensures { out.new ≡ fill_to n zero_at out.old }
 {
-    let mut i = 0;
-    while i < n {
-        out[i] = 0.0;
-        i += 1;
-    }
+    out[..n].fill(0.0);
 }
 
 // The first n numbers of a into the first n places of out.
@@ -58,11 +50,7 @@ pub fn copy(a: &[f64], out: &mut [f64], n: usize)
     requires { (n ≤ length a.now) × (n ≤ length out.old) }
     ensures { out.new ≡ fill_to n (entry_of a.now) out.old }
 {
-    let mut i = 0;
-    while i < n {
-        out[i] = a[i];
-        i += 1;
-    }
+    out[..n].copy_from_slice(&a[..n]);
 }
 
 // Whether the first n numbers of a are all finite.
@@ -70,12 +58,5 @@ pub fn all_finite(a: &[f64], n: usize) -> bool
     requires { n ≤ length a.now }
     ensures { result ≡ all_to n (finite_at a.now) }
 {
-    let mut i = 0;
-    while i < n {
-        if !is_finite(a[i]) {
-            return false;
-        }
-        i += 1;
-    }
-    true
+    a[..n].iter().all(|x| is_finite(*x))
 }

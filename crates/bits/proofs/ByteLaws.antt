@@ -6,6 +6,7 @@ use native.Mathlib.Nat.{two-pow-succ, add-zero, zero-add, zero-mul, div-one, mul
 use native.Mathlib.Omega.{arith}
 use lib.Dec.{lit<}
 use Rattle.base.specs.Sum.{◌!!◌}
+use Rattle.std.specs.Int.{from_be_bytes, w64}
 use Rattle.bits.specs.Bits.{bit_of, bits_of}
 use Rattle.bits.proofs.BitLaws.{bits_below}
 
@@ -89,6 +90,14 @@ eight_bytes s p a b c d e f g h ka kb kc kd ke kf kg kh =
     let six = next_byte s p 5 _ _ five kf.0 kf.1 in
     let seven = next_byte s p 6 _ _ six kg.0 kg.1 in
     next_byte s p 7 _ _ seven kh.0 kh.1
+
+-- read by std, first byte highest
+pub word_is : (s bs : List ℕ) (p : ℕ) → ((i : ℕ) → i < 8 → (bs !! i) ≡ (s !! (p + i))) → ((i : ℕ) → (s !! i) < 256) → from_be_bytes w64 bs ≡ bits_of s (8 * p) 64
+word_is s bs p same small =
+    let one : IsByte s p (bs !! 0) = let e = same 0 (omega arith) in (rw add-zero at e, rw e (small (p + 0))) in
+    let byte : (i : ℕ) → i < 8 → IsByte s (p + i) (bs !! i) = λ i l. (same i l, rw (same i l) (small (p + i))) in
+    let e = eight_bytes s p _ _ _ _ _ _ _ _ one (byte 1 (omega arith)) (byte 2 (omega arith)) (byte 3 (omega arith)) (byte 4 (omega arith)) (byte 5 (omega arith)) (byte 6 (omega arith)) (byte 7 (omega arith)) in
+    omega (arith, e)
 
 -- ---- a field of at most 16 bits lies in the three bytes from its first one on
 pub field_is : (s : List ℕ) (at w a b c : ℕ) → w ≤ 16 → IsByte s (at / 8) a → IsByte s (at / 8 + 1) b → IsByte s (at / 8 + 2) c

@@ -1,5 +1,5 @@
 // Bits of a byte slice, most significant first, 0 past its end: what stands at a position, and the record that holds the slice and a position and is moved on over its fields.
-// The record's three functions are thin: `take` leaves the work to `field_at`.
+// The record's two methods are thin: `take` leaves the work to `field_at`.
 #![tactic(auto)]
 
 ghost use Rattle.std.specs.Prelude.{◌≡◌, ◌+◌, ◌*◌, ◌<◌, ◌≤◌, ◌^◌, length};
@@ -13,37 +13,11 @@ pub struct BitReader<'a> {
     pub at: usize,
 }
 
-// A byte as a number that it can be shifted and summed in.
-fn wide(x: u8) -> u64
-    ensures { (result ≡ x) × (result < 256) }
-{
-    x as u64
-}
-
-// Byte i as a number.
-fn byte_at(s: &[u8], i: usize) -> u64
-    requires { i < length s.now }
-    ensures { (result ≡ (s.now !! i)) × (result < 256) }
-{
-    wide(s[i])
-}
-
 // Byte i as a number, 0 past the end.
 fn byte_or(s: &[u8], i: usize) -> u64
     ensures { (result ≡ (s.now !! i)) × (result < 256) }
 {
-    if i < s.len() {
-        return byte_at(s, i);
-    }
-    0
-}
-
-// How many numbers n bits make.
-fn power(n: usize) -> u64
-    requires { n ≤ 16 }
-    ensures { (result ≡ 2 ^ n) × (1 ≤ result) }
-{
-    1 << n
+    s.get(i).map_or(0, |b| u64::from(*b))
 }
 
 // The number that `width` bits from `at` on make, at most 16: they lie in three bytes.
@@ -56,32 +30,25 @@ pub fn field_at(s: &[u8], at: usize, width: usize) -> usize
     let b = a * 256 + byte_or(s, i + 1);
     let c = b * 256 + byte_or(s, i + 2);
     let cut = c >> (24 - at % 8 - width);
-    (cut % power(width)) as usize
+    (cut % (1 << width)) as usize
 }
 
-// A reader of these bytes that stands at bit `at`.
-pub fn new<'a>(src: &'a [u8], at: usize) -> BitReader<'a>
-    ensures { (result.src ≡ src.entry) × (result.at ≡ at) }
-{
-    BitReader { src, at }
-}
+impl<'a> BitReader<'a> {
+    // A reader of these bytes that stands at bit `at`.
+    pub fn new(src: &'a [u8], at: usize) -> BitReader<'a>
+        ensures { (result.src ≡ src.entry) × (result.at ≡ at) }
+    {
+        BitReader { src, at }
+    }
 
-// The number that the next `width` bits make.
-pub fn take<'a>(r: BitReader<'a>, width: usize) -> usize
-    requires { Near r.at width }
-    ensures { result ≡ bits_of r.entry.src.now r.entry.at width }
-{
-    field_at(r.src, r.at, width)
-}
-
-// The reader behind them.
-pub fn past<'a>(r: BitReader<'a>, width: usize) -> BitReader<'a>
-    requires { Near r.at width }
-    ensures { (result.src ≡ r.entry.src) × (result.at ≡ r.entry.at + width) }
-{
-    BitReader {
-        src: r.src,
-        at: r.at + width,
+    // The number that the next `width` bits make; the reader then stands behind them.
+    pub fn take(&mut self, width: usize) -> usize
+        requires { Near self.old.at width }
+        ensures { (result ≡ bits_of self.old.src.now self.old.at width) × (self.new.src ≡ self.old.src) × (self.new.at ≡ self.old.at + width) }
+    {
+        let field = field_at(self.src, self.at, width);
+        self.at += width;
+        field
     }
 }
 
@@ -90,17 +57,11 @@ pub fn word_at(s: &[u8], p: usize) -> u64
     requires { p + 8 ≤ length s.now }
     ensures { result ≡ bits_of s.now (8 * p) 64 }
 {
-    let a = byte_at(s, p);
-    let b = a * 256 + byte_at(s, p + 1);
-    let c = b * 256 + byte_at(s, p + 2);
-    let d = c * 256 + byte_at(s, p + 3);
-    let e = d * 256 + byte_at(s, p + 4);
-    let f = e * 256 + byte_at(s, p + 5);
-    let g = f * 256 + byte_at(s, p + 6);
-    g * 256 + byte_at(s, p + 7)
+    u64::from_be_bytes(*s[p..].first_chunk().unwrap())
 }
 
 // The double in the eight bytes from byte p on; every pattern is read, a NaN's as NaN.
+#[tactic(auto, unfolding(crate::specs::Bits::double_of))]
 pub fn double_at(s: &[u8], p: usize) -> f64
     requires { p + 8 ≤ length s.now }
     ensures { result ≡ double_of s.now p }

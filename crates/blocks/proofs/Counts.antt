@@ -1,4 +1,5 @@
 -- A list of no block, or of more than eight, is refused with number 1, and every slice stays as it was lent. Assumes nothing.
+use Rattle.std.specs.Prelude.{Err}
 use mathlib.Core.Path.{◌≡◌, refl, sym}
 use mathlib.Core.List.{List}
 use Prim.Native.Nat.{◌<◌}
@@ -13,14 +14,13 @@ use Rattle.model.proofs.Shapes.{in_range_lem}
 use Rattle.model.proofs.Sized.{not_sized}
 use Rattle.model.specs.Inputs.{Inputs}
 use Rattle.table.specs.Table.{refuse_unless, table_of}
-use Rattle.table.specs.declared.verdicts.Verdict.TheVariants.{Refused}
 use Rattle.call.specs.Call.{Lent, lengths_of, left, call_of}
 use Rattle.call.proofs.Leaves.{refused_left}
 use Rattle.blocks.specs.Blocks.{shape_of}
 use Rattle.blocks.specs.declared.Block.{Block}
 
 module _ (t : Settings) (bs : List Block) (I : Inputs) (L : Lent) where
-  verdict : (InRange (shape_of bs) → ⊥) → table_of 1 t (shape_of bs) I (lengths_of L) ≡ Refused OutOfRange
+  verdict : (InRange (shape_of bs) → ⊥) → table_of 1 t (shape_of bs) I (lengths_of L) ≡ Err OutOfRange
   unfolding table_of refuse_unless
   verdict bad = rw (sym (not_sized t (shape_of bs) (λ z. bad (in_range_lem (shape_of bs) z.shape)))) refl
 

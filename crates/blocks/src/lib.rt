@@ -6,7 +6,7 @@ ghost use Rattle.model.specs.Inputs.{inputs};
 ghost use Rattle.call.specs.Call.{lent, left, call_of};
 ghost use Rattle.blocks.specs.Blocks.{no_block, blank_shape, put_at, shape_of};
 
-use model::{Answer, Settings, Shape};
+use model::{Answer, Inputs, Settings, Shape};
 
 // m groups with k effects each, laid out as C's struct for `blocks_c`.
 #[repr(C)]
@@ -51,10 +51,8 @@ pub fn shape_of(blocks: &[Block]) -> Shape
     ensures { result ≡ shape_of blocks.now }
 {
     let mut shape = blank(blocks.len());
-    let mut i = 0;
-    while i < 8 {
+    for i in 0..8 {
         shape = put(shape, i, block_or(blocks, i));
-        i += 1;
     }
     shape
 }
@@ -95,7 +93,29 @@ pub fn fit_blocks(
 {
     let shape = shape_of(blocks);
     glmm::fit(
-        settings, shape, theta, y, weights, offset, x, starts, columns, values, beta, se, z, u, b,
-        mu, eta, residual, v, rows, matrices, terms,
+        settings,
+        shape,
+        &Inputs {
+            theta,
+            y,
+            weights,
+            offset,
+            x,
+            starts,
+            columns,
+            values,
+        },
+        beta,
+        se,
+        z,
+        u,
+        b,
+        mu,
+        eta,
+        residual,
+        v,
+        rows,
+        matrices,
+        terms,
     )
 }

@@ -1,4 +1,5 @@
 -- A higher limit changes nothing of what `fit_coded` shows and leaves where the number is not 13, and no count of its work shrinks. Document 02, P13. Assumes nothing.
+use Rattle.std.specs.Prelude.{Option, Some, None}
 use mathlib.Core.Path.{◌≡◌, refl, ap, ◌∙◌}
 use mathlib.Core.List.{List}
 use Prim.Native.Nat.{ℕ, ◌≤◌}
@@ -6,15 +7,8 @@ use native.Mathlib.Omega.{arith}
 use borrow.Author.Tests.{ne_eqb}
 use Rattle.model.specs.Names.{limit_of, family_coded, link_coded, start_coded}
 use Rattle.model.specs.declared.names.Family.{Family}
-use Rattle.model.specs.declared.names.FamilyFound.{FamilyFound}
-use Rattle.model.specs.declared.names.FamilyFound.TheVariants as familyFound
-use Rattle.model.specs.declared.names.Limit.TheVariants.{Given}
 use Rattle.model.specs.declared.names.Link.{Link}
-use Rattle.model.specs.declared.names.LinkFound.{LinkFound}
-use Rattle.model.specs.declared.names.LinkFound.TheVariants as linkFound
 use Rattle.model.specs.declared.names.Start.{Start}
-use Rattle.model.specs.declared.names.StartFound.{StartFound}
-use Rattle.model.specs.declared.names.StartFound.TheVariants as startFound
 use Rattle.model.specs.declared.sizes.Settings.{Settings}
 use Rattle.model.specs.Inputs.{Inputs}
 use Rattle.job.specs.Job.{limit_from}
@@ -44,7 +38,7 @@ pub record NoLower (before after : PlainAnswer) : Type 0 where
   pub ok : before.ok ≤ after.ok
 
 module _ (c : CodedSettings) (M : ℕ) (few : M ≤ 1000) where
-  given : limit_from M ≡ Given M
+  given : limit_from M ≡ Some M
   unfolding limit_from
   given = rw (ne_eqb M 1023 (λ e. omega (arith, e, few))) refl
 
@@ -53,20 +47,20 @@ module _ (c : CodedSettings) (M : ℕ) (few : M ≤ 1000) where
   unfolding named
   named_limited f l start = rw given refl
 
-  by_start : (f : Family) (l : Link) (x : StartFound) → with_start (limited_code M c) f l x ≡ limited M (with_start c f l x)
+  by_start : (f : Family) (l : Link) (x : Option Start) → with_start (limited_code M c) f l x ≡ limited M (with_start c f l x)
   unfolding with_start
-  by_start f l (startFound.Found start) = named_limited f l start
-  by_start f l startFound.NoSuch = named_limited _ _ _
+  by_start f l (Some start) = named_limited f l start
+  by_start f l None = named_limited _ _ _
 
-  by_link : (f : Family) (x : LinkFound) → with_link (limited_code M c) f x ≡ limited M (with_link c f x)
+  by_link : (f : Family) (x : Option Link) → with_link (limited_code M c) f x ≡ limited M (with_link c f x)
   unfolding with_link
-  by_link f (linkFound.Found l) = by_start f l (start_coded c.start)
-  by_link f linkFound.NoSuch = named_limited _ _ _
+  by_link f (Some l) = by_start f l (start_coded c.start)
+  by_link f None = named_limited _ _ _
 
-  by_family : (x : FamilyFound) → with_family (limited_code M c) x ≡ limited M (with_family c x)
+  by_family : (x : Option Family) → with_family (limited_code M c) x ≡ limited M (with_family c x)
   unfolding with_family
-  by_family (familyFound.Found f) = by_link f (link_coded c.link)
-  by_family familyFound.NoSuch = named_limited _ _ _
+  by_family (Some f) = by_link f (link_coded c.link)
+  by_family None = named_limited _ _ _
 
   settings_limited : settings_of (limited_code M c) ≡ limited M (settings_of c)
   unfolding settings_of

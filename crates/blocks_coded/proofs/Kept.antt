@@ -1,4 +1,6 @@
 -- A number other than 0 leaves the results as they were lent, and a refusal's number every slice. Assumes nothing.
+use Rattle.model.specs.declared.ends.Refusal.{Refusal}
+use Rattle.std.specs.Prelude.{Ok, Err, Result}
 use mathlib.Core.Path.{◌≡◌, refl, sym}
 use mathlib.Core.Bool.{false}
 use mathlib.Core.List.{List}
@@ -11,9 +13,7 @@ use Rattle.family.specs.declared.carried.CarriedFamily.{CarriedFamily}
 use Rattle.family.specs.declared.carried.CarriedLink.{CarriedLink}
 use Rattle.model.specs.Inputs.{Inputs}
 use Rattle.table.specs.Table.{table_of}
-use Rattle.table.specs.declared.verdicts.Verdict.{Verdict}
-use Rattle.table.specs.declared.verdicts.Verdict.TheVariants.{Accepted, Refused}
-use Rattle.dispersion.specs.Rounds.{Result, result, no_result, Dispersed}
+use Rattle.dispersion.specs.Rounds.{Result as FitResult, result, no_result, Dispersed}
 use Rattle.call.specs.Fit.{Fitted}
 use Rattle.call.specs.Call.{Lent, lengths_of, call_of}
 use Rattle.call.proofs.Leaves.{refused_left, asked_fit, unfitted_results, unfitted_answer_lem, fitted_number}
@@ -26,22 +26,22 @@ use Rattle.blocks_coded.specs.declared.CodedSettings.{CodedSettings}
 module _ (t : Settings) (s : Shape) (I : Inputs) (L : Lent) where
   module _ (h : (call_of t s I L).answer.number ≡ 0 → ⊥) where
     -- ends 10 to 13
-    unfitted : (f : CarriedFamily) (l : CarriedLink) → table_of 1 t s I (lengths_of L) ≡ Accepted f l → (x : Result (Dispersed Fitted)) → (asked_fit f l t s I).outcome ≡ x → (call_of t s I L).lent.results ≡ L.results
+    unfitted : (f : CarriedFamily) (l : CarriedLink) → table_of 1 t s I (lengths_of L) ≡ Ok (f, l) → (x : FitResult (Dispersed Fitted)) → (asked_fit f l t s I).outcome ≡ x → (call_of t s I L).lent.results ≡ L.results
     unfitted f l e (no_result end) q = unfitted_results t s I L f l e end q
     unfitted f l e (result d) q = absurd (h (fitted_number t s I L f l e d q))
 
-    by_verdict : (x : Verdict) → table_of 1 t s I (lengths_of L) ≡ x → (call_of t s I L).lent.results ≡ L.results
-    by_verdict (Refused r) e = rw (refused_left t s I L r e) refl
-    by_verdict (Accepted f l) e = unfitted f l e (asked_fit f l t s I).outcome refl
+    by_verdict : (x : Result (CarriedFamily × CarriedLink) Refusal) → table_of 1 t s I (lengths_of L) ≡ x → (call_of t s I L).lent.results ≡ L.results
+    by_verdict (Err r) e = rw (refused_left t s I L r e) refl
+    by_verdict (Ok (f, l)) e = unfitted f l e (asked_fit f l t s I).outcome refl
 
     -- no accepted call has a refusal's number
-    not_accepted : is_end (call_of t s I L).answer.number ≡ false → (f : CarriedFamily) (l : CarriedLink) → table_of 1 t s I (lengths_of L) ≡ Accepted f l → (x : Result (Dispersed Fitted)) → (asked_fit f l t s I).outcome ≡ x → ⊥
+    not_accepted : is_end (call_of t s I L).answer.number ≡ false → (f : CarriedFamily) (l : CarriedLink) → table_of 1 t s I (lengths_of L) ≡ Ok (f, l) → (x : FitResult (Dispersed Fitted)) → (asked_fit f l t s I).outcome ≡ x → ⊥
     not_accepted z f l e (no_result end) q = ff (sym (rw (unfitted_answer_lem t s I L f l e end q, end_is_end end) at z))
     not_accepted z f l e (result d) q = h (fitted_number t s I L f l e d q)
 
-    by_refusal : is_end (call_of t s I L).answer.number ≡ false → (x : Verdict) → table_of 1 t s I (lengths_of L) ≡ x → (call_of t s I L).lent ≡ L
-    by_refusal z (Refused r) e = rw (refused_left t s I L r e) refl
-    by_refusal z (Accepted f l) e = absurd (not_accepted z f l e (asked_fit f l t s I).outcome refl)
+    by_refusal : is_end (call_of t s I L).answer.number ≡ false → (x : Result (CarriedFamily × CarriedLink) Refusal) → table_of 1 t s I (lengths_of L) ≡ x → (call_of t s I L).lent ≡ L
+    by_refusal z (Err r) e = rw (refused_left t s I L r e) refl
+    by_refusal z (Ok (f, l)) e = absurd (not_accepted z f l e (asked_fit f l t s I).outcome refl)
 
 -- `fit_coded`
 module _ (c : CodedSettings) (bs : List Block) (I : Inputs) (L : Lent) (h : (fit_blocks_of c bs I L).returned.number ≡ 0 → ⊥) where

@@ -1,4 +1,8 @@
 -- A code that names no family, no link or no start is refused: with 4 where every test that stands before it in the table passes, and every slice stays as it was lent. Assumes nothing.
+use Rattle.family.specs.declared.carried.CarriedFamily.{CarriedFamily}
+use Rattle.family.specs.declared.carried.CarriedLink.{CarriedLink}
+use Rattle.model.specs.declared.names.Link.{Link}
+use Rattle.std.specs.Prelude.{Option, Some, None, Result, Ok, Err}
 use mathlib.Core.Path.{◌≡◌, refl, sym, ◌∙◌}
 use mathlib.Core.Bool.{true, false}
 use mathlib.Core.List.{List}
@@ -13,16 +17,9 @@ use Rattle.model.specs.Settings.{good_sizes}
 use Rattle.model.specs.declared.ends.Refusal.{Refusal}
 use Rattle.model.specs.declared.ends.Refusal.TheVariants.{LinkForFamily}
 use Rattle.model.specs.declared.names.Family.{Family}
-use Rattle.model.specs.declared.names.FamilyFound.{FamilyFound}
-use Rattle.model.specs.declared.names.FamilyFound.TheVariants as familyFound
-use Rattle.model.specs.declared.names.LinkFound.{LinkFound}
-use Rattle.model.specs.declared.names.LinkFound.TheVariants as linkFound
-use Rattle.model.specs.declared.names.StartFound.TheVariants as startFound
 use Rattle.family.specs.Carried.{among, links_for, valid_for}
 use Rattle.table.specs.Table.{table_of}
 use Rattle.table.specs.Tests.{good_inputs, good_results, good_work, good_numbers}
-use Rattle.table.specs.declared.verdicts.Verdict.{Verdict}
-use Rattle.table.specs.declared.verdicts.Verdict.TheVariants.{Accepted, Refused}
 use Rattle.table.proofs.Accepting.{line_4, accepted_sound}
 use Rattle.call.specs.Call.{Lent, lengths_of}
 use Rattle.call.proofs.Leaves.{refused_left}
@@ -34,24 +31,24 @@ use Rattle.blocks_coded.specs.declared.CodedSettings.{CodedSettings}
 
 -- the code of the family, that of the link or that of the start names nothing
 abbrev pub NamesNothing : CodedSettings → Type 0
-NamesNothing c = (family_coded c.family ≡ familyFound.NoSuch) ⊎ ((link_coded c.link ≡ linkFound.NoSuch) ⊎ (start_coded c.start ≡ startFound.NoSuch))
+NamesNothing c = (family_coded c.family ≡ None) ⊎ ((link_coded c.link ≡ None) ⊎ (start_coded c.start ≡ None))
 
 -- a family without a link has these settings, and a link without a family
-no_link : (c : CodedSettings) (F : FamilyFound) → link_coded c.link ≡ linkFound.NoSuch → with_family c F ≡ unnamed c
+no_link : (c : CodedSettings) (F : Option Family) → link_coded c.link ≡ None → with_family c F ≡ unnamed c
 unfolding with_family with_link
-no_link c (familyFound.Found f) e = rw e refl
-no_link c familyFound.NoSuch e = refl
+no_link c (Some f) e = rw e refl
+no_link c None e = refl
 
 -- and both without a start
-no_start_of : (c : CodedSettings) (f : Family) (L : LinkFound) → start_coded c.start ≡ startFound.NoSuch → with_link c f L ≡ unnamed c
+no_start_of : (c : CodedSettings) (f : Family) (L : Option Link) → start_coded c.start ≡ None → with_link c f L ≡ unnamed c
 unfolding with_link with_start
-no_start_of c f (linkFound.Found l) e = rw e refl
-no_start_of c f linkFound.NoSuch e = refl
+no_start_of c f (Some l) e = rw e refl
+no_start_of c f None e = refl
 
-no_start : (c : CodedSettings) (F : FamilyFound) → start_coded c.start ≡ startFound.NoSuch → with_family c F ≡ unnamed c
+no_start : (c : CodedSettings) (F : Option Family) → start_coded c.start ≡ None → with_family c F ≡ unnamed c
 unfolding with_family
-no_start c (familyFound.Found f) e = no_start_of c f (link_coded c.link) e
-no_start c familyFound.NoSuch e = refl
+no_start c (Some f) e = no_start_of c f (link_coded c.link) e
+no_start c None e = refl
 
 settings : (c : CodedSettings) → NamesNothing c → settings_of c ≡ unnamed c
 unfolding settings_of with_family
@@ -69,13 +66,13 @@ module _ (c : CodedSettings) (bs : List Block) (I : Inputs) (L : Lent) where
   Refuses r = fit_blocks_of c bs I L ≡ shown (plain_of (blank_answer (refusal_number r) no_counts)) L
 
   module _ (e : NamesNothing c) where
-    refuses : (r : Refusal) → table_of 1 (unnamed c) (shape_of bs) I (lengths_of L) ≡ Refused r → Refuses r
+    refuses : (r : Refusal) → table_of 1 (unnamed c) (shape_of bs) I (lengths_of L) ≡ Err r → Refuses r
     unfolding fit_blocks_of shown_by
     refuses r q = rw (settings c e, refused_left (unnamed c) (shape_of bs) I L r q) refl
 
-    by_verdict : (x : Verdict) → table_of 1 (unnamed c) (shape_of bs) I (lengths_of L) ≡ x → (r : Refusal) × Refuses r
-    by_verdict (Refused r) q = (r, refuses r q)
-    by_verdict (Accepted f l) q = absurd (ff (sym (not_valid c) ∙ (accepted_sound 1 (unnamed c) (shape_of bs) I (lengths_of L) f l q).valid))
+    by_verdict : (x : Result (CarriedFamily × CarriedLink) Refusal) → table_of 1 (unnamed c) (shape_of bs) I (lengths_of L) ≡ x → (r : Refusal) × Refuses r
+    by_verdict (Err r) q = (r, refuses r q)
+    by_verdict (Ok (f, l)) q = absurd (ff (sym (not_valid c) ∙ (accepted_sound 1 (unnamed c) (shape_of bs) I (lengths_of L) f l q).valid))
 
     -- whatever else is lent, with a number of the table
     pub unnamed_refused : (r : Refusal) × Refuses r

@@ -1,17 +1,12 @@
 -- The settings of a call by the codes of a job. Document 01, "The job and the program", its header, and "Numbers of an answer", number 4; document 02, P10, for the start. Assumes nothing.
+use Rattle.std.specs.Prelude.{Option, Some, None}
 use Rattle.model.specs.Names.{family_coded, link_coded, start_coded}
 use Rattle.model.specs.declared.names.Family.{Family}
 use Rattle.model.specs.declared.names.Family.TheVariants.{Poisson}
-use Rattle.model.specs.declared.names.FamilyFound.{FamilyFound}
-use Rattle.model.specs.declared.names.FamilyFound.TheVariants as familyFound
 use Rattle.model.specs.declared.names.Link.{Link}
 use Rattle.model.specs.declared.names.Link.TheVariants.{Logit}
-use Rattle.model.specs.declared.names.LinkFound.{LinkFound}
-use Rattle.model.specs.declared.names.LinkFound.TheVariants as linkFound
 use Rattle.model.specs.declared.names.Start.{Start}
 use Rattle.model.specs.declared.names.Start.TheVariants.{Usual}
-use Rattle.model.specs.declared.names.StartFound.{StartFound}
-use Rattle.model.specs.declared.names.StartFound.TheVariants as startFound
 use Rattle.model.specs.declared.sizes.Settings.{Settings}
 use Rattle.job.specs.Job.{limit_from}
 use Rattle.blocks_coded.specs.declared.CodedSettings.{CodedSettings}
@@ -36,19 +31,19 @@ abbrev pub unnamed : CodedSettings → Settings
 unnamed c = named c Poisson Logit Usual
 
 -- by what the start's code names
-unfoldable pub with_start : CodedSettings → Family → Link → StartFound → Settings
-with_start c f l (startFound.Found start) = named c f l start
-with_start c f l startFound.NoSuch = unnamed c
+unfoldable pub with_start : CodedSettings → Family → Link → Option Start → Settings
+with_start c f l (Some start) = named c f l start
+with_start c f l None = unnamed c
 
 -- by what the link's code names
-unfoldable pub with_link : CodedSettings → Family → LinkFound → Settings
-with_link c f (linkFound.Found l) = with_start c f l (start_coded c.start)
-with_link c f linkFound.NoSuch = unnamed c
+unfoldable pub with_link : CodedSettings → Family → Option Link → Settings
+with_link c f (Some l) = with_start c f l (start_coded c.start)
+with_link c f None = unnamed c
 
 -- by what the family's code names
-unfoldable pub with_family : CodedSettings → FamilyFound → Settings
-with_family c (familyFound.Found f) = with_link c f (link_coded c.link)
-with_family c familyFound.NoSuch = unnamed c
+unfoldable pub with_family : CodedSettings → Option Family → Settings
+with_family c (Some f) = with_link c f (link_coded c.link)
+with_family c None = unnamed c
 
 -- the settings
 unfoldable pub settings_of : CodedSettings → Settings

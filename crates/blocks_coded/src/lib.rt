@@ -11,7 +11,7 @@ ghost use Rattle.blocks_coded.specs.Coded.{named, unnamed, with_start, with_link
 ghost use Rattle.blocks_coded.specs.Plain.{plain_of, shown, fit_blocks_of};
 
 use blocks::Block;
-use model::{Answer, Family, FamilyFound, Limit, Link, LinkFound, Settings, Start, StartFound};
+use model::{Answer, Family, Link, Settings, Start};
 
 // The settings of a call with the family, the link, the limit and the start as a job has them: by their codes, and 1023 for a limit that is not given. What requests append stands last, so that no field moves.
 #[repr(C)]
@@ -49,13 +49,13 @@ pub struct PlainAnswer {
     pub ok: u64,
 }
 
-fn limit_in(code: usize) -> Limit
+fn limit_in(code: usize) -> Option<usize>
     ensures { result ≡ limit_from code }
 {
     if code == 1023 {
-        return Limit::NotGiven;
+        return None;
     }
-    Limit::Given(code)
+    Some(code)
 }
 
 fn with_names(coded: CodedSettings, family: Family, link: Link, start: Start) -> Settings
@@ -86,8 +86,8 @@ fn with_start(coded: CodedSettings, family: Family, link: Link) -> Settings
     ensures { result ≡ with_start coded family link (start_coded coded.start) }
 {
     match model::start_coded(coded.start) {
-        StartFound::Found(start) => with_names(coded, family, link, start),
-        StartFound::NoSuch => without_name(coded),
+        Some(start) => with_names(coded, family, link, start),
+        None => without_name(coded),
     }
 }
 
@@ -95,8 +95,8 @@ fn with_link(coded: CodedSettings, family: Family) -> Settings
     ensures { result ≡ with_link coded family (link_coded coded.link) }
 {
     match model::link_coded(coded.link) {
-        LinkFound::Found(link) => with_start(coded, family, link),
-        LinkFound::NoSuch => without_name(coded),
+        Some(link) => with_start(coded, family, link),
+        None => without_name(coded),
     }
 }
 
@@ -104,8 +104,8 @@ fn settings_of(coded: CodedSettings) -> Settings
     ensures { result ≡ settings_of coded }
 {
     match model::family_coded(coded.family) {
-        FamilyFound::Found(family) => with_link(coded, family),
-        FamilyFound::NoSuch => without_name(coded),
+        Some(family) => with_link(coded, family),
+        None => without_name(coded),
     }
 }
 

@@ -1,4 +1,8 @@
 -- The account of a call keeps to its caps: at most 241 inner fits, 241,000 solves, 24,100,000 tries and 1,687,000 points; of the tries' parts those refused as the tries, those accepted as the solves. Assumes nothing.
+use Rattle.family.specs.declared.carried.CarriedFamily.{CarriedFamily}
+use Rattle.family.specs.declared.carried.CarriedLink.{CarriedLink}
+use Rattle.model.specs.declared.ends.Refusal.{Refusal}
+use Rattle.std.specs.Prelude.{Result, Ok, Err}
 use mathlib.Core.Path.{◌≡◌, refl}
 use mathlib.Core.Bool.{Bool, true, false}
 use mathlib.Core.List.{List}
@@ -20,8 +24,6 @@ use Rattle.agq_rule.proofs.Caps.{inner_within}
 use Rattle.model.specs.Inputs.{Inputs}
 use Rattle.table.specs.Table.{table_of}
 use Rattle.table.specs.Facts.{Sound}
-use Rattle.table.specs.declared.verdicts.Verdict.{Verdict}
-use Rattle.table.specs.declared.verdicts.Verdict.TheVariants.{Accepted, Refused}
 use Rattle.table.proofs.Accepting.{accepted_sound}
 use Rattle.dispersion.specs.Phi.{effective_n}
 use Rattle.dispersion.proofs.Capped.{loop_capped, fixed_capped}
@@ -76,9 +78,9 @@ pub call_capped : (t : Settings) (s : Shape) (I : Inputs) (L : Lent) → Capped 
 unfolding call_given
 call_capped t s I L = by_verdict (table_of 1 t s I (lengths_of L)) refl
   where
-    by_verdict : (x : Verdict) → table_of 1 t s I (lengths_of L) ≡ x → Capped (call_of t s I L).answer.account
-    by_verdict (Refused r) e = rw (refused_left t s I L r e) none_capped
-    by_verdict (Accepted f l) e =
+    by_verdict : (x : Result (CarriedFamily × CarriedLink) Refusal) → table_of 1 t s I (lengths_of L) ≡ x → Capped (call_of t s I L).answer.account
+    by_verdict (Err r) e = rw (refused_left t s I L r e) none_capped
+    by_verdict (Ok (f, l)) e =
         let a : Sound 1 t s I (lengths_of L) f l = accepted_sound 1 t s I (lengths_of L) f l e in
         rw (accepted_account t s I L f l e)
         (fit_capped (call_given f l t s I) (call_means f l t s I) t.n_agq (limit_of t.limit t.link) a.sized.shape (limit_few t.limit t.link a.sized.limit))

@@ -1,4 +1,5 @@
 -- The account of an accepted call by its limit, link and shape: what one inner fit may do, or with a dispersion 241 times that. The request, demand 3. Assumes nothing.
+use Rattle.std.specs.Prelude.{Ok}
 use mathlib.Core.Path.{◌≡◌}
 use mathlib.Core.Bool.{Bool, true, false}
 use mathlib.Core.List.{List}
@@ -21,7 +22,6 @@ use Rattle.rule.specs.Given.{Given, n_of}
 use Rattle.agq_rule.proofs.Caps.{inner_capped}
 use Rattle.model.specs.Inputs.{Inputs}
 use Rattle.table.specs.Table.{table_of}
-use Rattle.table.specs.declared.verdicts.Verdict.TheVariants.{Accepted}
 use Rattle.dispersion.specs.Phi.{effective_n}
 use Rattle.dispersion.specs.Rounds.{last_fit, dispersion_of, fixed_of}
 use Rattle.dispersion.proofs.Capped.{loop_most}
@@ -66,7 +66,7 @@ module _ (G : Given) (mu : List Float) (wish L : ℕ) where
   all_capped_by e = rw e rounds_capped_by
 
 -- ---- an accepted call, with the limit L that was given or stands for it
-module _ (t : Settings) (s : Shape) (I : Inputs) (A : Lent) (f : CarriedFamily) (l : CarriedLink) (e : table_of 1 t s I (lengths_of A) ≡ Accepted f l) where
+module _ (t : Settings) (s : Shape) (I : Inputs) (A : Lent) (f : CarriedFamily) (l : CarriedLink) (e : table_of 1 t s I (lengths_of A) ≡ Ok (f, l)) where
   abbrev inner_cap_in : Account
   inner_cap_in = inner_cap_of s (link_of l) (limit_of t.limit t.link)
 

@@ -1,4 +1,5 @@
 -- A higher limit changes nothing in a call that did not end with 13, and no count shrinks. Assumes nothing.
+use Rattle.std.specs.Prelude.{Option, Some, None, Result, Ok, Err}
 use mathlib.Core.Path.{◌≡◌, refl, sym, ap, ◌∙◌}
 use mathlib.Core.Bool.{Bool, true, false}
 use mathlib.Core.List.{List}
@@ -14,8 +15,6 @@ use Rattle.model.specs.Names.{limit_of}
 use Rattle.model.specs.Settings.{good_limit, good_sizes}
 use Rattle.model.specs.declared.counts.Account.{Account}
 use Rattle.model.specs.declared.ends.Refusal.{Refusal}
-use Rattle.model.specs.declared.names.Limit.{Limit}
-use Rattle.model.specs.declared.names.Limit.TheVariants.{Given, NotGiven}
 use Rattle.model.specs.declared.names.Link.{Link}
 use Rattle.model.specs.declared.sizes.Shape.{Shape}
 use Rattle.model.specs.declared.sizes.Settings.{Settings}
@@ -28,8 +27,6 @@ use Rattle.table.specs.Tests.{good_inputs, good_results, good_work}
 use Rattle.model.specs.Inputs.{Inputs}
 use Rattle.table.specs.Table.{table_of}
 use Rattle.table.specs.declared.verdicts.LentLengths.{LentLengths}
-use Rattle.table.specs.declared.verdicts.Verdict.{Verdict}
-use Rattle.table.specs.declared.verdicts.Verdict.TheVariants.{Accepted, Refused}
 use Rattle.dispersion.specs.Phi.{effective_n}
 use Rattle.dispersion.proofs.Higher.{Stopped, dispersion_same, dispersion_grows, fixed_same, fixed_grows}
 use Rattle.call.specs.Fit.{sum_of, result_by, total_of, inner_at, fit_by, fit_of, result_answer, answer_of}
@@ -84,13 +81,13 @@ no_more a =
 
 abbrev pub limited : ℕ → Settings → Settings
 limited M t =
-    record { family = t.family; link = t.link; n_agq = t.n_agq; limit = Given M; n = t.n; p = t.p; rows = t.rows; entries = t.entries; start = t.start }
+    record { family = t.family; link = t.link; n_agq = t.n_agq; limit = Some M; n = t.n; p = t.p; rows = t.rows; entries = t.entries; start = t.start }
 
 -- a limit that is not above one of at most 1000 is in range
-limit_good : (a : Limit) (k : Link) (M : ℕ) → limit_of a k ≤ M → M ≤ 1000 → good_limit a ≡ true
+limit_good : (a : Option ℕ) (k : Link) (M : ℕ) → limit_of a k ≤ M → M ≤ 1000 → good_limit a ≡ true
 unfolding limit_of good_limit
-limit_good (Given L) k M h m = le-leb L 1000 (omega (arith, h, m))
-limit_good NotGiven k M h m = refl
+limit_good (Some L) k M h m = le-leb L 1000 (omega (arith, h, m))
+limit_good None k M h m = refl
 
 -- the table looks at the limit's range alone, for any number of responses
 pub limited_table : (r M : ℕ) (t : Settings) (s : Shape) (I : Inputs) (L : LentLengths) → limit_of t.limit t.link ≤ M → M ≤ 1000 → table_of r (limited M t) s I L ≡ table_of r t s I L
@@ -102,7 +99,7 @@ module _ (t : Settings) (s : Shape) (I : Inputs) (L : Lent) (M : ℕ) (higher : 
   again : table_of 1 (limited M t) s I (lengths_of L) ≡ table_of 1 t s I (lengths_of L)
   again = limited_table 1 M t s I (lengths_of L) higher few
 
-  module _ (f : CarriedFamily) (l : CarriedLink) (e : table_of 1 t s I (lengths_of L) ≡ Accepted f l) where
+  module _ (f : CarriedFamily) (l : CarriedLink) (e : table_of 1 t s I (lengths_of L) ≡ Ok (f, l)) where
     -- only end 13 is told under 13
     stopped : ((call_of t s I L).answer.number ≡ 13 → ⊥) → Stopped (asked_fit f l t s I)
     unfolding fit_left answer_of result_answer unfitted_answer
@@ -120,19 +117,19 @@ module _ (t : Settings) (s : Shape) (I : Inputs) (L : Lent) (M : ℕ) (higher : 
         rw (accepted_account (limited M t) s I L f l (again ∙ e), accepted_account t s I L f l e)
         (fit_account_grows (call_given f l t s I) (call_means f l t s I) t.n_agq (limit_of t.limit t.link) M higher)
 
-  refused_same : (r : Refusal) → table_of 1 t s I (lengths_of L) ≡ Refused r → call_of (limited M t) s I L ≡ call_of t s I L
+  refused_same : (r : Refusal) → table_of 1 t s I (lengths_of L) ≡ Err r → call_of (limited M t) s I L ≡ call_of t s I L
   refused_same r e = refused_left (limited M t) s I L r (again ∙ e) ∙ sym (refused_left t s I L r e)
 
   pub call_same : ((call_of t s I L).answer.number ≡ 13 → ⊥) → call_of (limited M t) s I L ≡ call_of t s I L
   call_same h = by (table_of 1 t s I (lengths_of L)) refl
     where
-      by : (x : Verdict) → table_of 1 t s I (lengths_of L) ≡ x → call_of (limited M t) s I L ≡ call_of t s I L
-      by (Accepted f l) e = accepted_same f l e h
-      by (Refused r) e = refused_same r e
+      by : (x : Result (CarriedFamily × CarriedLink) Refusal) → table_of 1 t s I (lengths_of L) ≡ x → call_of (limited M t) s I L ≡ call_of t s I L
+      by (Ok (f, l)) e = accepted_same f l e h
+      by (Err r) e = refused_same r e
 
   pub call_account_grows : AtMost (call_of (limited M t) s I L).answer.account (call_of t s I L).answer.account
   call_account_grows = by (table_of 1 t s I (lengths_of L)) refl
     where
-      by : (x : Verdict) → table_of 1 t s I (lengths_of L) ≡ x → AtMost (call_of (limited M t) s I L).answer.account (call_of t s I L).answer.account
-      by (Accepted f l) e = accepted_grows f l e
-      by (Refused r) e = rw (refused_same r e) (no_more (call_of t s I L).answer.account)
+      by : (x : Result (CarriedFamily × CarriedLink) Refusal) → table_of 1 t s I (lengths_of L) ≡ x → AtMost (call_of (limited M t) s I L).answer.account (call_of t s I L).answer.account
+      by (Ok (f, l)) e = accepted_grows f l e
+      by (Err r) e = rw (refused_same r e) (no_more (call_of t s I L).answer.account)

@@ -1,4 +1,5 @@
 -- What a call leaves, by its verdict and by what its fit comes to. Assumes nothing.
+use Rattle.std.specs.Prelude.{Ok, Err}
 use mathlib.Core.Path.{◌≡◌, refl}
 use Prim.Native.Nat.{ℕ}
 use native.Mathlib.Omega.{arith}
@@ -22,13 +23,12 @@ use Rattle.results.specs.Nine.{results_of}
 use Rattle.agq_rule.specs.Inner.{why_by}
 use Rattle.model.specs.Inputs.{Inputs}
 use Rattle.table.specs.Table.{table_of}
-use Rattle.table.specs.declared.verdicts.Verdict.TheVariants.{Accepted, Refused}
 use Rattle.dispersion.specs.Rounds.{Result, result, no_result, Total, Dispersed}
 use Rattle.call.specs.Fit.{Fitted, fit_of, result_answer, answer_of}
 use Rattle.call.specs.Call.{Lent, lengths_of, left, call_given, call_means, results_after, fit_left, call_by, call_of}
 
 -- ---- a refusal: its number, nothing counted, every slice as it was lent
-pub refused_left : (t : Settings) (s : Shape) (I : Inputs) (L : Lent) (r : Refusal) → table_of 1 t s I (lengths_of L) ≡ Refused r → call_of t s I L ≡ left (blank_answer (refusal_number r) no_counts) L
+pub refused_left : (t : Settings) (s : Shape) (I : Inputs) (L : Lent) (r : Refusal) → table_of 1 t s I (lengths_of L) ≡ Err r → call_of t s I L ≡ left (blank_answer (refusal_number r) no_counts) L
 unfolding call_of call_by refused_answer
 refused_left t s I L r e = rw e refl
 
@@ -37,7 +37,7 @@ refused_left t s I L r e = rw e refl
 abbrev pub asked_fit : CarriedFamily → CarriedLink → Settings → Shape → Inputs → Total (Dispersed Fitted)
 asked_fit f l t s I = fit_of (call_given f l t s I) (call_means f l t s I) t.n_agq (limit_of t.limit t.link)
 
-pub accepted_left : (t : Settings) (s : Shape) (I : Inputs) (L : Lent) (f : CarriedFamily) (l : CarriedLink) → table_of 1 t s I (lengths_of L) ≡ Accepted f l
+pub accepted_left : (t : Settings) (s : Shape) (I : Inputs) (L : Lent) (f : CarriedFamily) (l : CarriedLink) → table_of 1 t s I (lengths_of L) ≡ Ok (f, l)
     → call_of t s I L ≡ fit_left t.n t.p t.rows (call_given f l t s I) (asked_fit f l t s I) L
 unfolding call_of call_by
 accepted_left t s I L f l e = rw e refl
@@ -59,7 +59,7 @@ pub record WorkLeft (n p q : ℕ) (L M : Lent) : Type 0 where
   pub matrices : M.matrices ≡ fill_to (matrices_length p q) zero_at L.matrices
   pub terms : M.terms ≡ fill_to terms_length zero_at L.terms
 
-module _ (t : Settings) (s : Shape) (I : Inputs) (L : Lent) (f : CarriedFamily) (l : CarriedLink) (e : table_of 1 t s I (lengths_of L) ≡ Accepted f l) where
+module _ (t : Settings) (s : Shape) (I : Inputs) (L : Lent) (f : CarriedFamily) (l : CarriedLink) (e : table_of 1 t s I (lengths_of L) ≡ Ok (f, l)) where
   pub accepted_work : WorkLeft t.n t.p t.rows L (call_of t s I L).lent
   unfolding fit_left
   accepted_work = rw (accepted_left t s I L f l e) (record { rows = refl; matrices = refl; terms = refl })

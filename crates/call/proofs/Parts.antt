@@ -1,4 +1,8 @@
 -- What became of the tries of a call: the four parts add up to the tries, and there is one accepted try for each solve, but for the last solve of a call that ends with 12. Document 02, P9. Assumes nothing.
+use Rattle.family.specs.declared.carried.CarriedFamily.{CarriedFamily}
+use Rattle.family.specs.declared.carried.CarriedLink.{CarriedLink}
+use Rattle.model.specs.declared.ends.Refusal.{Refusal}
+use Rattle.std.specs.Prelude.{Result, Ok, Err}
 use mathlib.Core.Path.{◌≡◌, refl, sym}
 use mathlib.Core.Bool.{Bool, true, false}
 use mathlib.Core.List.{List}
@@ -24,10 +28,8 @@ use Rattle.rule.proofs.Accepted.{stuck_in}
 use Rattle.agq_rule.specs.Inner.{with_points, after_run, inner_with, inner_of}
 use Rattle.agq_rule.proofs.Caps.{inner_paid}
 use Rattle.table.specs.Table.{table_of}
-use Rattle.table.specs.declared.verdicts.Verdict.{Verdict}
-use Rattle.table.specs.declared.verdicts.Verdict.TheVariants.{Accepted, Refused}
 use Rattle.dispersion.specs.Phi.{effective_n}
-use Rattle.dispersion.specs.Rounds.{Result, result, no_result, Dispersed}
+use Rattle.dispersion.specs.Rounds.{Result as FitResult, result, no_result, Dispersed}
 use Rattle.dispersion.proofs.Accepted.{stuck_by, TotalPaid, loop_paid, fixed_paid}
 use Rattle.call.specs.Fit.{Fitted, sum_of, result_by, total_of, inner_at, fit_by, fit_of, result_answer, answer_of}
 use Rattle.call.specs.Call.{Lent, lengths_of, call_given, call_means, fit_left, call_by, call_of}
@@ -64,7 +66,7 @@ record Parted (a : Answer) : Type 0 where
   all : (a.number ≡ 12 → ⊥) → a.account.ok ≡ a.account.solves
   stuck : a.number ≡ 12 → a.account.ok + 1 ≡ a.account.solves
 
-by_result : (x : Result (Dispersed Fitted)) (c : Account) → AddsUp c → c.solves ≡ c.ok + stuck_by x → Parted (result_answer x c)
+by_result : (x : FitResult (Dispersed Fitted)) (c : Account) → AddsUp c → c.solves ≡ c.ok + stuck_by x → Parted (result_answer x c)
 unfolding result_answer unfitted_answer fitted_answer
 by_result (result d) c p q = record { parts = p; accepts = omega (arith, q); all = λ h. omega (arith, q); stuck = λ h. absurd (omega (arith, h)) }
 by_result (no_result SystemPivot) c p q = record { parts = p; accepts = omega (arith, q); all = λ h. omega (arith, q); stuck = λ h. absurd (omega (arith, h)) }
@@ -74,10 +76,10 @@ by_result (no_result NoStop) c p q = record { parts = p; accepts = omega (arith,
 
 -- ---- every call, refused ones too
 module _ (t : Settings) (s : Shape) (I : Inputs) (L : Lent) where
-  by_verdict : (v : Verdict) → Parted (call_by v t s I L).answer
+  by_verdict : (v : Result (CarriedFamily × CarriedLink) Refusal) → Parted (call_by v t s I L).answer
   unfolding call_by refused_answer fit_left answer_of tally
-  by_verdict (Refused r) = record { parts = refl; accepts = omega arith; all = λ h. refl; stuck = λ h. absurd (not_both r 12 (sym h) (inr (omega arith, omega arith))) }
-  by_verdict (Accepted f l) =
+  by_verdict (Err r) = record { parts = refl; accepts = omega arith; all = λ h. refl; stuck = λ h. absurd (not_both r 12 (sym h) (inr (omega arith, omega arith))) }
+  by_verdict (Ok (f, l)) =
       let fit = asked_fit f l t s I in
       by_result fit.outcome (tally fit.items) (tally_parts fit.items) (fit_paid (call_given f l t s I) (call_means f l t s I) t.n_agq (limit_of t.limit t.link))
 

@@ -1,4 +1,5 @@
 -- The start with trial counts: with weights absent or all 1 it begins from the same means as the usual start, so the call is the same; a call that asks for it is refused with 27 exactly where it must be. Document 02, P10. Assumes nothing.
+use Rattle.std.specs.Prelude.{Ok}
 use mathlib.Core.Path.{◌≡◌, refl, sym, ap, ◌∙◌}
 use mathlib.Core.Logic.{◌⊎◌}
 use Prim.Native.Nat.{ℕ, ◌<◌}
@@ -27,7 +28,6 @@ use Rattle.spread.proofs.OneTimes.{one_times, one_and_one}
 use Rattle.table.specs.Table.{table_of}
 use Rattle.table.specs.Tests.{good_inputs, good_results, good_work}
 use Rattle.table.specs.When.{GivenWhen}
-use Rattle.table.specs.declared.verdicts.Verdict.TheVariants.{Accepted}
 use Rattle.table.proofs.Accepting.{usual_passes}
 use Rattle.table.proofs.Meant.{is_trials}
 use Rattle.table.proofs.When.{accepted_when}
@@ -66,14 +66,14 @@ started start t =
     }
 
 -- a call that is accepted with some start is accepted with the usual one
-pub usual_accepted : (start : Start) (t : Settings) (s : Shape) (I : Inputs) (L : Lent) (f : CarriedFamily) (l : CarriedLink) → table_of 1 (started start t) s I (lengths_of L) ≡ Accepted f l
-    → table_of 1 (started Usual t) s I (lengths_of L) ≡ Accepted f l
+pub usual_accepted : (start : Start) (t : Settings) (s : Shape) (I : Inputs) (L : Lent) (f : CarriedFamily) (l : CarriedLink) → table_of 1 (started start t) s I (lengths_of L) ≡ Ok (f, l)
+    → table_of 1 (started Usual t) s I (lengths_of L) ≡ Ok (f, l)
 unfolding good_sizes good_inputs good_results good_work
 usual_accepted start t s I L f l e =
     let a = (accepted_when 1 (started start t) s I (lengths_of L) f l).0 e in
     (accepted_when 1 (started Usual t) s I (lengths_of L) f l).1 ((a.0.0, usual_passes I.weights (carried_family t.family)), a.1)
 
-pub call_start : (t : Settings) (s : Shape) (I : Inputs) (L : Lent) (l : CarriedLink) → table_of 1 (started Trials t) s I (lengths_of L) ≡ Accepted Binomial l
+pub call_start : (t : Settings) (s : Shape) (I : Inputs) (L : Lent) (l : CarriedLink) → table_of 1 (started Trials t) s I (lengths_of L) ≡ Ok (Binomial, l)
     → ((i : ℕ) → i < t.n → T (fits binary64 (I.y ! i))) → ((i : ℕ) → i < t.n → weight_at I.weights i ≡ one_f)
     → call_of (started Trials t) s I L ≡ call_of (started Usual t) s I L
 unfolding call_given

@@ -1,4 +1,5 @@
 -- A call that is answered with number 0 took the first stop of its last inner fit, within the limit; without a free dispersion such a stop is taken. Assumes nothing.
+use Rattle.std.specs.Prelude.{Ok}
 use mathlib.Core.Path.{◌≡◌, refl, ap}
 use mathlib.Core.Bool.{true, false}
 use mathlib.Core.List.{List}
@@ -22,7 +23,6 @@ use Rattle.rule.proofs.Stopping.{run_stops}
 use Rattle.agq_rule.specs.Steps.{quadrature_of}
 use Rattle.agq_rule.specs.Inner.{with_points, after_run, inner_with, inner_of}
 use Rattle.table.specs.Table.{table_of}
-use Rattle.table.specs.declared.verdicts.Verdict.TheVariants.{Accepted}
 use Rattle.dispersion.specs.Rounds.{Result, result, no_result, Dispersed, with_flag, last_fit, fixed_of}
 use Rattle.dispersion.proofs.Turns.{is_result}
 use Rattle.call.specs.Fit.{Fitted, result_by, total_of, inner_at, fit_by, fit_of, result_answer, answer_of}
@@ -53,7 +53,7 @@ module _ (G : Given) (mu : List Float) (wish : ℕ) (phi : Float) (g : Fitted) w
   stood L h = let o = run_of G phi L mu in by_ending o.ending o.items h
 
 -- ---- the call
-module _ (t : Settings) (s : Shape) (I : Inputs) (L : Lent) (f : CarriedFamily) (l : CarriedLink) (e : table_of 1 t s I (lengths_of L) ≡ Accepted f l) where
+module _ (t : Settings) (s : Shape) (I : Inputs) (L : Lent) (f : CarriedFamily) (l : CarriedLink) (e : table_of 1 t s I (lengths_of L) ≡ Ok (f, l)) where
   abbrev given : Given
   given = call_given f l t s I
 

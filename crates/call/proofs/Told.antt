@@ -1,4 +1,5 @@
 -- What a fit reports: the phi is the one that its last inner fit ran with, a flag that is false tells of 241 inner fits, and without a free dispersion there is one. Assumes nothing.
+use Rattle.std.specs.Prelude.{Ok}
 use mathlib.Core.Path.{◌≡◌, refl, sym, ap, ◌∙◌}
 use mathlib.Core.Bool.{Bool, true, false}
 use mathlib.Core.List.{List}
@@ -24,7 +25,6 @@ use Rattle.agq_rule.specs.Steps.{quadrature_of}
 use Rattle.agq_rule.specs.Inner.{with_points, after_run, inner_with, inner_of}
 use Rattle.agq_rule.proofs.Caps.{inner_capped}
 use Rattle.table.specs.Table.{table_of}
-use Rattle.table.specs.declared.verdicts.Verdict.TheVariants.{Accepted}
 use Rattle.dispersion.specs.Phi.{effective_n}
 use Rattle.dispersion.specs.Rounds.{Result, result, no_result, Dispersed, with_flag, last_fit, dispersion_of, fixed_of}
 use Rattle.dispersion.proofs.Reported.{last_ran, phi_ran, unsettled_241}
@@ -80,7 +80,7 @@ module _ (G : Given) (mu : List Float) (wish L : ℕ) (d : Dispersed Fitted) whe
   flag_all e u = by_all (uses_dispersion G.family) e u
 
 -- ---- a call with number 0 whose flag is false made 241 inner fits
-module _ (t : Settings) (s : Shape) (I : Inputs) (A : Lent) (f : CarriedFamily) (l : CarriedLink) (e : table_of 1 t s I (lengths_of A) ≡ Accepted f l) where
+module _ (t : Settings) (s : Shape) (I : Inputs) (A : Lent) (f : CarriedFamily) (l : CarriedLink) (e : table_of 1 t s I (lengths_of A) ≡ Ok (f, l)) where
   pub call_flag_all : (call_of t s I A).answer.number ≡ 0 → (call_of t s I A).answer.converged ≡ false → (call_of t s I A).answer.account.fits ≡ 241
   unfolding fit_left answer_of result_answer fitted_answer
   call_flag_all h u =
@@ -93,7 +93,7 @@ pub one_fit_lem : (G : Given) (mu : List Float) (wish L : ℕ) → uses_dispersi
 unfolding fit_of fit_by fixed_of last_fit tally
 one_fit_lem G mu wish L u = rw u (inner_counts G mu wish L one_f)
 
-pub call_one_fit : (t : Settings) (s : Shape) (I : Inputs) (A : Lent) (f : CarriedFamily) (l : CarriedLink) → table_of 1 t s I (lengths_of A) ≡ Accepted f l → uses_dispersion f ≡ false
+pub call_one_fit : (t : Settings) (s : Shape) (I : Inputs) (A : Lent) (f : CarriedFamily) (l : CarriedLink) → table_of 1 t s I (lengths_of A) ≡ Ok (f, l) → uses_dispersion f ≡ false
     → (call_of t s I A).answer.account.fits ≡ 1
 unfolding call_given
 call_one_fit t s I A f l e u = rw (accepted_account t s I A f l e) (one_fit_lem (call_given f l t s I) (call_means f l t s I) t.n_agq (limit_of t.limit t.link) u)

@@ -1,4 +1,8 @@
 -- The reason that a call tells: under number 0 it is 0 exactly where an order from 3 to 11 is told, and 1, 2 and 3 exactly where the order choice has them, in this order; under every other number it is 0. Assumes nothing.
+use lib.Ieee.{Float}
+use Rattle.quadrature.specs.declared.orders.Order.{Order}
+use Rattle.model.specs.declared.ends.Refusal.{Refusal}
+use Rattle.std.specs.Prelude.{Result, Ok, Err}
 use mathlib.Core.Path.{◌≡◌, refl, sym, ap, ◌∙◌}
 use mathlib.Core.Logic.{◌↔◌, ◌⊎◌}
 use Prim.Native.Nat.{◌≤◌, ◌<◌}
@@ -21,13 +25,9 @@ use Rattle.quadrature.specs.declared.orders.Decline.TheVariants.{Wish, Effects, 
 use Rattle.rule.specs.Stop.{Mode}
 use Rattle.agq_rule.specs.Steps.{quadrature_of}
 use Rattle.agq_rule.specs.Inner.{why_by}
-use Rattle.agq_rule.specs.declared.answers.Integral.{Integral}
-use Rattle.agq_rule.specs.declared.answers.Integral.TheVariants.{Declined}
 use Rattle.agq_rule.proofs.Whys.{why_to, why_zero, why_names, wish_exactly, effects_exactly, cap_exactly}
 use Rattle.table.specs.Table.{table_of}
-use Rattle.table.specs.declared.verdicts.Verdict.{Verdict}
-use Rattle.table.specs.declared.verdicts.Verdict.TheVariants.{Accepted, Refused}
-use Rattle.dispersion.specs.Rounds.{Result, result, no_result, Dispersed}
+use Rattle.dispersion.specs.Rounds.{Result as FitResult, result, no_result, Dispersed}
 use Rattle.call.specs.Fit.{Fitted, result_answer, answer_of}
 use Rattle.call.specs.Call.{Lent, lengths_of, call_given, fit_left, call_by, call_of}
 use Rattle.call.proofs.Leaves.{asked_fit}
@@ -39,7 +39,7 @@ record Reasoned (a : Answer) : Type 0 where
   none : (a.number ≡ 0 → ⊥) → a.why ≡ 0
   few : a.why ≤ 6
 
-by_result : (x : Result (Dispersed Fitted)) (c : Account) → Reasoned (result_answer x c)
+by_result : (x : FitResult (Dispersed Fitted)) (c : Account) → Reasoned (result_answer x c)
 unfolding result_answer unfitted_answer fitted_answer
 by_result (no_result e) c = record { used = λ h. absurd (omega (arith, h, end_range e)); none = λ h. refl; few = omega arith }
 by_result (result d) c =
@@ -47,10 +47,10 @@ by_result (result d) c =
     record { used = λ h. why_zero i; none = λ h. absurd (h refl); few = why_to i }
 
 module _ (t : Settings) (s : Shape) (I : Inputs) (L : Lent) where
-  by_verdict : (v : Verdict) → Reasoned (call_by v t s I L).answer
+  by_verdict : (v : Result (CarriedFamily × CarriedLink) Refusal) → Reasoned (call_by v t s I L).answer
   unfolding call_by refused_answer fit_left answer_of
-  by_verdict (Refused r) = record { used = λ h. absurd (omega (arith, h, (refusal_range r).0)); none = λ h. refl; few = omega arith }
-  by_verdict (Accepted f l) = let fit = asked_fit f l t s I in by_result fit.outcome (tally fit.items)
+  by_verdict (Err r) = record { used = λ h. absurd (omega (arith, h, (refusal_range r).0)); none = λ h. refl; few = omega arith }
+  by_verdict (Ok (f, l)) = let fit = asked_fit f l t s I in by_result fit.outcome (tally fit.items)
 
   reasoned : Reasoned (call_of t s I L).answer
   unfolding call_of
@@ -69,18 +69,18 @@ module _ (t : Settings) (s : Shape) (I : Inputs) (L : Lent) where
   call_why_few = reasoned.few
 
 -- ---- the reasons of the order choice, of a fitted call: each exactly where it is the first that holds
-module _ (t : Settings) (s : Shape) (I : Inputs) (L : Lent) (f : CarriedFamily) (l : CarriedLink) (e : table_of 1 t s I (lengths_of L) ≡ Accepted f l) (h : (call_of t s I L).answer.number ≡ 0) where
+module _ (t : Settings) (s : Shape) (I : Inputs) (L : Lent) (f : CarriedFamily) (l : CarriedLink) (e : table_of 1 t s I (lengths_of L) ≡ Ok (f, l)) (h : (call_of t s I L).answer.number ≡ 0) where
   -- the mode that was taken, and the quadrature there
   abbrev taken : Mode
   taken = (call_first_stop t s I L f l e h).0
 
-  abbrev integral : Integral
+  abbrev integral : Result (Float × Order) Decline
   integral = (quadrature_of (call_given f l t s I) t.n_agq taken (call_of t s I L).answer.phi).answer
 
   why_is : (call_of t s I L).answer.why ≡ why_by integral
   why_is = (call_first_stop t s I L f l e h).1.why
 
-  named : (d : Decline) → decline_number d ≤ 3 → ((call_of t s I L).answer.why ≡ decline_number d) ↔ (integral ≡ Declined d)
+  named : (d : Decline) → decline_number d ≤ 3 → ((call_of t s I L).answer.why ≡ decline_number d) ↔ (integral ≡ Err d)
   unfolding why_by
   named d few = (λ q. why_names integral d few (sym why_is ∙ q), λ q. why_is ∙ ap why_by q)
 

@@ -1,5 +1,6 @@
 -- What a call answers and what it leaves in every lent slice. Document 01, "Numbers of an answer"; document 02, P10. Assumes nothing.
-use Rattle.std.specs.Prelude.{◌≡◌, List, ◌⊎◌, ℕ, ◌≤◌, length, Float}
+use Rattle.model.specs.declared.ends.Refusal.{Refusal}
+use Rattle.std.specs.Prelude.{◌≡◌, List, ◌⊎◌, ℕ, ◌≤◌, length, Float, Result, Ok, Err}
 use Rattle.base.specs.List.{zero_at, fill_to}
 use Rattle.model.specs.Answer.{refused_answer}
 use Rattle.model.specs.Names.{limit_of}
@@ -21,9 +22,7 @@ use Rattle.results.specs.Nine.{Results, nine, results_of}
 use Rattle.model.specs.Inputs.{Inputs}
 use Rattle.table.specs.Table.{table_of}
 use Rattle.table.specs.declared.verdicts.LentLengths.{LentLengths}
-use Rattle.table.specs.declared.verdicts.Verdict.{Verdict}
-use Rattle.table.specs.declared.verdicts.Verdict.TheVariants.{Accepted, Refused}
-use Rattle.dispersion.specs.Rounds.{Result, result, no_result, Total, Dispersed}
+use Rattle.dispersion.specs.Rounds.{Result as FitResult, result, no_result, Total, Dispersed}
 use Rattle.call.specs.Fit.{Fitted, fit_of, answer_of}
 
 -- the slices that a call may write: nine results and three work slices
@@ -75,7 +74,7 @@ abbrev pub call_means : CarriedFamily → CarriedLink → Settings → Shape →
 call_means f l t s I = start_means t.start (call_given f l t s I)
 
 -- the results after a fit: those of the last inner fit's mode; without a result those before
-unfoldable pub results_after : Result (Dispersed Fitted) → Given → Results → Results
+unfoldable pub results_after : FitResult (Dispersed Fitted) → Given → Results → Results
 results_after (no_result e) G before = before
 results_after (result d) G before = results_of G d.last.mode
 
@@ -94,9 +93,9 @@ fit_left n p q G t L =
     }
 
 -- by the verdict: a refusal leaves every slice as it was lent, an accepted call is fitted
-unfoldable pub call_by : Verdict → Settings → Shape → Inputs → Lent → Left
-call_by (Refused refusal) t s I L = record { answer = refused_answer refusal; lent = L }
-call_by (Accepted f l) t s I L =
+unfoldable pub call_by : Result (CarriedFamily × CarriedLink) Refusal → Settings → Shape → Inputs → Lent → Left
+call_by (Err refusal) t s I L = record { answer = refused_answer refusal; lent = L }
+call_by (Ok (f, l)) t s I L =
     fit_left t.n t.p t.rows (call_given f l t s I) (fit_of (call_given f l t s I) (call_means f l t s I) t.n_agq (limit_of t.limit t.link)) L
 
 -- the call

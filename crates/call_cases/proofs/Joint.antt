@@ -1,4 +1,5 @@
 -- Gaussian, identity, the joint rule over two blocks, three rounds. Made by tools/cases/call.py; the right side is the oracle's answer. Assumes nothing.
+use Rattle.std.specs.Prelude.{None}
 use mathlib.Core.Path.{◌≡◌, refl}
 use mathlib.Core.Bool.{true}
 use mathlib.Core.List.{[], ◌∷◌}
@@ -73,14 +74,13 @@ use Rattle.model.specs.declared.sizes.Shape.{Shape}
 use Rattle.model.specs.declared.sizes.Settings.{Settings}
 use Rattle.model.specs.declared.names.Family.TheVariants as family
 use Rattle.model.specs.declared.names.Link.TheVariants as link
-use Rattle.model.specs.declared.names.Limit.TheVariants as limit
 use Rattle.model.specs.declared.names.Start.TheVariants as start
 use Rattle.table.specs.declared.verdicts.LentLengths.{LentLengths}
 use Rattle.call.specs.Call.{Lent}
 use Rattle.call_cases.specs.Told.{Told, told_of}
 
 abbrev settings : Settings
-settings = record { family = family.Gaussian; link = link.Identity; n_agq = 3; limit = limit.NotGiven; n = 3; p = 1; rows = 2; entries = 3; start = start.Usual }
+settings = record { family = family.Gaussian; link = link.Identity; n_agq = 3; limit = None; n = 3; p = 1; rows = 2; entries = 3; start = start.Usual }
 
 abbrev shape : Shape
 shape = record { count = 2; m = 1 ∷ 1 ∷ 0 ∷ 0 ∷ 0 ∷ 0 ∷ 0 ∷ 0 ∷ []; k = 1 ∷ 1 ∷ 0 ∷ 0 ∷ 0 ∷ 0 ∷ 0 ∷ 0 ∷ [] }

@@ -23,22 +23,12 @@ fn two(a: f64, b: f64) {
     text::end_line();
 }
 
-fn with_each(a: f64) {
-    let mut i = 0;
-    while i < text::SPECIALS {
-        two(a, text::special(i));
-        i += 1;
-    }
-}
-
+// Each special value alone, then with each.
 fn numbers() {
-    let mut i = 0;
-    while i < text::SPECIALS {
-        let x = text::special(i);
-        one(x);
-        with_each(x);
-        i += 1;
-    }
+    text::each_special(|a| {
+        one(a);
+        text::each_special(|b| two(a, b));
+    });
 }
 
 // Sums whose last bits depend on their order, and on where they begin.
@@ -57,11 +47,7 @@ fn sums() {
 
 // Four numbers.
 fn put_row(a: &[f64; 4]) {
-    text::put_double(a[0]);
-    text::put_double(a[1]);
-    text::put_double(a[2]);
-    text::put_double(a[3]);
-    text::end_line();
+    text::put_list(b"", a, 4);
 }
 
 // What is written, and that the rest stays.

@@ -5,9 +5,7 @@
 
 use blocks::Block;
 use blocks_coded::{CodedSettings, PlainAnswer};
-
-// The pattern of 9.25.
-const LENT: u64 = 0x4022_8000_0000_0000;
+use model::Inputs;
 
 // The fit over the list of the first `count` blocks; of a count past two, over what is left of it by 3. A list is lent here alone: no other function has a
 // `&[Block]`.
@@ -16,14 +14,7 @@ fn call(
     count: usize,
     one: Block,
     two: Block,
-    theta: &[f64],
-    y: &[f64],
-    weights: &[f64],
-    offset: &[f64],
-    x: &[f64],
-    starts: &[usize],
-    columns: &[usize],
-    values: &[f64],
+    lists: &Inputs<'_>,
     beta: &mut [f64],
     se: &mut [f64],
     z: &mut [f64],
@@ -42,14 +33,14 @@ fn call(
     blocks_coded::fit_coded(
         coded,
         &list[..n],
-        theta,
-        y,
-        weights,
-        offset,
-        x,
-        starts,
-        columns,
-        values,
+        lists.theta,
+        lists.y,
+        lists.weights,
+        lists.offset,
+        lists.x,
+        lists.starts,
+        lists.columns,
+        lists.values,
         beta,
         se,
         z,
@@ -63,26 +54,6 @@ fn call(
         matrices,
         terms,
     )
-}
-
-// The first place from `at` on that holds another pattern, or where the list ends.
-fn first_other(xs: &[f64], at: usize, pattern: u64) -> usize {
-    let mut i = at;
-    while i < xs.len() {
-        if base::pattern(xs[i]) != pattern {
-            return i;
-        }
-        i += 1;
-    }
-    i
-}
-
-// A work slice: how many +0.0 it begins with, and where what follows is no longer as lent.
-fn put_work(word: &[u8], xs: &[f64]) {
-    let zeros = first_other(xs, 0, 0);
-    text::put_word(word);
-    text::put_count(zeros as u64);
-    text::put_count(first_other(xs, zeros, LENT) as u64);
 }
 
 // A result, and what stands behind it.
@@ -113,31 +84,26 @@ fn put_results(
 }
 
 fn put_works(rows: &[f64], matrices: &[f64], terms: &[f64]) {
-    put_work(b"rows", rows);
-    put_work(b" matrices", matrices);
-    put_work(b" terms", terms);
+    fed::put_work(b"rows", rows);
+    fed::put_work(b" matrices", matrices);
+    fed::put_work(b" terms", terms);
     text::end_line();
 }
 
-fn put_named(word: &[u8], n: u64) {
-    text::put_word(word);
-    text::put_count(n);
-}
-
 fn put_counts(a: PlainAnswer) {
-    put_named(b":", a.number);
-    put_named(b" order", a.order);
-    put_named(b" disp", a.flag);
-    put_named(b" iters", a.iterations);
-    put_named(b" fits", a.fits);
-    put_named(b" solves", a.solves);
-    put_named(b" tries", a.tries);
-    put_named(b" points", a.points);
-    put_named(b" why", a.why);
-    put_named(b" eta", a.eta);
-    put_named(b" mean", a.mean);
-    put_named(b" pwrss", a.pwrss);
-    put_named(b" ok", a.ok);
+    fed::put_named(b":", a.number);
+    fed::put_named(b" order", a.order);
+    fed::put_named(b" disp", a.flag);
+    fed::put_named(b" iters", a.iterations);
+    fed::put_named(b" fits", a.fits);
+    fed::put_named(b" solves", a.solves);
+    fed::put_named(b" tries", a.tries);
+    fed::put_named(b" points", a.points);
+    fed::put_named(b" why", a.why);
+    fed::put_named(b" eta", a.eta);
+    fed::put_named(b" mean", a.mean);
+    fed::put_named(b" pwrss", a.pwrss);
+    fed::put_named(b" ok", a.ok);
 }
 
 fn put_answer(a: PlainAnswer) {
@@ -147,15 +113,6 @@ fn put_answer(a: PlainAnswer) {
     text::put_word(b" phi");
     text::put_double(a.phi);
     text::end_line();
-}
-
-// As many numbers as the next count says, or all where there are fewer.
-fn front<'a>(xs: &'a mut [f64]) -> &'a mut [f64] {
-    let n = fed::count();
-    if n <= xs.len() {
-        return &mut xs[0..n];
-    }
-    xs
 }
 
 // The plain numbers of the call.
@@ -199,47 +156,39 @@ fn lend(ns: &[usize], xs: &[f64]) {
         fed::count(),
         next_block(),
         next_block(),
-        fed::part(xs, 0),
-        fed::part(xs, 4),
-        fed::part(xs, 9),
-        fed::part(xs, 14),
-        fed::part(xs, 19),
-        fed::part_counts(ns, 0),
-        fed::part_counts(ns, 6),
-        fed::part(xs, 28),
-        front(&mut beta),
-        front(&mut se),
-        front(&mut z),
-        front(&mut u),
-        front(&mut b),
-        front(&mut mu),
-        front(&mut eta),
-        front(&mut residual),
-        front(&mut v),
-        front(&mut rows),
-        front(&mut matrices),
-        front(&mut terms),
+        &Inputs {
+            theta: fed::part(xs, 0),
+            y: fed::part(xs, 4),
+            weights: fed::part(xs, 9),
+            offset: fed::part(xs, 14),
+            x: fed::part(xs, 19),
+            starts: fed::part(ns, 0),
+            columns: fed::part(ns, 6),
+            values: fed::part(xs, 28),
+        },
+        fed::lent(&mut beta),
+        fed::lent(&mut se),
+        fed::lent(&mut z),
+        fed::lent(&mut u),
+        fed::lent(&mut b),
+        fed::lent(&mut mu),
+        fed::lent(&mut eta),
+        fed::lent(&mut residual),
+        fed::lent(&mut v),
+        fed::lent(&mut rows),
+        fed::lent(&mut matrices),
+        fed::lent(&mut terms),
     ));
     put_results(&beta, &se, &z, &u, &b, &mu, &eta, &residual, &v);
     put_works(&rows, &matrices, &terms);
 }
 
 fn next_call() {
-    let mut ns = [0usize; 19];
-    let mut xs = [0.0; 41];
-    fed::counts(&mut ns);
-    fed::numbers(&mut xs);
+    let ns = fed::next_counts::<19>();
+    let xs = fed::next_numbers::<41>();
     lend(&ns, &xs);
 }
 
-// The calls end at an empty name.
 fn main() {
-    let mut i: usize = 0;
-    while i < 1000 {
-        if !fed::put_name() {
-            return;
-        }
-        next_call();
-        i += 1;
-    }
+    fed::each_call(next_call);
 }

@@ -1,8 +1,6 @@
 // Runs the numbers of the dispersion loop, and the loop itself over inner fits whose deviance sums are given, and prints every bit.
 #![tactic(auto)]
 
-use dispersion::Round;
-
 // The sum of the weights, at least 1; 1 for each where there are none.
 fn count(weights: &[f64], n: usize) {
     text::put_word(b"count");
@@ -13,10 +11,9 @@ fn count(weights: &[f64], n: usize) {
 // What follows one round.
 fn round(effective: f64, phi: f64, sum: f64) {
     text::put_word(b"round");
-    let round = dispersion::round_of(effective, phi, sum);
-    match round {
-        Round::Settled => text::put_word(b" settled"),
-        Round::Next(next) => text::put_double(next),
+    match dispersion::round_of(effective, phi, sum) {
+        None => text::put_word(b" settled"),
+        Some(next) => text::put_double(next),
     }
     text::end_line();
 }
@@ -35,24 +32,15 @@ fn rounds(effective: f64, first: f64, second: f64) {
     let mut phi = 1.0;
     let mut sum = first;
     let mut other = second;
-    let mut k: u64 = 0;
-    while k < 240 {
-        let round = dispersion::round_of(effective, phi, sum);
-        match round {
-            Round::Settled => {
-                put_end(true, k, phi);
-                return;
-            }
-            Round::Next(next) => {
-                phi = next;
-            }
-        }
-        let used = sum;
-        sum = other;
-        other = used;
-        k += 1;
+    for k in 0..240 {
+        let Some(next) = dispersion::round_of(effective, phi, sum) else {
+            put_end(true, k, phi);
+            return;
+        };
+        phi = next;
+        std::mem::swap(&mut sum, &mut other);
     }
-    put_end(false, k, phi);
+    put_end(false, 240, phi);
 }
 
 fn counts() {

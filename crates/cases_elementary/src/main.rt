@@ -82,19 +82,9 @@ fn line(x: f64) {
     text::end_line();
 }
 
-fn specials() {
-    let mut i = 0;
-    while i < text::SPECIALS {
-        line(text::special(i));
-        i += 1;
-    }
-}
-
 fn branches() {
-    let mut i = 0;
-    while i < 60 {
-        line(base::double(BRANCHES[i]));
-        i += 1;
+    for pattern in BRANCHES {
+        line(base::double(pattern));
     }
 }
 
@@ -112,33 +102,19 @@ fn draw(low: u64, count: u64)
     requires { (0 < count) × (low + count ≤ 2047) }
 {
     let mut w: u64 = 0;
-    let mut i: u64 = 0;
-    while i < 200 {
+    for _ in 0..200 {
         w = std::num::wrapping_add_u64(w, 0x9e37_79b9_7f4a_7c15);
         line(drawn(w, low, count));
-        i += 1;
     }
 }
 
-// The fed arguments, of which some meet each row of the two tables so that a wrong entry is seen (tools/cases/rows.py); an empty word is their end.
-fn rows() {
-    let mut i: usize = 0;
-    while i < 1000 {
-        let w = fed::word();
-        if w == 0 {
-            return;
-        }
-        line(base::double(w));
-        i += 1;
-    }
-}
-
-// All sizes; 2^-60 to 2^60; 2^-10 to 2^10; every row.
+// All sizes; 2^-60 to 2^60; 2^-10 to 2^10; then the fed arguments, of which some meet each row of the two tables so that a wrong entry is seen
+// (tools/cases/rows.py).
 fn main() {
-    specials();
+    text::each_special(line);
     branches();
     draw(0, 2047);
     draw(963, 121);
     draw(1013, 20);
-    rows();
+    fed::each_number(1000, line);
 }

@@ -4,15 +4,13 @@
 
 ghost use Rattle.std.specs.Prelude.{◌*◌, ◌≤◌, ◌<◌};
 
-use factor::Factored;
-
 // How a factorisation ended: -, or the pivot that failed.
-fn put_end(end: Factored) {
+fn put_end(end: Result<(), usize>) {
     match end {
-        Factored::Done => {
+        Ok(()) => {
             text::put_word(b" -");
         }
-        Factored::Bad(i) => {
+        Err(i) => {
             text::put_count(i as u64);
         }
     }
@@ -24,10 +22,8 @@ fn put_v_row(columns: &[f64; 16], p: usize, a: usize)
     requires { (a < p) × (p * p ≤ 16) }
 {
     text::put_word(b"v");
-    let mut b = 0;
-    while b < p {
+    for b in 0..p {
         text::put_double(factor::v_at(columns, p, a, b));
-        b += 1;
     }
     text::end_line();
 }
@@ -35,10 +31,8 @@ fn put_v_row(columns: &[f64; 16], p: usize, a: usize)
 fn put_v(columns: &[f64; 16], p: usize)
     requires { p * p ≤ 16 }
 {
-    let mut a = 0;
-    while a < p {
+    for a in 0..p {
         put_v_row(columns, p, a);
-        a += 1;
     }
 }
 

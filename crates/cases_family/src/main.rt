@@ -200,19 +200,9 @@ fn element_lines(x: f64) {
     start_line(x);
 }
 
-fn specials() {
-    let mut i = 0;
-    while i < text::SPECIALS {
-        element_lines(text::special(i));
-        i += 1;
-    }
-}
-
 fn ordinary() {
-    let mut i = 0;
-    while i < 63 {
-        element_lines(base::double(VALUES[i]));
-        i += 1;
+    for pattern in VALUES {
+        element_lines(base::double(pattern));
     }
 }
 
@@ -237,10 +227,8 @@ fn dev_line(y: f64, mu: f64) {
 }
 
 fn with_each_mean(y: f64) {
-    let mut i = 0;
-    while i < 10 {
-        dev_line(y, base::double(MEANS[i]));
-        i += 1;
+    for pattern in MEANS {
+        dev_line(y, base::double(pattern));
     }
 }
 
@@ -261,10 +249,8 @@ fn response_lines(y: f64) {
 }
 
 fn responses() {
-    let mut i = 0;
-    while i < 19 {
-        response_lines(base::double(RESPONSES[i]));
-        i += 1;
+    for pattern in RESPONSES {
+        response_lines(base::double(pattern));
     }
 }
 
@@ -284,18 +270,14 @@ fn density_line(y: f64, shape: f64) {
 }
 
 fn with_each_shape(y: f64) {
-    let mut i = 0;
-    while i < 9 {
-        density_line(y, base::double(SHAPES[i]));
-        i += 1;
+    for pattern in SHAPES {
+        density_line(y, base::double(pattern));
     }
 }
 
 fn densities() {
-    let mut i = 0;
-    while i < 7 {
-        with_each_shape(base::double(DENSITY_RESPONSES[i]));
-        i += 1;
+    for pattern in DENSITY_RESPONSES {
+        with_each_shape(base::double(pattern));
     }
 }
 
@@ -319,12 +301,7 @@ fn put_link(link: Link) {
 }
 
 fn put_family(family: Family) {
-    match family::carried_family(family) {
-        CarriedFamily::Binomial => text::put_count(0),
-        CarriedFamily::Poisson => text::put_count(1),
-        CarriedFamily::Gaussian => text::put_count(2),
-        CarriedFamily::Gamma => text::put_count(3),
-    }
+    text::put_count(family::carried_family(family) as u64);
 }
 
 // Seven links and four families, all carried, by their codes.
@@ -351,7 +328,7 @@ fn carried() {
 }
 
 fn main() {
-    specials();
+    text::each_special(element_lines);
     ordinary();
     responses();
     densities();

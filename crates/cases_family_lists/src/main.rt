@@ -3,15 +3,10 @@
 #![tactic(auto)]
 
 use family::{CarriedFamily, CarriedLink};
-use family_lists::{AicAnswer, ListAnswer};
+use family_lists::ListError;
 
 fn next_family() -> CarriedFamily {
-    match fed::count() {
-        0 => CarriedFamily::Binomial,
-        1 => CarriedFamily::Poisson,
-        2 => CarriedFamily::Gaussian,
-        _ => CarriedFamily::Gamma,
-    }
+    CarriedFamily::from(fed::family())
 }
 
 fn next_link() -> CarriedLink {
@@ -25,13 +20,13 @@ fn next_link() -> CarriedLink {
 }
 
 // The number of an answer, and its value where it has one.
-fn put_aic(answer: AicAnswer) {
+fn put_aic(answer: Result<f64, ListError>) {
     match answer {
-        AicAnswer::Value(x) => {
+        Ok(x) => {
             text::put_count(0);
             text::put_double(x);
         }
-        AicAnswer::LengthsDiffer => text::put_count(2),
+        Err(ListError::LengthsDiffer) => text::put_count(2),
     }
 }
 
@@ -45,12 +40,12 @@ fn aic(xs: &[f64]) {
     ));
 }
 
-fn put_answer(answer: ListAnswer) {
+fn put_answer(answer: Result<(), ListError>) {
     text::put_count(family_lists::list_number(answer) as u64);
 }
 
 // The list functions of a link.
-fn link_list(code: usize, xs: &[f64], out: &mut [f64]) -> ListAnswer {
+fn link_list(code: usize, xs: &[f64], out: &mut [f64]) -> Result<(), ListError> {
     let link = next_link();
     let x = fed::part(xs, 0);
     match code {
@@ -61,7 +56,7 @@ fn link_list(code: usize, xs: &[f64], out: &mut [f64]) -> ListAnswer {
 }
 
 // Those of a family.
-fn family_list(code: usize, xs: &[f64], out: &mut [f64]) -> ListAnswer {
+fn family_list(code: usize, xs: &[f64], out: &mut [f64]) -> Result<(), ListError> {
     let family = next_family();
     let x = fed::part(xs, 0);
     match code {
@@ -96,14 +91,12 @@ fn step(code: usize, out: &mut [f64]) {
 
 fn main() {
     let mut out = [0.0; 3];
-    let mut i: usize = 0;
-    while i < 1000 {
+    for _ in 0..1000 {
         let code = fed::count();
         if code == 0 {
             return;
         }
         fed::put_name();
         step(code, &mut out);
-        i += 1;
     }
 }

@@ -5,33 +5,16 @@
 
 ghost use Rattle.std.specs.Prelude.{◌≤◌, length};
 
-use model::{Account, Answer, Settings, Shape};
-
-// The pattern of 9.25.
-const LENT: u64 = 0x4022_8000_0000_0000;
-
-// The first place from `at` on that holds another pattern, or where the list ends.
-fn first_other(xs: &[f64], at: usize, pattern: u64) -> usize {
-    let mut i = at;
-    while i < xs.len() {
-        if base::pattern(xs[i]) != pattern {
-            return i;
-        }
-        i += 1;
-    }
-    i
-}
+use model::{Account, Answer, Inputs, Settings, Shape};
 
 // How far the list was written: behind the last place that holds another pattern than before.
 fn written(xs: &[f64]) -> usize
     ensures { result ≤ length xs.now }
 {
-    let mut n = xs.len();
-    while 0 < n {
-        if base::pattern(xs[n - 1]) != LENT {
-            return n;
+    for i in (0..xs.len()).rev() {
+        if base::pattern(xs[i]) != fed::LENT {
+            return i + 1;
         }
-        n -= 1;
     }
     0
 }
@@ -49,8 +32,8 @@ fn put_result(word: &[u8], xs: &[f64]) {
 
 // A work slice: how many +0.0 it begins with, if what follows is as lent.
 fn put_work(word: &[u8], xs: &[f64]) {
-    let zeros = first_other(xs, 0, 0);
-    let other = first_other(xs, zeros, LENT);
+    let zeros = fed::first_other(xs, 0, 0);
+    let other = fed::first_other(xs, zeros, fed::LENT);
     text::put_word(word);
     if other < xs.len() {
         text::put_word(b" else at");
@@ -92,20 +75,15 @@ fn put_works(rows: &[f64], matrices: &[f64], terms: &[f64]) {
     text::end_line();
 }
 
-fn put_named(word: &[u8], n: u64) {
-    text::put_word(word);
-    text::put_count(n);
-}
-
 fn put_account(account: Account) {
-    put_named(b" fits", account.fits);
-    put_named(b" solves", account.solves);
-    put_named(b" tries", account.tries);
-    put_named(b" points", account.points);
-    put_named(b" eta", account.eta);
-    put_named(b" mean", account.mean);
-    put_named(b" pwrss", account.pwrss);
-    put_named(b" ok", account.ok);
+    fed::put_named(b" fits", account.fits);
+    fed::put_named(b" solves", account.solves);
+    fed::put_named(b" tries", account.tries);
+    fed::put_named(b" points", account.points);
+    fed::put_named(b" eta", account.eta);
+    fed::put_named(b" mean", account.mean);
+    fed::put_named(b" pwrss", account.pwrss);
+    fed::put_named(b" ok", account.ok);
 }
 
 fn put_numbers(deviance: f64, phi: f64) {
@@ -117,24 +95,14 @@ fn put_numbers(deviance: f64, phi: f64) {
 }
 
 fn put_answer(a: Answer) {
-    put_named(b":", a.number as u64);
-    put_named(b" order", a.order as u64);
+    fed::put_named(b":", a.number as u64);
+    fed::put_named(b" order", a.order as u64);
     text::put_word(b" disp");
     text::put_test(a.converged);
-    put_named(b" iters", a.iterations as u64);
-    let account = a.account;
-    put_account(account);
-    put_named(b" why", a.why as u64);
+    fed::put_named(b" iters", a.iterations as u64);
+    put_account(a.account);
+    fed::put_named(b" why", a.why as u64);
     put_numbers(a.deviance, a.phi);
-}
-
-// As many numbers as the next count says, or all where there are fewer.
-fn front<'a>(xs: &'a mut [f64]) -> &'a mut [f64] {
-    let n = fed::count();
-    if n <= xs.len() {
-        return &mut xs[0..n];
-    }
-    xs
 }
 
 // Fills the arrays, calls and prints. The lists are parts of what was read.
@@ -154,26 +122,28 @@ fn lend(ns: &[usize], xs: &[f64]) {
     put_answer(glmm::fit(
         next_settings(),
         next_shape(),
-        fed::part(xs, 0),
-        fed::part(xs, 21),
-        fed::part(xs, 26),
-        fed::part(xs, 31),
-        fed::part(xs, 36),
-        fed::part_counts(ns, 0),
-        fed::part_counts(ns, 10),
-        fed::part(xs, 45),
-        front(&mut beta),
-        front(&mut se),
-        front(&mut z),
-        front(&mut u),
-        front(&mut b),
-        front(&mut mu),
-        front(&mut eta),
-        front(&mut residual),
-        front(&mut v),
-        front(&mut rows),
-        front(&mut matrices),
-        front(&mut terms),
+        &Inputs {
+            theta: fed::part(xs, 0),
+            y: fed::part(xs, 21),
+            weights: fed::part(xs, 26),
+            offset: fed::part(xs, 31),
+            x: fed::part(xs, 36),
+            starts: fed::part(ns, 0),
+            columns: fed::part(ns, 10),
+            values: fed::part(xs, 45),
+        },
+        fed::lent(&mut beta),
+        fed::lent(&mut se),
+        fed::lent(&mut z),
+        fed::lent(&mut u),
+        fed::lent(&mut b),
+        fed::lent(&mut mu),
+        fed::lent(&mut eta),
+        fed::lent(&mut residual),
+        fed::lent(&mut v),
+        fed::lent(&mut rows),
+        fed::lent(&mut matrices),
+        fed::lent(&mut terms),
     ));
     put_results(&beta, &se, &z, &u, &b, &mu, &eta, &residual, &v);
     put_works(&rows, &matrices, &terms);
@@ -208,20 +178,11 @@ fn next_shape() -> Shape {
 }
 
 fn next_call() {
-    let mut ns = [0usize; 22];
-    let mut xs = [0.0; 57];
-    fed::counts(&mut ns);
-    fed::numbers(&mut xs);
+    let ns = fed::next_counts::<22>();
+    let xs = fed::next_numbers::<57>();
     lend(&ns, &xs);
 }
 
 fn main() {
-    let mut i: usize = 0;
-    while i < 1000 {
-        if !fed::put_name() {
-            return;
-        }
-        next_call();
-        i += 1;
-    }
+    fed::each_call(next_call);
 }

@@ -3,21 +3,6 @@
 // behind must stay. It is fed as tools/cases/glmm_c.py says.
 #![tactic(auto)]
 
-ghost use Rattle.std.specs.Prelude.{◌≤◌};
-
-// The pattern of 9.25.
-const LENT: u64 = 0x4022_8000_0000_0000;
-
-// At most b.
-fn least(a: usize, b: usize) -> usize
-    ensures { result ≤ b }
-{
-    if b < a {
-        return b;
-    }
-    a
-}
-
 // The lengths for n observations, p columns and q effects.
 fn put_lengths() {
     let n = fed::count();
@@ -29,14 +14,6 @@ fn put_lengths() {
     text::put_count(layout::terms_length() as u64);
     text::put_count(jobcall::results_asked(n, p, q) as u64);
     text::end_line();
-}
-
-fn all_lengths() {
-    let mut i: usize = 0;
-    while i < 16 {
-        put_lengths();
-        i += 1;
-    }
 }
 
 // The elementary functions at the next number.
@@ -55,140 +32,73 @@ fn put_values(x: f64) {
     text::end_line();
 }
 
-fn all_values() {
-    let mut i: usize = 0;
-    while i < 16 {
-        put_values(fed::number());
-        i += 1;
-    }
-}
-
-// The first place from `at` on that holds another pattern, or where the list ends.
-fn first_other(xs: &[f64], at: usize, pattern: u64) -> usize {
-    let mut i = at;
-    while i < xs.len() {
-        if base::pattern(xs[i]) != pattern {
-            return i;
-        }
-        i += 1;
-    }
-    i
-}
-
-// A work buffer: how many +0.0 it begins with, and where what follows is no longer as lent.
-fn put_work(word: &[u8], xs: &[f64]) {
-    let zeros = first_other(xs, 0, 0);
-    text::put_word(word);
-    text::put_count(zeros as u64);
-    text::put_count(first_other(xs, zeros, LENT) as u64);
-}
-
 fn put_counts(counts: &[u64]) {
-    let mut i = 0;
-    while i < counts.len() {
-        text::put_count(counts[i]);
-        i += 1;
+    for count in counts {
+        text::put_count(*count);
     }
-}
-
-// As many numbers as the next count says, or all where there are fewer.
-fn front<'a>(xs: &'a mut [f64]) -> &'a mut [f64] {
-    let n = fed::count();
-    if n <= xs.len() {
-        return &mut xs[0..n];
-    }
-    xs
-}
-
-fn front_counts<'a>(xs: &'a mut [u64]) -> &'a mut [u64] {
-    let n = fed::count();
-    if n <= xs.len() {
-        return &mut xs[0..n];
-    }
-    xs
 }
 
 // The fit of a job at its own theta, or at the one beside it.
 fn call(
-    beside: bool,
     job: &[u8],
-    theta: &[f64],
+    beside: Option<&[f64]>,
     rows: &mut [f64],
     matrices: &mut [f64],
     terms: &mut [f64],
     results: &mut [f64],
     counts: &mut [u64],
 ) -> u64 {
-    if beside {
-        return jobcall::fit_job_theta(job, theta, rows, matrices, terms, results, counts);
+    match beside {
+        Some(theta) => {
+            jobcall::fit_job_theta(job, theta, rows, matrices, terms, results, counts)
+        }
+        None => jobcall::fit_job(job, rows, matrices, terms, results, counts),
     }
-    jobcall::fit_job(job, rows, matrices, terms, results, counts)
 }
 
 // Fills the arrays, calls and prints.
-fn lend(beside: bool, job: &[u8], theta: &[f64]) {
+fn lend(job: &[u8], beside: Option<&[f64]>) {
     let mut rows = [9.25; 72];
     let mut matrices = [9.25; 152];
     let mut terms = [9.25; 7008];
     let mut results = [9.25; 40];
     let mut counts = [77u64; 16];
     let returned = call(
-        beside,
         job,
-        theta,
-        front(&mut rows),
-        front(&mut matrices),
-        front(&mut terms),
-        front(&mut results),
-        front_counts(&mut counts),
+        beside,
+        fed::lent(&mut rows),
+        fed::lent(&mut matrices),
+        fed::lent(&mut terms),
+        fed::lent(&mut results),
+        fed::lent(&mut counts),
     );
     text::put_word(b": returned");
     text::put_count(returned);
     text::put_word(b" counts");
     put_counts(&counts);
-    put_work(b" rows", &rows);
-    put_work(b" matrices", &matrices);
-    put_work(b" terms", &terms);
+    fed::put_work(b" rows", &rows);
+    fed::put_work(b" matrices", &matrices);
+    fed::put_work(b" terms", &terms);
     text::end_line();
     text::put_list(b"results", &results, 40);
 }
 
-// The next bytes, behind their count; at most as many as the space has.
-fn next_bytes(space: &mut [u8]) -> usize {
-    let n = least(fed::count(), space.len());
-    io::read_full(0, &mut space[0..n]);
-    n
-}
-
-// The first n bytes as a job, with the next numbers as a theta.
-fn lend_front(beside: bool, space: &[u8], n: usize, xs: &[f64]) {
-    let m = least(n, space.len());
-    lend(beside, &space[0..m], fed::part(xs, 0));
-}
-
+// Whether there is a theta beside the job, the bytes of the job behind their count, and the numbers that the theta is a part of.
 fn next_call() {
     let beside = fed::count() == 1;
     let mut space = [0u8; 1024];
-    let n = next_bytes(&mut space);
-    let mut xs = [0.0; 4];
-    fed::numbers(&mut xs);
-    lend_front(beside, &space, n, &xs);
-}
-
-// The calls end at an empty name.
-fn all_calls() {
-    let mut i: usize = 0;
-    while i < 1000 {
-        if !fed::put_name() {
-            return;
-        }
-        next_call();
-        i += 1;
-    }
+    let job = fed::bytes(&mut space, fed::count());
+    let xs = fed::next_numbers::<4>();
+    let theta = fed::part(&xs, 0);
+    lend(job, beside.then_some(theta));
 }
 
 fn main() {
-    all_lengths();
-    all_values();
-    all_calls();
+    for _ in 0..16 {
+        put_lengths();
+    }
+    for _ in 0..16 {
+        put_values(fed::number());
+    }
+    fed::each_call(next_call);
 }

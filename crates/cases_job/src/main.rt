@@ -4,35 +4,20 @@
 
 ghost use Rattle.std.specs.Prelude.{◌≤◌, length};
 
-use model::{Account, Answer, Limit, Shape};
-use reader::{Header, Reading};
+use job::Fault;
+use model::{Account, Answer, Inputs, Shape};
+use reader::Header;
 
-// The lesser of two: a, or b where a is past it.
-fn least(a: usize, b: usize) -> usize
-    ensures { result ≤ b }
-{
-    if b < a {
-        return b;
-    }
-    a
-}
-
-// The first n bytes.
-fn put_front(bytes: &[u8], n: usize) {
-    let m = least(n, bytes.len());
-    text::put_word(&bytes[0..m]);
-}
-
-fn put_refused(number: u64, byte: usize) {
+fn put_refused(fault: Fault) {
     let mut buffer = [0u8; 256];
-    let n = lines::refused_line(&mut buffer, number, byte);
-    put_front(&buffer, n);
+    let n = lines::refused_line(&mut buffer, fault);
+    text::put_word(fed::front(&buffer, n));
 }
 
 fn put_end(answer: Answer) {
     let mut buffer = [0u8; 512];
     let n = lines::end_line(&mut buffer, answer);
-    put_front(&buffer, n);
+    text::put_word(fed::front(&buffer, n));
 }
 
 fn put_value(name: &[u8], index: usize, x: f64)
@@ -40,49 +25,42 @@ fn put_value(name: &[u8], index: usize, x: f64)
 {
     let mut buffer = [0u8; 256];
     let n = lines::value_line(&mut buffer, name, index, x);
-    put_front(&buffer, n);
+    text::put_word(fed::front(&buffer, n));
 }
 
 // The first n counts, after a word.
 fn put_counts(word: &[u8], xs: &[usize], n: usize) {
     text::put_word(word);
-    let m = least(n, xs.len());
-    let mut i = 0;
-    while i < m {
-        text::put_count(xs[i] as u64);
-        i += 1;
+    for x in fed::front(xs, n) {
+        text::put_count(*x as u64);
     }
     text::end_line();
 }
 
 // The first n doubles and the one behind them, after a word.
 fn put_doubles(word: &[u8], xs: &[f64], n: usize) {
-    text::put_list(word, xs, least(least(n, 8192) + 1, xs.len()));
+    text::put_list(word, xs, (n.min(8192) + 1).min(xs.len()));
 }
 
-fn put_limit(limit: Limit) {
+fn put_limit(limit: Option<usize>) {
     match limit {
-        Limit::Given(l) => text::put_count(l as u64),
-        Limit::NotGiven => text::put_word(b" none"),
+        Some(l) => text::put_count(l as u64),
+        None => text::put_word(b" none"),
     }
 }
 
 fn put_header(header: Header) {
     let settings = header.settings;
-    let family = settings.family;
-    let link = settings.link;
-    let limit = settings.limit;
-    let start = settings.start;
     text::put_word(b"accepted");
-    text::put_count(model::family_code(family) as u64);
-    text::put_count(model::link_code(link) as u64);
+    text::put_count(model::family_code(settings.family) as u64);
+    text::put_count(model::link_code(settings.link) as u64);
     text::put_count(settings.n_agq as u64);
-    put_limit(limit);
+    put_limit(settings.limit);
     text::put_count(settings.n as u64);
     text::put_count(settings.p as u64);
     text::put_count(settings.rows as u64);
     text::put_count(settings.entries as u64);
-    text::put_count(model::start_code(start) as u64);
+    text::put_count(model::start_code(settings.start) as u64);
     text::put_count(header.thetas as u64);
     text::put_count(header.weights as u64);
     text::put_count(header.offset as u64);
@@ -92,78 +70,53 @@ fn put_header(header: Header) {
 fn put_shape(shape: Shape) {
     text::put_word(b"blocks");
     text::put_count(shape.count as u64);
-    let m = shape.m;
-    let k = shape.k;
-    let mut i = 0;
-    while i < 8 {
-        text::put_count(m[i] as u64);
-        text::put_count(k[i] as u64);
-        i += 1;
+    for (m, k) in shape.m.iter().zip(&shape.k) {
+        text::put_count(*m as u64);
+        text::put_count(*k as u64);
     }
     text::end_line();
 }
 
 // Each double of y on a line of its own, as the program prints its results.
 fn put_values(y: &[f64], n: usize) {
-    let m = least(n, y.len());
-    let mut i = 0;
-    while i < m {
-        put_value(b"y", i, y[i]);
-        i += 1;
+    for (i, x) in fed::front(y, n).iter().enumerate() {
+        put_value(b"y", i, *x);
     }
 }
 
 // How many numbers X has, which are at most 8192.
+#[tactic(auto, using(job::proofs::SizeLaws::grid_few))]
 fn cells(n: usize, p: usize) -> usize
     ensures { result ≤ 8192 }
 {
-    if 512 < n {
-        return 0;
-    }
-    if 16 < p {
-        return 0;
-    }
-    n * p
+    if n <= 512 && p <= 16 { n * p } else { 0 }
 }
 
 // The lists of an accepted job.
-fn put_lists(header: Header, theta: &[f64], y: &[f64], weights: &[f64], offset: &[f64], x: &[f64]) {
+fn put_lists(header: Header, lists: &Inputs<'_>) {
     let settings = header.settings;
-    put_doubles(b"theta", theta, header.thetas);
-    put_doubles(b"y", y, settings.n);
-    put_doubles(b"weights", weights, header.weights);
-    put_doubles(b"offset", offset, header.offset);
-    put_doubles(b"x", x, cells(settings.n, settings.p));
+    put_doubles(b"theta", lists.theta, header.thetas);
+    put_doubles(b"y", lists.y, settings.n);
+    put_doubles(b"weights", lists.weights, header.weights);
+    put_doubles(b"offset", lists.offset, header.offset);
+    put_doubles(b"x", lists.x, cells(settings.n, settings.p));
 }
 
 // The rows of Z' of an accepted job.
-fn put_rows(header: Header, starts: &[usize], columns: &[usize], values: &[f64]) {
+fn put_rows(header: Header, lists: &Inputs<'_>) {
     let settings = header.settings;
     let entries = settings.entries;
-    put_counts(b"starts", starts, least(settings.rows, 32) + 2);
-    put_counts(b"columns", columns, least(entries, 8192) + 1);
-    put_doubles(b"values", values, entries);
+    put_counts(b"starts", lists.starts, settings.rows.min(32) + 2);
+    put_counts(b"columns", lists.columns, entries.min(8192) + 1);
+    put_doubles(b"values", lists.values, entries);
 }
 
-fn put_accepted(
-    header: Header,
-    shape: Shape,
-    theta: &[f64],
-    y: &[f64],
-    weights: &[f64],
-    offset: &[f64],
-    x: &[f64],
-    starts: &[usize],
-    columns: &[usize],
-    values: &[f64],
-) {
-    let settings = header.settings;
-    let n = settings.n;
+fn put_accepted(header: Header, shape: Shape, lists: &Inputs<'_>) {
     put_header(header);
     put_shape(shape);
-    put_lists(header, theta, y, weights, offset, x);
-    put_rows(header, starts, columns, values);
-    put_values(y, n);
+    put_lists(header, lists);
+    put_rows(header, lists);
+    put_values(lists.y, header.settings.n);
 }
 
 // What reading answers and leaves in the slices.
@@ -176,7 +129,7 @@ fn one_job(job: &[u8]) {
     let mut starts = [9usize; 34];
     let mut columns = [9usize; 8193];
     let mut values = [9.0; 8193];
-    let found = reader::read_job(
+    let reading = reader::read_job(
         job,
         &mut theta,
         &mut y,
@@ -187,12 +140,21 @@ fn one_job(job: &[u8]) {
         &mut columns,
         &mut values,
     );
-    let shape = found.shape;
-    let reading = found.reading;
     match reading {
-        Reading::Refused(number, byte) => put_refused(number, byte),
-        Reading::Accepted(header) => put_accepted(
-            header, shape, &theta, &y, &weights, &offset, &x, &starts, &columns, &values,
+        Err(fault) => put_refused(fault),
+        Ok(found) => put_accepted(
+            found.header,
+            found.shape,
+            &Inputs {
+                theta: &theta,
+                y: &y,
+                weights: &weights,
+                offset: &offset,
+                x: &x,
+                starts: &starts,
+                columns: &columns,
+                values: &values,
+            },
         ),
     }
 }
@@ -242,19 +204,6 @@ fn end_lines() {
     put_value(b"v", 255, 1.0 / 0.0);
 }
 
-// The first n bytes as a job.
-fn front_job(bytes: &[u8], n: usize) {
-    let m = least(n, bytes.len());
-    one_job(&bytes[0..m]);
-}
-
-// The next n bytes of standard input as a job; at most as many as the space has.
-fn fed_job(space: &mut [u8], n: usize) {
-    let m = least(n, space.len());
-    io::read_full(0, &mut space[0..m]);
-    front_job(space, m);
-}
-
 // The next job, behind one more than its length; whether there was one.
 fn next_job() -> bool {
     let n = fed::count();
@@ -262,17 +211,15 @@ fn next_job() -> bool {
         return false;
     }
     let mut space = [0u8; 1024];
-    fed_job(&mut space, n - 1);
+    one_job(fed::bytes(&mut space, n - 1));
     true
 }
 
 fn all_jobs() {
-    let mut i: usize = 0;
-    while i < 2000 {
+    for _ in 0..2000 {
         if !next_job() {
             return;
         }
-        i += 1;
     }
 }
 

@@ -12,11 +12,9 @@ fn scatter(from: f64, out: &mut [f64], n: usize)
     requires { n ≤ length out.old }
 {
     let mut x = from;
-    let mut i = 0;
-    while i < n {
-        out[i] = x;
+    for place in &mut out[..n] {
+        *place = x;
         x = 3.9 * x * (1.0 - x);
-        i += 1;
     }
 }
 
@@ -25,12 +23,10 @@ fn columns(shape: Shape)
     requires { (good_shape shape ≡ true) × (9 ≡ effects_of shape) }
 {
     text::put_word(b"columns");
-    let mut j = 0;
-    while j < 9 {
+    for j in 0..9 {
         let c = lambda::column_of(shape, j);
         text::put_count(c.first as u64);
         text::put_count(c.count as u64);
-        j += 1;
     }
     text::end_line();
 }
@@ -60,14 +56,13 @@ fn square(shape: Shape, theta: &[f64])
 }
 
 fn run(shape: Shape, theta: &[f64]) {
-    if model::shape_ok(shape) {
-        if model::effects(shape) == 9 {
-            if model::theta_length(shape) <= theta.len() {
-                columns(shape);
-                products(shape, theta);
-                square(shape, theta);
-            }
-        }
+    if model::shape_ok(shape)
+        && model::effects(shape) == 9
+        && model::theta_length(shape) <= theta.len()
+    {
+        columns(shape);
+        products(shape, theta);
+        square(shape, theta);
     }
 }
 

@@ -3,7 +3,9 @@
 #![tactic(auto)]
 
 ghost use Rattle.std.specs.Prelude.{◌≡◌, ◌*◌, ◌≤◌, length};
-ghost use Rattle.base.specs.Sparse.{Rows};
+ghost use Rattle.stored.specs.Lent.{RowsIn};
+
+use stored::Sparse;
 
 // X of three rows and two columns.
 fn x_beta() {
@@ -28,12 +30,10 @@ fn products() {
 fn put_rows(p: usize, out: &[f64])
     requires { p * p ≤ length out.now }
 {
-    let mut a = 0;
-    while a < p {
+    for a in 0..p {
         let o = base::offset(a, p, p);
         let e = o + p;
         text::put_list(b"cross", &out[o..e], a + 1);
-        a += 1;
     }
 }
 
@@ -64,11 +64,9 @@ fn scatter(n: usize, out: &mut [f64])
     requires { n ≤ length out.old }
 {
     let mut v = 0.3;
-    let mut i = 0;
-    while i < n {
+    for place in &mut out[..n] {
         v = 3.7 * v * (1.0 - v);
-        out[i] = v - 0.5;
-        i += 1;
+        *place = v - 0.5;
     }
 }
 
@@ -96,51 +94,27 @@ fn effects() {
     text::put_list(b"effects", &out, 4);
 }
 
-fn side(starts: &[usize], columns: &[usize], values: &[f64])
-    requires { Rows starts.now columns.now values.now 5 5 }
+fn side(zt: &Sparse<'_>)
+    requires { RowsIn zt.now 5 5 }
 {
     let mut out = [9.0; 6];
-    stored::zt_times(
-        starts,
-        columns,
-        values,
-        5,
-        5,
-        &[1.0, 0.7, 3.0, 1.0, 0.3],
-        &mut out,
-    );
+    stored::zt_times(zt, 5, 5, &[1.0, 0.7, 3.0, 1.0, 0.3], &mut out);
     text::put_list(b"zt_times", &out, 6);
 }
 
-fn square(starts: &[usize], columns: &[usize], values: &[f64])
-    requires { Rows starts.now columns.now values.now 5 5 }
+fn square(zt: &Sparse<'_>)
+    requires { RowsIn zt.now 5 5 }
 {
     let mut out = [9.0; 26];
-    stored::ztwz(
-        starts,
-        columns,
-        values,
-        5,
-        5,
-        &[1.8, 0.1, 0.7, 1.3, 0.3],
-        &mut out,
-    );
+    stored::ztwz(zt, 5, 5, &[1.8, 0.1, 0.7, 1.3, 0.3], &mut out);
     text::put_list(b"ztwz", &out, 26);
 }
 
-fn summed(starts: &[usize], columns: &[usize], values: &[f64])
-    requires { Rows starts.now columns.now values.now 5 5 }
+fn summed(zt: &Sparse<'_>)
+    requires { RowsIn zt.now 5 5 }
 {
     let mut out = [9.0; 6];
-    stored::z_times(
-        starts,
-        columns,
-        values,
-        5,
-        5,
-        &[0.3, 5.0, 1.1, 1.7, 0.7],
-        &mut out,
-    );
+    stored::z_times(zt, 5, 5, &[0.3, 5.0, 1.1, 1.7, 0.7], &mut out);
     text::put_list(b"z_times", &out, 6);
 }
 
@@ -152,9 +126,14 @@ fn stored_rows() {
         0.1, -0.7, 0.3, 1e16, 1.1, -1e16, 0.9, 0.7, 0.9, 1.9, 2.3, 0.6,
     ];
     if base::rows_ok(&starts, &columns, 5, 5) {
-        side(&starts, &columns, &values);
-        square(&starts, &columns, &values);
-        summed(&starts, &columns, &values);
+        let zt = Sparse {
+            starts: &starts,
+            columns: &columns,
+            values: &values,
+        };
+        side(&zt);
+        square(&zt);
+        summed(&zt);
     }
 }
 

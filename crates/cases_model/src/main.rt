@@ -6,10 +6,7 @@ ghost use Rattle.std.specs.Prelude.{◌≡◌, true, ◌≤◌};
 ghost use Rattle.model.specs.Account.{SumFits};
 ghost use Rattle.model.specs.Shape.{good_shape};
 
-use model::{
-    Account, Answer, End, Family, FamilyFound, Limit, Link, LinkFound, Refusal, Settings, Shape,
-    Start, StartFound,
-};
+use model::{Account, Answer, End, Family, Link, Refusal, Settings, Shape, Start};
 
 fn put_size(n: usize) {
     text::put_count(n as u64);
@@ -43,50 +40,36 @@ fn put_start(start: Start) {
     }
 }
 
-fn put_account(account: Account) {
-    text::put_count(account.fits);
-    text::put_count(account.solves);
-    text::put_count(account.tries);
-    text::put_count(account.points);
-    text::put_count(account.eta);
-    text::put_count(account.mean);
-    text::put_count(account.pwrss);
-    text::put_count(account.ok);
-}
-
 // From a code to the family, and back.
 fn family() {
-    let found = model::family_coded(fed::count());
-    match found {
-        FamilyFound::Found(f) => {
+    match model::family_coded(fed::count()) {
+        Some(f) => {
             put_family(f);
             put_size(model::family_code(f));
         }
-        FamilyFound::NoSuch => text::put_word(b" none"),
+        None => text::put_word(b" none"),
     }
 }
 
 // From a code to the link, and back.
 fn link() {
-    let found = model::link_coded(fed::count());
-    match found {
-        LinkFound::Found(l) => {
+    match model::link_coded(fed::count()) {
+        Some(l) => {
             put_link(l);
             put_size(model::link_code(l));
         }
-        LinkFound::NoSuch => text::put_word(b" none"),
+        None => text::put_word(b" none"),
     }
 }
 
 // From a code to the start, and back.
 fn start() {
-    let found = model::start_coded(fed::count());
-    match found {
-        StartFound::Found(s) => {
+    match model::start_coded(fed::count()) {
+        Some(s) => {
             put_start(s);
             put_size(model::start_code(s));
         }
-        StartFound::NoSuch => text::put_word(b" none"),
+        None => text::put_word(b" none"),
     }
 }
 
@@ -94,10 +77,10 @@ fn start() {
 fn limit(link: Link) {
     put_link(link);
     text::put_test(model::is_inverse(link));
-    put_size(model::limit_of(Limit::NotGiven, link));
-    put_size(model::limit_of(Limit::Given(0), link));
-    put_size(model::limit_of(Limit::Given(1), link));
-    put_size(model::limit_of(Limit::Given(1000), link));
+    put_size(model::limit_of(None, link));
+    put_size(model::limit_of(Some(0), link));
+    put_size(model::limit_of(Some(1), link));
+    put_size(model::limit_of(Some(1000), link));
 }
 
 // How many effects and numbers of theta there are, and where those of each block begin.
@@ -106,12 +89,9 @@ fn put_blocks(shape: Shape)
 {
     put_size(model::effects(shape));
     put_size(model::theta_length(shape));
-    let count = shape.count;
-    let mut i = 0;
-    while i < count {
+    for i in 0..shape.count {
         put_size(model::first_effect(shape, i));
         put_size(model::first_theta(shape, i));
-        i += 1;
     }
 }
 
@@ -123,17 +103,11 @@ fn put_shape(shape: Shape) {
     }
 }
 
-fn eight() -> [usize; 8] {
-    let mut out = [0usize; 8];
-    fed::counts(&mut out);
-    out
-}
-
 fn next_shape() -> Shape {
     Shape {
         count: fed::count(),
-        m: eight(),
-        k: eight(),
+        m: fed::next_counts(),
+        k: fed::next_counts(),
     }
 }
 
@@ -160,8 +134,7 @@ fn put_answer(answer: Answer) {
     put_size(answer.why);
     text::put_test(answer.converged);
     put_size(answer.iterations);
-    let account = answer.account;
-    put_account(account);
+    fed::put_account(answer.account);
 }
 
 // The refusal of the next code, in the order of the table.
@@ -184,18 +157,17 @@ fn refused(refusal: Refusal) {
     put_answer(Answer::refused(refusal));
 }
 
-fn work() -> Account {
-    Account {
-        fits: 241,
-        solves: 1205,
-        tries: 4820,
-        points: 14461,
-        eta: 2400,
-        mean: 1000,
-        pwrss: 220,
-        ok: 1200,
-    }
-}
+// An account whose eight counts differ.
+const WORK: Account = Account {
+    fits: 241,
+    solves: 1205,
+    tries: 4820,
+    points: 14461,
+    eta: 2400,
+    mean: 1000,
+    pwrss: 220,
+    ok: 1200,
+};
 
 fn next_end() -> End {
     match fed::count() {
@@ -208,7 +180,7 @@ fn next_end() -> End {
 
 fn unfitted(end: End) {
     put_size(model::end_number(end));
-    put_answer(Answer::unfitted(end, work()));
+    put_answer(Answer::unfitted(end, WORK));
 }
 
 fn fitted() {
@@ -219,16 +191,16 @@ fn fitted() {
         fed::count(),
         fed::count() == 1,
         fed::count(),
-        work(),
+        WORK,
     ));
 }
 
 // What an account is summed from.
 fn items() {
-    put_account(Account::none());
-    put_account(Account::of_points(fed::word()));
-    put_account(Account::one_fit());
-    put_account(Account::one_solve());
+    fed::put_account(Account::none());
+    fed::put_account(Account::of_points(fed::word()));
+    fed::put_account(Account::one_fit());
+    fed::put_account(Account::one_solve());
 }
 
 // The call of a code.
@@ -249,38 +221,16 @@ fn run(code: usize) {
     text::end_line();
 }
 
-// The calls, until a word is empty.
-fn calls() {
-    let mut i: usize = 0;
-    while i < 1000 {
-        if !fed::put_name() {
-            return;
-        }
-        run(fed::count());
-        i += 1;
-    }
-}
-
 fn sum(a: Account, b: Account)
     requires { SumFits a b }
 {
     fed::put_name();
-    put_account(a.plus(b));
+    fed::put_account(a.plus(b));
     text::end_line();
 }
 
 // A sum whose eight counts differ, and sums at the end of the range.
 fn sums() {
-    let a = Account {
-        fits: 241,
-        solves: 1205,
-        tries: 4820,
-        points: 14461,
-        eta: 2400,
-        mean: 1000,
-        pwrss: 220,
-        ok: 1200,
-    };
     let b = Account {
         fits: 3,
         solves: 50,
@@ -291,7 +241,7 @@ fn sums() {
         pwrss: 120,
         ok: 50,
     };
-    sum(a, b);
+    sum(WORK, b);
     let most = Account {
         fits: 18446744073709551615,
         solves: 9223372036854775808,
@@ -391,7 +341,7 @@ fn places(n: usize, p: usize, q: usize)
 }
 
 fn main() {
-    calls();
+    fed::each_call(|| run(fed::count()));
     sums();
     places(1, 1, 1);
     places(512, 16, 32);

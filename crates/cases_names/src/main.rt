@@ -6,8 +6,8 @@ use model::Link;
 // The code of the link that the bytes name, 7 where they name none.
 fn put_parsed(s: &[u8]) {
     match names::parse(s) {
-        model::LinkFound::Found(link) => text::put_count(model::link_code(link) as u64),
-        model::LinkFound::NoSuch => text::put_count(7),
+        Some(link) => text::put_count(model::link_code(link) as u64),
+        None => text::put_count(7),
     }
 }
 
@@ -59,14 +59,10 @@ fn other_bytes() {
 
 fn name_line(link: Link) {
     let name = names::name(link);
-    let count = name.count;
-    let bytes = name.bytes;
     text::put_word(b"name");
-    text::put_count(count as u64);
-    let mut i = 0;
-    while i < 8 {
-        text::put_count(bytes[i] as u64);
-        i += 1;
+    text::put_count(name.count as u64);
+    for byte in name.bytes {
+        text::put_count(u64::from(byte));
     }
     text::end_line();
 }

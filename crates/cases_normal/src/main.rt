@@ -10,28 +10,8 @@ fn line(x: f64) {
     text::end_line();
 }
 
-fn specials() {
-    let mut i = 0;
-    while i < text::SPECIALS {
-        line(text::special(i));
-        i += 1;
-    }
-}
-
-// The fed arguments; an empty word is their end. tools/cases/normal.py feeds those of the test, tools/accuracy those whose distance is measured.
-fn fed_ones() {
-    let mut i: usize = 0;
-    while i < 1000000 {
-        let w = fed::word();
-        if w == 0 {
-            return;
-        }
-        line(base::double(w));
-        i += 1;
-    }
-}
-
+// tools/cases/normal.py feeds the arguments of the test, tools/accuracy those whose distance is measured.
 fn main() {
-    specials();
-    fed_ones();
+    text::each_special(line);
+    fed::each_number(1000000, line);
 }

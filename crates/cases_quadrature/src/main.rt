@@ -1,32 +1,24 @@
 // Prints the five rules, the order choice over a grid of wishes, and some log sums, every bit, for comparison with the Rust.
 #![tactic(auto)]
 
-use quadrature::{Choice, Named, Order, Rule};
+use quadrature::{Decline, Order};
 
 // The order chosen, or 0 where there is none.
-fn put_choice(choice: Choice) {
+fn put_choice(choice: Result<Order, Decline>) {
     match choice {
-        Choice::Use(order) => {
-            text::put_count(quadrature::order_size(order) as u64);
-        }
-        Choice::Without(_) => {
-            text::put_count(0);
-        }
+        Ok(order) => text::put_count(quadrature::order_size(order) as u64),
+        Err(_) => text::put_count(0),
     }
 }
 
 // The rule of an order: its nodes, then its weights.
 fn rule(order: Order) {
-    let r = quadrature::gh_rule(order);
-    let nodes = r.nodes;
-    let weights = r.weights;
+    let rule = quadrature::gh_rule(order);
     text::put_word(b"rule");
-    text::put_count(r.size as u64);
-    let mut i = 0;
-    while i < 11 {
-        text::put_double(nodes[i]);
-        text::put_double(weights[i]);
-        i += 1;
+    text::put_count(rule.size as u64);
+    for (node, weight) in rule.nodes.iter().zip(&rule.weights) {
+        text::put_double(*node);
+        text::put_double(*weight);
     }
     text::end_line();
 }
@@ -34,10 +26,8 @@ fn rule(order: Order) {
 // What a number names: its rule, or a line that there is none.
 fn number(n: usize) {
     match quadrature::order_of(n) {
-        Named::Known(order) => {
-            rule(order);
-        }
-        Named::NoRule => {
+        Some(order) => rule(order),
+        None => {
             text::put_word(b"none");
             text::put_count(n as u64);
             text::end_line();
@@ -46,10 +36,8 @@ fn number(n: usize) {
 }
 
 fn numbers() {
-    let mut n = 0;
-    while n < 14 {
+    for n in 0..14 {
         number(n);
-        n += 1;
     }
 }
 
@@ -64,26 +52,20 @@ fn wish(w: usize) {
 }
 
 fn products(w: usize) {
-    let mut k = 0;
-    while k < 21 {
+    for k in 0..21 {
         put_choice(quadrature::resolve_gh_order_product(w, k));
-        k += 1;
     }
 }
 
 fn joints(w: usize) {
-    let mut q = 0;
-    while q < 10 {
+    for q in 0..10 {
         put_choice(quadrature::resolve_gh_order_joint(w, q));
-        q += 1;
     }
 }
 
 fn wishes() {
-    let mut w = 0;
-    while w < 14 {
+    for w in 0..14 {
         wish(w);
-        w += 1;
     }
     wish(31);
 }
@@ -97,10 +79,8 @@ fn log_sum(xs: &[f64]) {
 // Ordinary lists, from none to six numbers.
 fn ordinary() {
     let some = [-1.5, 0.25, 3.0, 2.999, -700.0, 0.1];
-    let mut n = 0;
-    while n < 7 {
-        log_sum(&some[0..n]);
-        n += 1;
+    for n in 0..7 {
+        log_sum(&some[..n]);
     }
 }
 

@@ -7,33 +7,6 @@ ghost use Rattle.model.specs.Shape.{effects_of, theta_length, good_shape};
 
 use model::Shape;
 
-// As many of the next numbers as the name says.
-fn two() -> [f64; 2] {
-    [fed::number(), fed::number()]
-}
-
-fn three() -> [f64; 3] {
-    [fed::number(), fed::number(), fed::number()]
-}
-
-fn four() -> [f64; 4] {
-    let mut out = [0.0; 4];
-    fed::numbers(&mut out);
-    out
-}
-
-fn five() -> [f64; 5] {
-    let mut out = [0.0; 5];
-    fed::numbers(&mut out);
-    out
-}
-
-fn nine() -> [f64; 9] {
-    let mut out = [0.0; 9];
-    fed::numbers(&mut out);
-    out
-}
-
 // Every number of a list, behind the next word.
 fn put_all(xs: &[f64]) {
     fed::put_name();
@@ -57,13 +30,18 @@ fn fixed(columns: &[f64; 9]) {
     let mut v = [9.0; 10];
     results::v_rows(columns, 3, &mut v);
     put_all(&v);
-    errors(&v, &three());
+    errors(&v, &fed::next_numbers::<3>());
 }
 
 // What the means leave of five responses.
 fn residuals() {
     let mut out = [9.0; 6];
-    results::residuals(&five(), &five(), 5, &mut out);
+    results::residuals(
+        &fed::next_numbers::<5>(),
+        &fed::next_numbers::<5>(),
+        5,
+        &mut out,
+    );
     put_all(&out);
 }
 
@@ -142,24 +120,20 @@ fn next_nine(shape: Shape)
 {
     all_nine(
         shape,
-        &four(),
-        &four(),
-        &four(),
-        &two(),
-        &four(),
-        &four(),
-        &four(),
+        &fed::next_numbers::<4>(),
+        &fed::next_numbers::<4>(),
+        &fed::next_numbers::<4>(),
+        &fed::next_numbers::<2>(),
+        &fed::next_numbers::<4>(),
+        &fed::next_numbers::<4>(),
+        &fed::next_numbers::<4>(),
     );
 }
 
 // Asks first what `next_nine` relies on.
 fn run(shape: Shape) {
-    if model::shape_ok(shape) {
-        if model::effects(shape) == 4 {
-            if model::theta_length(shape) <= 4 {
-                next_nine(shape);
-            }
-        }
+    if model::shape_ok(shape) && model::effects(shape) == 4 && model::theta_length(shape) <= 4 {
+        next_nine(shape);
     }
 }
 
@@ -175,9 +149,9 @@ fn wiped() {
 }
 
 fn main() {
-    fixed(&nine());
-    fixed(&nine());
-    errors(&nine(), &three());
+    fixed(&fed::next_numbers::<9>());
+    fixed(&fed::next_numbers::<9>());
+    errors(&fed::next_numbers::<9>(), &fed::next_numbers::<3>());
     residuals();
     run(Shape {
         count: 2,

@@ -2,27 +2,18 @@
 // Prints the number of each answer; of an accepted call also the codes of its family and link. A call is fed as tools/cases/table.py says.
 #![tactic(auto)]
 
-use family::CarriedFamily;
-use model::{Settings, Shape};
-use table::{LentLengths, Verdict};
+use family::{CarriedFamily, CarriedLink};
+use model::{Inputs, Refusal, Settings, Shape};
+use table::LentLengths;
 
-fn family_code(family: CarriedFamily) -> u64 {
-    match family {
-        CarriedFamily::Binomial => 0,
-        CarriedFamily::Poisson => 1,
-        CarriedFamily::Gaussian => 2,
-        CarriedFamily::Gamma => 3,
-    }
-}
-
-fn put_verdict(verdict: Verdict) {
+fn put_verdict(verdict: Result<(CarriedFamily, CarriedLink), Refusal>) {
     match verdict {
-        Verdict::Accepted(family, link) => {
+        Ok((family, link)) => {
             text::put_count(0);
-            text::put_count(family_code(family));
+            text::put_count(family as u64);
             text::put_count(model::link_code(family::link_of(link)) as u64);
         }
-        Verdict::Refused(refusal) => text::put_count(model::refusal_number(refusal) as u64),
+        Err(refusal) => text::put_count(model::refusal_number(refusal) as u64),
     }
     text::end_line();
 }
@@ -77,33 +68,26 @@ fn ask(ns: &[usize], xs: &[f64]) {
         fed::count(),
         next_settings(),
         next_shape(),
-        fed::part(xs, 0),
-        fed::part(xs, 2),
-        fed::part(xs, 6),
-        fed::part(xs, 10),
-        fed::part(xs, 14),
-        fed::part_counts(ns, 0),
-        fed::part_counts(ns, 4),
-        fed::part(xs, 21),
+        &Inputs {
+            theta: fed::part(xs, 0),
+            y: fed::part(xs, 2),
+            weights: fed::part(xs, 6),
+            offset: fed::part(xs, 10),
+            x: fed::part(xs, 14),
+            starts: fed::part(ns, 0),
+            columns: fed::part(ns, 4),
+            values: fed::part(xs, 21),
+        },
         next_lent(),
     ));
 }
 
 fn next_call() {
-    let mut ns = [0usize; 8];
-    let mut xs = [0.0; 25];
-    fed::counts(&mut ns);
-    fed::numbers(&mut xs);
+    let ns = fed::next_counts::<8>();
+    let xs = fed::next_numbers::<25>();
     ask(&ns, &xs);
 }
 
 fn main() {
-    let mut i: usize = 0;
-    while i < 1000 {
-        if !fed::put_name() {
-            return;
-        }
-        next_call();
-        i += 1;
-    }
+    fed::each_call(next_call);
 }

@@ -6,37 +6,26 @@
 ghost use Rattle.std.specs.Prelude.{◌≡◌, length};
 
 use model::Account;
-use tries::{TriesEnd, Try};
-
-fn put_account(account: Account) {
-    text::put_count(account.fits);
-    text::put_count(account.solves);
-    text::put_count(account.tries);
-    text::put_count(account.points);
-    text::put_count(account.eta);
-    text::put_count(account.mean);
-    text::put_count(account.pwrss);
-    text::put_count(account.ok);
-}
+use tries::TryRefusal;
 
 // Their account, and the PWRSS where one was accepted.
-fn put_tries(t: TriesEnd) {
+fn put_tries(t: Result<(f64, Account), Account>) {
     match t {
-        TriesEnd::Moved(p, made) => {
-            put_account(made);
+        Ok((p, made)) => {
+            fed::put_account(made);
             text::put_double(p);
         }
-        TriesEnd::NoMove(made) => put_account(made),
+        Err(made) => fed::put_account(made),
     }
 }
 
 // The number of the test that refused it, or 0 and its PWRSS.
-fn put_try(t: Try) {
+fn put_try(t: Result<f64, TryRefusal>) {
     match t {
-        Try::EtaRefused => text::put_count(1),
-        Try::MeanRefused => text::put_count(2),
-        Try::PwrssRefused => text::put_count(3),
-        Try::Accepted(p) => {
+        Err(TryRefusal::Eta) => text::put_count(1),
+        Err(TryRefusal::Mean) => text::put_count(2),
+        Err(TryRefusal::Pwrss) => text::put_count(3),
+        Ok(p) => {
             text::put_count(0);
             text::put_double(p);
         }
@@ -51,32 +40,20 @@ fn run(u: &[f64], w: &[f64], z: &[f64], rows: &mut [f64])
     let link = family::carried_link(fed::link());
     if step == 0.0 {
         put_tries(tries::tries(link, 2, 2, 0, 2, 4, 6, u, w, z, rows));
-        text::put_list(b"", rows, 9);
-        return;
+    } else {
+        put_try(tries::one_try(link, 2, 2, 0, 2, 4, 6, step, u, w, z, rows));
     }
-    put_try(tries::one_try(link, 2, 2, 0, 2, 4, 6, step, u, w, z, rows));
     text::put_list(b"", rows, 9);
 }
 
 fn next_case() {
-    let mut u = [0.0; 2];
-    let mut w = [0.0; 2];
-    let mut z = [0.0; 2];
-    let mut rows = [0.0; 9];
-    fed::numbers(&mut u);
-    fed::numbers(&mut w);
-    fed::numbers(&mut z);
-    fed::numbers(&mut rows);
+    let u = fed::next_numbers::<2>();
+    let w = fed::next_numbers::<2>();
+    let z = fed::next_numbers::<2>();
+    let mut rows = fed::next_numbers::<9>();
     run(&u, &w, &z, &mut rows);
 }
 
 fn main() {
-    let mut i: usize = 0;
-    while i < 1000 {
-        if !fed::put_name() {
-            return;
-        }
-        next_case();
-        i += 1;
-    }
+    fed::each_call(next_case);
 }

@@ -24,12 +24,10 @@ fn normal_row(
     let na = normal + d;
     let va = unsolved + v;
     let ve = va + q;
-    let mut b = 0;
-    while b <= a {
+    for b in 0..=a {
         let o = base::offset(b, p, q);
         let mixed = base::dot_from(solved, o, &t[va..ve], q);
         t[na + b] = c[d + b] - mixed;
-        b += 1;
     }
 }
 
@@ -50,8 +48,7 @@ pub fn normal_into(
 {
     let ce = crossed + p * p;
     let se = solved + p * q;
-    let mut a = 0;
-    while a < p {
+    for a in 0..p {
         normal_row(
             &m[crossed..ce],
             &m[solved..se],
@@ -62,7 +59,6 @@ pub fn normal_into(
             normal,
             t,
         );
-        a += 1;
     }
 }
 
@@ -81,13 +77,11 @@ pub fn sides_into(
         m.new }
 {
     let ye = wy + q;
-    let mut a = 0;
-    while a < p {
+    for a in 0..p {
         let o = base::offset(a, p, q);
         let va = unsolved + o;
         let ve = va + q;
         let mixed = base::dot(&t[va..ve], &m[wy..ye], q);
         m[beta + a] = m[beta + a] - mixed;
-        a += 1;
     }
 }

@@ -13,11 +13,9 @@ fn gather(s: &[f64], q: usize, p: usize, a: usize, out: &mut [f64])
     requires { (q * p ≤ length s.now) × (a < p) × (q ≤ length out.old) }
     ensures { out.new ≡ fill_to q (column_at s.now p a) out.old }
 {
-    let mut g = 0;
-    while g < q {
+    for g in 0..q {
         let o = base::offset(g, q, p);
         out[g] = s[o + a];
-        g += 1;
     }
 }
 
@@ -45,12 +43,10 @@ fn unsolved_columns(shape: Shape, theta: &[f64], s: &[f64], q: usize, p: usize, 
     requires p_in_bounds { (q * p ≤ length s.now) × (p * q ≤ length out.old) }
     ensures { out.new ≡ grid_to p q (unsolved_at shape theta.now s.now p q) out.old }
 {
-    let mut a = 0;
-    while a < p {
+    for a in 0..p {
         let o = base::offset(a, p, q);
         let e = o + q;
         unsolved_column(shape, theta, s, q, p, a, &mut out[o..e]);
-        a += 1;
     }
 }
 

@@ -2,13 +2,13 @@
 ghost use Rattle.std.specs.Prelude.{◌+◌, ◌*◌, ◌≤◌, length};
 ghost use Rattle.base.specs.List.{build, matrix};
 ghost use Rattle.base.specs.Rows.{row, Wrote};
-ghost use Rattle.base.specs.Sparse.{Rows};
 ghost use Rattle.linear.specs.Product.{cross_at};
-ghost use Rattle.stored.specs.Stored.{sparse};
 ghost use Rattle.columns.specs.Weighted.{weighted_dot, weighted_side};
 ghost use Rattle.columns.specs.Pieces.{LowerWrote};
+ghost use Rattle.stored.specs.Lent.{sparse_in, RowsIn};
 
 use crate::weighted::{weighted_dots, weighted_rows};
+use stored::Sparse;
 
 // X'WX up to its diagonal, into the p² places from crossed on.
 pub fn cross_into(x: &[f64], n: usize, p: usize, w: usize, t: &[f64], crossed: usize, m: &mut [f64])
@@ -43,9 +43,7 @@ pub fn dots_into(
 
 // Z'(x_a·w) for each column, by the rows of Z', into the q rows of p places from solved on.
 pub fn rows_into(
-    starts: &[usize],
-    columns: &[usize],
-    values: &[f64],
+    zt: &Sparse<'_>,
     x: &[f64],
     n: usize,
     p: usize,
@@ -55,23 +53,13 @@ pub fn rows_into(
     solved: usize,
     m: &mut [f64],
 )
-    requires rows { Rows starts.now columns.now values.now q n }
+    requires rows { RowsIn zt.now q n }
     requires p_in_bounds { (n * p ≤ length x.now) × (w + n ≤ length t.now) × (solved + q * p ≤ length m.old) }
     ensures { Wrote solved (q * p)
-        (matrix q p (weighted_side (sparse starts.now columns.now values.now) x.now p n (row w n t.now)))
+        (matrix q p (weighted_side (sparse_in zt.now) x.now p n (row w n t.now)))
         m.old m.new }
 {
     let we = w + n;
     let e = solved + q * p;
-    weighted_rows(
-        starts,
-        columns,
-        values,
-        x,
-        &t[w..we],
-        n,
-        p,
-        q,
-        &mut m[solved..e],
-    );
+    weighted_rows(zt, x, &t[w..we], n, p, q, &mut m[solved..e]);
 }

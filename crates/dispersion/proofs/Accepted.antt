@@ -1,4 +1,5 @@
 -- Accepted tries of the dispersion loop: where each inner fit has one for each solve, but for the last solve of one that ends with 12, so has the loop. Document 02, P9. Assumes nothing.
+use Rattle.std.specs.Prelude.{Option, Some, None}
 use mathlib.Core.Path.{◌≡◌, refl}
 use mathlib.Core.Bool.{Bool, true, false}
 use mathlib.Core.List.{List}
@@ -11,8 +12,6 @@ use Rattle.model.proofs.Tallies.{count_append}
 use Rattle.rule.proofs.Accepted.{stuck_at}
 use Rattle.dispersion.specs.Phi.{round_of}
 use Rattle.dispersion.specs.Rounds.{Result, result, no_result, Total, Dispersed, total_before, with_flag, last_fit, after_round, after_fit, dispersion_from, dispersion_of, fixed_of}
-use Rattle.dispersion.specs.declared.round.Round.{Round}
-use Rattle.dispersion.specs.declared.round.Round.TheVariants.{Settled, Next}
 
 -- 1 where a fit ended with 12
 abbrev pub stuck_by : {F : Type 0} → Result F → ℕ
@@ -35,10 +34,10 @@ last_paid flag phi t p = rw (flag_stuck flag phi t.outcome) p
 
 -- ---- a round
 module _ {F : Type 0} (effective : Float) (dev_sum : F → Float) (phi : Float) (is : List Item) (rest : Float → Total (Dispersed F)) (paid : (next : Float) → TotalPaid (rest next)) where
-  round_paid : (r : Round) (f : F) → count_of is_solve is ≡ count_of is_ok is → TotalPaid (after_round r f phi is rest)
+  round_paid : (r : Option Float) (f : F) → count_of is_solve is ≡ count_of is_ok is → TotalPaid (after_round r f phi is rest)
   unfolding after_round total_before
-  round_paid Settled f q = omega (arith, q)
-  round_paid (Next next) f q =
+  round_paid None f q = omega (arith, q)
+  round_paid (Some next) f q =
       let js = (rest next).items in
       omega (arith, q, paid next, count_append is_solve is js, count_append is_ok is js)
 

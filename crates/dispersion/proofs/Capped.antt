@@ -1,4 +1,5 @@
 -- The dispersion loop begins at most 241 inner fits, and its account keeps to the caps of a call. Assumes nothing.
+use Rattle.std.specs.Prelude.{Option, Some, None}
 use mathlib.Core.Bool.{Bool}
 use mathlib.Core.List.{List}
 use Prim.Native.Nat.{ℕ, zero, suc, ◌+◌, ◌*◌, ◌≤◌}
@@ -11,15 +12,13 @@ use Rattle.model.specs.Items.{Item, is_fit, is_solve, is_try, is_point, is_eta, 
 use Rattle.model.proofs.Tallies.{count_append}
 use Rattle.dispersion.specs.Phi.{round_of}
 use Rattle.dispersion.specs.Rounds.{Result, result, no_result, Total, Dispersed, total_before, last_fit, after_round, after_fit, dispersion_from, dispersion_of, fixed_of}
-use Rattle.dispersion.specs.declared.round.Round.{Round}
-use Rattle.dispersion.specs.declared.round.Round.TheVariants.{Settled, Next}
 
 module _ {F : Type 0} (effective : Float) (dev_sum : F → Float) (t : Item → Bool) (c m : ℕ) (phi : Float) (is : List Item) (rest : Float → Total (Dispersed F)) (few : count_of t is ≤ c)
     (rest-few : (next : Float) → count_of t (rest next).items ≤ m) where
-  round_most : (r : Round) (f : F) → count_of t (after_round r f phi is rest).items ≤ c + m
+  round_most : (r : Option Float) (f : F) → count_of t (after_round r f phi is rest).items ≤ c + m
   unfolding after_round total_before
-  round_most Settled f = omega arith
-  round_most (Next next) f = omega (arith, rest-few next, count_append t is (rest next).items)
+  round_most None f = omega arith
+  round_most (Some next) f = omega (arith, rest-few next, count_append t is (rest next).items)
 
   fit_most : (x : Result F) → count_of t (after_fit effective dev_sum phi x is rest).items ≤ c + m
   unfolding after_fit

@@ -1,4 +1,5 @@
 -- A higher limit of the inner fit changes nothing in the dispersion loop that did not end with 13, and for 13 the counts do not shrink. Assumes nothing.
+use Rattle.std.specs.Prelude.{Option, Some, None}
 use mathlib.Core.Path.{◌≡◌, refl, sym, ap, ◌∙◌}
 use mathlib.Core.Bool.{Bool, true, false}
 use mathlib.Core.List.{List}
@@ -12,8 +13,6 @@ use Rattle.model.specs.declared.ends.End.TheVariants.{NoStop}
 use Rattle.model.proofs.Tallies.{count_append}
 use Rattle.dispersion.specs.Phi.{round_of}
 use Rattle.dispersion.specs.Rounds.{Result, result, no_result, Total, Dispersed, total_before, with_flag, last_fit, after_round, after_fit, dispersion_from, dispersion_of, fixed_of}
-use Rattle.dispersion.specs.declared.round.Round.{Round}
-use Rattle.dispersion.specs.declared.round.Round.TheVariants.{Settled, Next}
 use Rattle.dispersion.proofs.Turns.{is_result}
 
 -- it did not end for want of iterations
@@ -23,10 +22,10 @@ Stopped t = t.outcome ≡ no_result NoStop → ⊥
 -- ---- one round with two rests
 module _ {F : Type 0} (effective : Float) (dev_sum : F → Float) (phi : Float) (is : List Item) (rest more : Float → Total (Dispersed F)) where
   module _ (same : (next : Float) → Stopped (rest next) → more next ≡ rest next) where
-    round_same : (r : Round) (f : F) → Stopped (after_round r f phi is rest) → after_round r f phi is more ≡ after_round r f phi is rest
+    round_same : (r : Option Float) (f : F) → Stopped (after_round r f phi is rest) → after_round r f phi is more ≡ after_round r f phi is rest
     unfolding after_round total_before
-    round_same Settled f h = refl
-    round_same (Next next) f h = ap (total_before is) (same next h)
+    round_same None f h = refl
+    round_same (Some next) f h = ap (total_before is) (same next h)
 
     fit_same : (x : Result F) → Stopped (after_fit effective dev_sum phi x is rest) → after_fit effective dev_sum phi x is more ≡ after_fit effective dev_sum phi x is rest
     unfolding after_fit
@@ -34,10 +33,10 @@ module _ {F : Type 0} (effective : Float) (dev_sum : F → Float) (phi : Float) 
     fit_same (result f) h = round_same (round_of effective phi (dev_sum f)) f h
 
   module _ (t : Item → Bool) (grows : (next : Float) → count_of t (rest next).items ≤ count_of t (more next).items) where
-    round_grows : (r : Round) (f : F) → count_of t (after_round r f phi is rest).items ≤ count_of t (after_round r f phi is more).items
+    round_grows : (r : Option Float) (f : F) → count_of t (after_round r f phi is rest).items ≤ count_of t (after_round r f phi is more).items
     unfolding after_round total_before
-    round_grows Settled f = omega arith
-    round_grows (Next next) f = omega (arith, grows next, count_append t is (rest next).items, count_append t is (more next).items)
+    round_grows None f = omega arith
+    round_grows (Some next) f = omega (arith, grows next, count_append t is (rest next).items, count_append t is (more next).items)
 
     fit_grows : (x : Result F) → count_of t (after_fit effective dev_sum phi x is rest).items ≤ count_of t (after_fit effective dev_sum phi x is more).items
     unfolding after_fit
@@ -46,10 +45,10 @@ module _ {F : Type 0} (effective : Float) (dev_sum : F → Float) (phi : Float) 
 
   -- what the inner fit did is counted whatever follows it
   module _ (t : Item → Bool) where
-    round_first : (r : Round) (f : F) → count_of t is ≤ count_of t (after_round r f phi is rest).items
+    round_first : (r : Option Float) (f : F) → count_of t is ≤ count_of t (after_round r f phi is rest).items
     unfolding after_round total_before
-    round_first Settled f = omega arith
-    round_first (Next next) f = omega (arith, count_append t is (rest next).items)
+    round_first None f = omega arith
+    round_first (Some next) f = omega (arith, count_append t is (rest next).items)
 
     fit_first : (x : Result F) → count_of t is ≤ count_of t (after_fit effective dev_sum phi x is rest).items
     unfolding after_fit

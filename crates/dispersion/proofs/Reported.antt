@@ -1,4 +1,5 @@
 -- What the dispersion loop reports: the phi is the one that its last inner fit ran with, and the flag is false only after every round was used up. Assumes nothing.
+use Rattle.std.specs.Prelude.{Option, Some, None}
 use mathlib.Core.Path.{◌≡◌, refl, sym, ap, ◌∙◌}
 use mathlib.Core.Bool.{Bool, true, false}
 use mathlib.Core.List.{List}
@@ -11,8 +12,6 @@ use Rattle.model.specs.Items.{Item, count_of}
 use Rattle.model.proofs.Tallies.{count_append}
 use Rattle.dispersion.specs.Phi.{round_of}
 use Rattle.dispersion.specs.Rounds.{Result, result, no_result, Total, Dispersed, total_before, with_flag, last_fit, after_round, after_fit, dispersion_from, dispersion_of}
-use Rattle.dispersion.specs.declared.round.Round.{Round}
-use Rattle.dispersion.specs.declared.round.Round.TheVariants.{Settled, Next}
 use Rattle.dispersion.proofs.Turns.{is_result}
 
 -- the result that was found, f where none was
@@ -32,10 +31,10 @@ module _ {F : Type 0} (inner : Float → Total F) (d : Dispersed F) where
 
 module _ {F : Type 0} (effective : Float) (dev_sum : F → Float) (inner : Float → Total F) (d : Dispersed F) where
   module _ (phi : Float) (is : List Item) (rest : Float → Total (Dispersed F)) (ran : (next : Float) → (rest next).outcome ≡ result d → Ran inner d) where
-    round_ran : (r : Round) (f : F) → (inner phi).outcome ≡ result f → (after_round r f phi is rest).outcome ≡ result d → Ran inner d
+    round_ran : (r : Option Float) (f : F) → (inner phi).outcome ≡ result f → (after_round r f phi is rest).outcome ≡ result d → Ran inner d
     unfolding after_round total_before
-    round_ran Settled f q e = let g : record { last = f; phi = phi; converged = true } ≡ d = ap (result_in d) e in rw (← g) q
-    round_ran (Next next) f q e = ran next e
+    round_ran None f q e = let g : record { last = f; phi = phi; converged = true } ≡ d = ap (result_in d) e in rw (← g) q
+    round_ran (Some next) f q e = ran next e
 
     fit_ran : (x : Result F) → (inner phi).outcome ≡ x → (after_fit effective dev_sum phi x is rest).outcome ≡ result d → Ran inner d
     unfolding after_fit
@@ -51,12 +50,12 @@ module _ {F : Type 0} (effective : Float) (dev_sum : F → Float) (inner : Float
 -- ---- the flag: where each inner fit counts once, a flag that is false tells of one fit for each round and one more
 module _ {F : Type 0} (effective : Float) (dev_sum : F → Float) (t : Item → Bool) (m : ℕ) (d : Dispersed F) (unsettled : d.converged ≡ false) (phi : Float) (is : List Item)
     (rest : Float → Total (Dispersed F)) (one : count_of t is ≡ 1) (all : (next : Float) → (rest next).outcome ≡ result d → count_of t (rest next).items ≡ m) where
-  round_all : (r : Round) (f : F) → (after_round r f phi is rest).outcome ≡ result d → count_of t (after_round r f phi is rest).items ≡ suc m
+  round_all : (r : Option Float) (f : F) → (after_round r f phi is rest).outcome ≡ result d → count_of t (after_round r f phi is rest).items ≡ suc m
   unfolding after_round total_before
-  round_all Settled f e =
+  round_all None f e =
       let g : record { last = f; phi = phi; converged = true } ≡ d = ap (result_in d) e in
       absurd (ff (sym unsettled ∙ ap (λ (x : Dispersed F). x.converged) (sym g)))
-  round_all (Next next) f e = omega (arith, one, all next e, count_append t is (rest next).items)
+  round_all (Some next) f e = omega (arith, one, all next e, count_append t is (rest next).items)
 
   fit_all : (x : Result F) → (after_fit effective dev_sum phi x is rest).outcome ≡ result d → count_of t (after_fit effective dev_sum phi x is rest).items ≡ suc m
   unfolding after_fit

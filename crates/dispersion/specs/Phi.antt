@@ -1,4 +1,5 @@
 -- The numbers of one round of the dispersion loop. Document 01, "The inner fit": phi as in `pirls`. Assumes nothing.
+use Rattle.std.specs.Prelude.{Option, Some, None}
 use Rattle.std.specs.Prelude.{List, Bool, not, ◌||◌, cond, ℕ, Float}
 use Rattle.std.specs.Float.Ieee.{lt, le}
 use Rattle.base.specs.Number.{◌⊕◌, ◌⊖◌, ◌⊗◌, ◌⊘◌, bits, zero_f, one_f, eps_f, finite, abs_f, max_f}
@@ -7,8 +8,6 @@ use Rattle.elementary.specs.Log.{ln_of}
 use Rattle.family.specs.Family.{tenth_f}
 use Rattle.family_lists.specs.Lists.{weight_sum}
 use Rattle.rule.specs.Constant.{tol_f}
-use Rattle.dispersion.specs.declared.round.Round.{Round}
-use Rattle.dispersion.specs.declared.round.Round.TheVariants.{Settled, Next}
 
 -- 0.9
 abbrev pub nine_tenths_f : Float
@@ -35,13 +34,13 @@ unfoldable pub mixed : Float → Float → Float
 mixed phi new = exp_of ((nine_tenths_f ⊗ ln_of phi) ⊕ (tenth_f ⊗ ln_of new))
 
 -- done where the next phi cannot be used
-unfoldable pub next_at : Float → Round
-next_at phi = cond (unusable phi) Settled (Next phi)
+unfoldable pub next_at : Float → Option Float
+next_at phi = cond (unusable phi) None (Some phi)
 
 -- done where phi' is close to phi
-unfoldable pub next_by : Float → Float → Round
-next_by phi new = cond (close phi new) Settled (next_at (mixed phi new))
+unfoldable pub next_by : Float → Float → Option Float
+next_by phi new = cond (close phi new) None (next_at (mixed phi new))
 
 -- after an inner fit at phi: done where the deviance sum cannot be used
-unfoldable pub round_of : Float → Float → Float → Round
-round_of effective phi sum = cond (unusable sum) Settled (next_by phi (estimate_of effective sum))
+unfoldable pub round_of : Float → Float → Float → Option Float
+round_of effective phi sum = cond (unusable sum) None (next_by phi (estimate_of effective sum))

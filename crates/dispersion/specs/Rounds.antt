@@ -1,11 +1,10 @@
 -- The dispersion loop over any inner fit. Document 01, "The inner fit", its paragraph on dispersion: where phi begins, how many rounds, the flag, and that counts are summed. Assumes nothing.
+use Rattle.std.specs.Prelude.{Option, Some, None}
 use Rattle.std.specs.Prelude.{List, ◌++◌, Bool, true, false, ℕ, zero, suc, Float}
 use Rattle.base.specs.Number.{one_f}
 use Rattle.model.specs.Items.{Item}
 use Rattle.model.specs.declared.ends.End.{End}
 use Rattle.dispersion.specs.Phi.{round_of}
-use Rattle.dispersion.specs.declared.round.Round.{Round}
-use Rattle.dispersion.specs.declared.round.Round.TheVariants.{Settled, Next}
 
 -- what a fit comes to: F, or one of the ends 10 to 13
 pub data Result (F : Type 0) : Type 0 where
@@ -39,9 +38,9 @@ module _ {F : Type 0} where
 
 module _ {F : Type 0} where
   -- by what follows a round: the fit stands, or the rest goes on at the next phi
-  unfoldable pub after_round : Round → F → Float → List Item → (Float → Total (Dispersed F)) → Total (Dispersed F)
-  after_round Settled f phi is rest = record { outcome = result (record { last = f; phi = phi; converged = true }); items = is }
-  after_round (Next next) f phi is rest = total_before is (rest next)
+  unfoldable pub after_round : Option Float → F → Float → List Item → (Float → Total (Dispersed F)) → Total (Dispersed F)
+  after_round None f phi is rest = record { outcome = result (record { last = f; phi = phi; converged = true }); items = is }
+  after_round (Some next) f phi is rest = total_before is (rest next)
 
   -- by what a round's inner fit comes to: without a result the loop ends so
   unfoldable pub after_fit : Float → (F → Float) → Float → Result F → List Item → (Float → Total (Dispersed F)) → Total (Dispersed F)

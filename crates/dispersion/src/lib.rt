@@ -5,4 +5,4 @@ mod phis;
 mod round;
 
 pub use phis::effective_n;
-pub use round::{Round, round_of};
+pub use round::round_of;

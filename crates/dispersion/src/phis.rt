@@ -7,6 +7,7 @@ use elementary::{exp, ln};
 use family_lists::weight_sum;
 
 // The sum of the weights, but at least 1.
+#[tactic(auto, unfolding(crate::specs::Phi::effective_n))]
 pub fn effective_n(weights: &[f64], n: usize) -> f64
     ensures { result ≡ effective_n n weights.now }
 {
@@ -14,16 +15,15 @@ pub fn effective_n(weights: &[f64], n: usize) -> f64
 }
 
 // Neither a deviance sum nor a phi can be used unless it is finite and above zero.
+#[tactic(auto, unfolding(crate::specs::Phi::unusable))]
 pub fn unusable(v: f64) -> bool
     ensures { result ≡ unusable v }
 {
-    if is_finite(v) {
-        return v <= 0.0;
-    }
-    true
+    !is_finite(v) || v <= 0.0
 }
 
 // The phi that the deviances ask for, at least E.
+#[tactic(auto, unfolding(crate::specs::Phi::estimate_of))]
 pub fn estimate(effective: f64, sum: f64) -> f64
     ensures { result ≡ estimate_of effective sum }
 {
@@ -31,6 +31,7 @@ pub fn estimate(effective: f64, sum: f64) -> f64
 }
 
 // Whether phi has come to rest.
+#[tactic(auto, unfolding(crate::specs::Phi::close))]
 pub fn close(phi: f64, new: f64) -> bool
     ensures { result ≡ close phi new }
 {
@@ -38,6 +39,7 @@ pub fn close(phi: f64, new: f64) -> bool
 }
 
 // A tenth of the way to the new phi, on the scale of logarithms.
+#[tactic(auto, unfolding(crate::specs::Phi::mixed))]
 pub fn mixed(phi: f64, new: f64) -> f64
     ensures { result ≡ mixed phi new }
 {

@@ -4,3 +4,4 @@ pub mod LogFacts
 pub mod Computed
 pub mod Expm1Facts
 pub mod Log1pFacts
+pub mod Infinite

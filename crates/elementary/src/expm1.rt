@@ -32,6 +32,7 @@ const Q4: f64 = 4.00821782732936239552e-06;
 const Q5: f64 = -2.01099218183624371326e-07;
 
 // With p near (6 / r)·((e^r + 1) / (e^r - 1) - 2 / r), a polynomial in r²/2: (r²/2)·(p - t) / (6 - r·t), where t = 3 - p·r/2.
+#[tactic(auto, unfolding(crate::specs::Expm1::quotient_of))]
 fn quotient(r: f64) -> f64
     ensures { result ≡ quotient_of r }
 {
@@ -43,6 +44,7 @@ fn quotient(r: f64) -> f64
 }
 
 // r - expm1(r + c), for a small c.
+#[tactic(auto, unfolding(crate::specs::Expm1::rest_of))]
 fn rest(r: f64, c: f64) -> f64
     ensures { result ≡ rest_of r c }
 {
@@ -51,6 +53,7 @@ fn rest(r: f64, c: f64) -> f64
 }
 
 // 2^m·(1 + r - e) - 1, for m from 2 to 1024.
+#[tactic(auto, unfolding(crate::specs::Expm1::scaled_of))]
 fn scaled(r: f64, e: f64, m: u64) -> f64
     ensures { result ≡ scaled_of r e m }
 {
@@ -68,6 +71,7 @@ fn scaled(r: f64, e: f64, m: u64) -> f64
 }
 
 // exp(x) - 1, where x is m ln 2 and hi - lo.
+#[tactic(auto, unfolding(crate::specs::Expm1::grown_of, crate::specs::Expm1::up_of))]
 fn grown(hi: f64, lo: f64, m: u64) -> f64
     ensures { result ≡ grown_of hi lo m }
 {
@@ -83,6 +87,7 @@ fn grown(hi: f64, lo: f64, m: u64) -> f64
 }
 
 // exp(x) - 1, where x is -m ln 2 and hi - lo.
+#[tactic(auto, unfolding(crate::specs::Expm1::shrunk_of, crate::specs::Expm1::down_of))]
 fn shrunk(hi: f64, lo: f64, m: u64) -> f64
     ensures { result ≡ shrunk_of hi lo m }
 {
@@ -95,6 +100,7 @@ fn shrunk(hi: f64, lo: f64, m: u64) -> f64
 }
 
 // For x above ln 2 / 2.
+#[tactic(auto, unfolding(crate::specs::Expm1::rising_of, crate::specs::Expm1::grown_by))]
 fn rising(x: f64) -> f64
     ensures { result ≡ rising_of x }
 {
@@ -107,6 +113,7 @@ fn rising(x: f64) -> f64
 }
 
 // For x below -ln 2 / 2.
+#[tactic(auto, unfolding(crate::specs::Expm1::falling_of, crate::specs::Expm1::shrunk_by))]
 fn falling(x: f64) -> f64
     ensures { result ≡ falling_of x }
 {
@@ -119,6 +126,7 @@ fn falling(x: f64) -> f64
 }
 
 // The published algorithm, for x other than NaN.
+#[tactic(auto, unfolding(crate::specs::Expm1::expm1_main))]
 fn published(x: f64) -> f64
     ensures { result ≡ expm1_main x }
 {
@@ -139,6 +147,7 @@ fn published(x: f64) -> f64
 }
 
 // The guard that makes two promises plain: no NaN, and never below -1. It changes no value.
+#[tactic(auto, unfolding(crate::specs::Expm1::above_minus_one))]
 fn above_minus_one(z: f64) -> f64
     ensures { result ≡ above_minus_one z }
 {
@@ -146,6 +155,7 @@ fn above_minus_one(z: f64) -> f64
 }
 
 // exp(x) - 1.
+#[tactic(auto, unfolding(crate::specs::Expm1::expm1_of))]
 pub fn exp_m1(x: f64) -> f64
     ensures { result ≡ expm1_of x }
 {

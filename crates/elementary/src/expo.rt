@@ -24,6 +24,7 @@ const C4: f64 = 0.0416666808410674;
 const C5: f64 = 0.008333335853059549;
 
 // x - k ln 2 / 128.
+#[tactic(auto, unfolding(crate::specs::Exp::reduced))]
 fn reduced(x: f64, k: f64) -> f64
     ensures { result ≡ reduced x k }
 {
@@ -31,6 +32,7 @@ fn reduced(x: f64, k: f64) -> f64
 }
 
 // (1 + tail) exp r - 1.
+#[tactic(auto, unfolding(crate::specs::Exp::excess))]
 fn excess(tail: f64, r: f64) -> f64
     ensures { result ≡ excess tail r }
 {
@@ -39,6 +41,7 @@ fn excess(tail: f64, r: f64) -> f64
 }
 
 // scale (1 + t).
+#[tactic(auto, unfolding(crate::specs::Exp::scaled))]
 fn scaled(scale: f64, t: f64) -> f64
     ensures { result ≡ scaled scale t }
 {
@@ -46,6 +49,7 @@ fn scaled(scale: f64, t: f64) -> f64
 }
 
 // The scale 2^-1009 times as large, so that it is a double, and the result times 2^1009.
+#[tactic(auto, unfolding(crate::specs::Exp::large))]
 fn large(sbits: u64, t: f64) -> f64
     ensures { result ≡ large sbits t }
 {
@@ -54,6 +58,7 @@ fn large(sbits: u64, t: f64) -> f64
 }
 
 // A y below 1 rounded to a multiple of 2^-52, so that a subnormal result is rounded once.
+#[tactic(auto, unfolding(crate::specs::Exp::fitted, crate::specs::Exp::refitted))]
 fn fitted(scale: f64, t: f64, y: f64) -> f64
     ensures { result ≡ fitted scale t y }
 {
@@ -67,6 +72,7 @@ fn fitted(scale: f64, t: f64, y: f64) -> f64
 }
 
 // The scale 2^1022 times as large, and the result times 2^-1022.
+#[tactic(auto, unfolding(crate::specs::Exp::small))]
 fn small(sbits: u64, t: f64) -> f64
     ensures { result ≡ small sbits t }
 {
@@ -75,6 +81,7 @@ fn small(sbits: u64, t: f64) -> f64
 }
 
 // Where scale or result may leave the doubles' range: bit 31 of ki is the sign of k.
+#[tactic(auto, unfolding(crate::specs::Exp::edge))]
 fn edge(ki: u64, sbits: u64, t: f64) -> f64
     ensures { result ≡ edge ki sbits t }
 {
@@ -86,6 +93,7 @@ fn edge(ki: u64, sbits: u64, t: f64) -> f64
 
 // The result from the shifted k's pattern and the reduced argument. The scale's pattern is taken modulo 2^64: for a large |k| its exponent runs
 // over into the sign, and `edge` puts it right.
+#[tactic(auto, unfolding(crate::specs::Exp::ended, crate::specs::Exp::row_tail, crate::specs::Exp::scale_bits))]
 fn from_row(x: f64, ki: u64, r: f64) -> f64
     ensures { result ≡ from_row x ki r }
 {
@@ -99,6 +107,7 @@ fn from_row(x: f64, ki: u64, r: f64) -> f64
 }
 
 // exp x for |x| from 2^-54 to 1024: the last digits of shifted are the whole number k nearest to 128 x / ln 2.
+#[tactic(auto, unfolding(crate::specs::Exp::exp_main))]
 fn exp_main(x: f64) -> f64
     ensures { result ≡ exp_main x }
 {
@@ -107,6 +116,7 @@ fn exp_main(x: f64) -> f64
 }
 
 // z, which is never below zero: the test changes no result, and with it the contract shows that none is.
+#[tactic(auto, unfolding(crate::specs::Exp::above_zero))]
 fn above_zero(z: f64) -> f64
     ensures { result ≡ above_zero z }
 {
@@ -114,6 +124,7 @@ fn above_zero(z: f64) -> f64
 }
 
 // exp(x + low) for |x| from 2^-54 to 1024 and a low far below it, which the rounded sum x + low would lose.
+#[tactic(auto, unfolding(crate::specs::Exp::exp_two))]
 pub fn exp_two(x: f64, low: f64) -> f64
     ensures { result ≡ exp_two x low }
 {
@@ -122,6 +133,7 @@ pub fn exp_two(x: f64, low: f64) -> f64
 }
 
 // Overflow, underflow, the infinities and NaN.
+#[tactic(auto, unfolding(crate::specs::Exp::exp_far))]
 fn exp_far(x: f64) -> f64
     ensures { result ≡ exp_far x }
 {
@@ -135,6 +147,7 @@ fn exp_far(x: f64) -> f64
 }
 
 // e to the power of x.
+#[tactic(auto, unfolding(crate::specs::Exp::exp_of))]
 pub fn exp(x: f64) -> f64
     ensures { result ≡ exp_of x }
 {

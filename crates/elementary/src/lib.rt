@@ -11,3 +11,4 @@ pub use expm1::exp_m1;
 pub use expo::{exp, exp_two};
 pub use log::ln;
 pub use log1p::ln_1p;
+pub use parts::{LN2_HI, LN2_LO};

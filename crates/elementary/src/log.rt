@@ -43,6 +43,7 @@ const B9: f64 = 0.09181994006195467;
 const B10: f64 = -0.08328363062289341;
 
 // r^3 (B1 + B2 r + .. + B10 r^9), in three groups of three.
+#[tactic(auto, unfolding(crate::specs::LogPoly::near_poly))]
 fn near_poly(r: f64, r2: f64, r3: f64) -> f64
     ensures { result ≡ near_poly r r2 r3 }
 {
@@ -52,6 +53,7 @@ fn near_poly(r: f64, r2: f64, r3: f64) -> f64
 }
 
 // y + r - r^2 / 2, the square by the upper half of r, whose square is exact, and the rest.
+#[tactic(auto, unfolding(crate::specs::LogPoly::near_sum))]
 fn near_sum(y: f64, r: f64) -> f64
     ensures { result ≡ near_sum y r }
 {
@@ -65,6 +67,7 @@ fn near_sum(y: f64, r: f64) -> f64
 }
 
 // ln(1 + r) for small r.
+#[tactic(auto, unfolding(crate::specs::LogPoly::near_of))]
 fn near(r: f64) -> f64
     ensures { result ≡ near_of r }
 {
@@ -73,6 +76,7 @@ fn near(r: f64) -> f64
 }
 
 // ln near 1, where a sum with ln c would lose digits.
+#[tactic(auto, unfolding(crate::specs::Log::ln_near))]
 fn ln_near(x: f64) -> f64
     ensures { result ≡ ln_near x }
 {
@@ -83,16 +87,15 @@ fn ln_near(x: f64) -> f64
 }
 
 // Whether |ln x| is below 2^-4 or little more.
+#[tactic(auto, unfolding(crate::specs::Log::near_one))]
 fn near_one(x: f64) -> bool
     ensures { result ≡ near_one x }
 {
-    if 0.9375 <= x {
-        return x < 1.064697265625;
-    }
-    false
+    0.9375 <= x && x < 1.064697265625
 }
 
 // k ln 2 + ln c + ln(1 + r), where w is ln c and the first part of k ln 2.
+#[tactic(auto, unfolding(crate::specs::LogPoly::ln_sum))]
 fn ln_sum(k: f64, r: f64, w: f64) -> f64
     ensures { result ≡ ln_sum k r w }
 {
@@ -103,6 +106,7 @@ fn ln_sum(k: f64, r: f64, w: f64) -> f64
 }
 
 // k ln 2 + ln z, by row i of the table.
+#[tactic(auto, unfolding(crate::specs::Log::ln_row))]
 fn ln_row(i: u64, z: f64, k: f64) -> f64
     requires { i < 128 }
     ensures { result ≡ ln_row i z k }
@@ -117,6 +121,7 @@ fn ln_row(i: u64, z: f64, k: f64) -> f64
 
 // ln x for a normal x above zero: t is its pattern less that of 0.6875, plus 1024 * 2^52. So k is t / 2^52 - 1024, and z,
 // from 0.6875 to 1.375, has the pattern of 0.6875 plus the rest. Of an x that was scaled by 2^52 the bias is 1076.
+#[tactic(auto, unfolding(crate::specs::Log::ln_main))]
 fn ln_main(x: f64, bias: f64) -> f64
     ensures { result ≡ ln_main x bias }
 {
@@ -128,6 +133,7 @@ fn ln_main(x: f64, bias: f64) -> f64
 }
 
 // ln but near 1: the zeros, numbers below zero, subnormal numbers, the rest, and last +infinity and NaN.
+#[tactic(auto, using(base::proofs::Doubles::no_quotient, crate::proofs::Infinite::minus_infinity), unfolding(crate::specs::Log::ln_far))]
 fn ln_far(x: f64) -> f64
     ensures { result ≡ ln_far x }
 {
@@ -147,6 +153,7 @@ fn ln_far(x: f64) -> f64
 }
 
 // The natural logarithm of x.
+#[tactic(auto, unfolding(crate::specs::Log::ln_of))]
 pub fn ln(x: f64) -> f64
     ensures { result ≡ ln_of x }
 {

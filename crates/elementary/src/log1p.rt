@@ -28,6 +28,7 @@ const L6: f64 = 1.531383769920937332e-01;
 const L7: f64 = 1.479819860511658591e-01;
 
 // ln(1 + f) + k ln 2 + c: with s = f / (2 + f), ln(1 + f) is f - f²/2 + s·(f²/2 + a polynomial in s²).
+#[tactic(auto, unfolding(crate::specs::Log1p::tail_of))]
 fn tail(f: f64, k: f64, c: f64) -> f64
     ensures { result ≡ tail_of f k c }
 {
@@ -41,6 +42,7 @@ fn tail(f: f64, k: f64, c: f64) -> f64
 }
 
 // What the sum u = 1 + x lost to rounding, over u; n - 1023 is the power of two in u.
+#[tactic(auto, unfolding(crate::specs::Log1p::lost_of))]
 fn lost(x: f64, u: f64, n: u64) -> f64
     ensures { result ≡ lost_of x u n }
 {
@@ -54,6 +56,7 @@ fn lost(x: f64, u: f64, n: u64) -> f64
 }
 
 // u = 1 + x is 2^(n - 1023)·(1 + f), with 1 + f from sqrt(1/2) to sqrt(2).
+#[tactic(auto, unfolding(crate::specs::Log1p::far_of, crate::specs::Log1p::split_of))]
 fn far(x: f64) -> f64
     ensures { result ≡ far_of x }
 {
@@ -66,22 +69,21 @@ fn far(x: f64) -> f64
 }
 
 // For a finite x above -1.
+#[tactic(auto, unfolding(crate::specs::Log1p::ln1p_main))]
 fn published(x: f64) -> f64
     ensures { result ≡ ln1p_main x }
 {
     if abs(x) < TINY {
         return x;
     }
-    if x <= -LOW {
-        return far(x);
-    }
-    if x >= HIGH {
+    if x <= -LOW || x >= HIGH {
         return far(x);
     }
     tail(x, 0.0, 0.0)
 }
 
 // ln(1 + x).
+#[tactic(auto, using(base::proofs::Doubles::no_quotient, crate::proofs::Infinite::minus_infinity), unfolding(crate::specs::Log1p::ln1p_of))]
 pub fn ln_1p(x: f64) -> f64
     ensures { result ≡ ln1p_of x }
 {

@@ -1,4 +1,6 @@
 -- The rule of Cholesky below, on and above the diagonal, and the two ways on from a row. Assumes nothing.
+use Rattle.std.specs.Prelude.{Ok, Err}
+use Prim.{tt}
 use mathlib.Core.Path.{◌≡◌, refl, sym, ap, ◌∙◌}
 use mathlib.Core.List.{List}
 use mathlib.Core.Bool.{Bool, true, false}
@@ -16,7 +18,6 @@ use Rattle.base.proofs.Fills.{place_row, place_column}
 use Rattle.root.specs.Sqrt.{sqrt_of}
 use Rattle.factor.specs.Triangle.{rows_dot, triangle, row_by, positive, first_bad, reach}
 use Rattle.factor.specs.Factor.{cholesky_pivot, cholesky_below, cholesky_rule, cholesky_of, cholesky_passes, cholesky_end, CholeskyLeaves}
-use Rattle.factor.specs.declared.pivots.Factored.TheVariants.{Done, Bad}
 use Rattle.factor.proofs.PivotTests.{first_step, first_end, first_stop}
 use Rattle.factor.proofs.RowByRow.{triangle_below, triangle_on, triangle_above, by_rest, row_step, row_reached, row_stays, row_done}
 
@@ -48,7 +49,7 @@ cholesky_row_step s i j b X l m e = rw (← cholesky_below_lem s i j (λ k. X ! 
 
 -- ---- from row i, which begins at io: P before it, X with its entries before the diagonal, r the test of its pivot
 module _ (s i io : ℕ) (A P X : List Float) (sum : Float) (r : Bool) (l : i < s) (h : s * s ≤ length A) (eo : io ≡ i * s) (eP : P ≡ fill_by (cholesky_rule s) (i * s) A)
-    (eX : X ≡ row_by (cholesky_rule s) (i * s) i P) (es : sum ≡ rows_dot s (λ k. X ! k) i i i) (er : r ≡ positive ((X ! (io + i)) ⊖ sum)) (so : Done ≡ first_bad i (cholesky_passes s A (cholesky_of s A))) where
+    (eX : X ≡ row_by (cholesky_rule s) (i * s) i P) (es : sum ≡ rows_dot s (λ k. X ! k) i i i) (er : r ≡ positive ((X ! (io + i)) ⊖ sum)) (so : Ok tt ≡ first_bad i (cholesky_passes s A (cholesky_of s A))) where
   cholesky_pivot_lem : cholesky_pivot s i (λ k. cholesky_of s A ! k) (at s A i i) ≡ (X ! (io + i)) ⊖ sum
   unfolding cholesky_pivot rows_dot cholesky_of
   cholesky_pivot_lem =
@@ -62,7 +63,7 @@ module _ (s i io : ℕ) (A P X : List Float) (sum : Float) (r : Bool) (l : i < s
   cholesky_test = ap positive cholesky_pivot_lem ∙ sym er
 
   -- its pivot fails
-  pub cholesky_stop : r ≡ false → CholeskyLeaves s A (Bad i) X
+  pub cholesky_stop : r ≡ false → CholeskyLeaves s A (Err i) X
   unfolding cholesky_end reach
   cholesky_stop e =
       record {
@@ -72,7 +73,7 @@ module _ (s i io : ℕ) (A P X : List Float) (sum : Float) (r : Bool) (l : i < s
 
   -- it passes, and its root is written
   pub cholesky_go : r ≡ true
-      → (set X (io + i) (sqrt_of ((X ! (io + i)) ⊖ sum)) ≡ fill_by (cholesky_rule s) ((i + 1) * s) A) × (Done ≡ first_bad (i + 1) (cholesky_passes s A (cholesky_of s A)))
+      → (set X (io + i) (sqrt_of ((X ! (io + i)) ⊖ sum)) ≡ fill_by (cholesky_rule s) ((i + 1) * s) A) × (Ok tt ≡ first_bad (i + 1) (cholesky_passes s A (cholesky_of s A)))
   unfolding cholesky_pivot
   cholesky_go e =
       let now : sqrt_of ((X ! (i * s + i)) ⊖ sum) ≡ cholesky_rule s (i * s + i) (λ k. X ! k) (X ! (i * s + i)) =
@@ -80,7 +81,7 @@ module _ (s i io : ℕ) (A P X : List Float) (sum : Float) (r : Bool) (l : i < s
       (rw eo (row_done (cholesky_rule s) s i A P X l eP eX _ (cholesky_above s i) now), first_step (cholesky_passes s A (cholesky_of s A)) i so (cholesky_test ∙ e))
 
 -- no row is left
-pub cholesky_done : (s i : ℕ) (A X : List Float) → i ≤ s → s ≤ i → X ≡ fill_by (cholesky_rule s) (i * s) A → Done ≡ first_bad i (cholesky_passes s A (cholesky_of s A)) → CholeskyLeaves s A Done X
+pub cholesky_done : (s i : ℕ) (A X : List Float) → i ≤ s → s ≤ i → X ≡ fill_by (cholesky_rule s) (i * s) A → Ok tt ≡ first_bad i (cholesky_passes s A (cholesky_of s A)) → CholeskyLeaves s A (Ok tt) X
 unfolding cholesky_end reach
 cholesky_done s i A X l m e so =
     let q : i ≡ s = omega arith in

@@ -1,4 +1,6 @@
 -- What `cholesky` leaves satisfies the textbook's equations, which fix the lower triangle; what stands above A's diagonal has no part in it. Assumes nothing.
+use Rattle.std.specs.Prelude.{Result, Ok, Err, ⊤}
+use Prim.{tt}
 use mathlib.Core.Path.{◌≡◌, refl, sym, ap, ◌∙◌}
 use mathlib.Core.List.{List}
 use mathlib.Core.Bool.{true, false}
@@ -17,8 +19,6 @@ use Rattle.root.specs.Sqrt.{sqrt_of}
 use Rattle.factor.specs.Triangle.{cell, rows_dot, SameBelow, positive, reach}
 use Rattle.factor.specs.Factor.{cholesky_pivot, cholesky_below, cholesky_rule, cholesky_of, cholesky_passes, cholesky_end, CholeskyLeaves}
 use Rattle.factor.specs.Textbook.{CholeskyTextbook, KeptAbove}
-use Rattle.factor.specs.declared.pivots.Factored.{Factored}
-use Rattle.factor.specs.declared.pivots.Factored.TheVariants.{Done, Bad}
 use Rattle.factor.proofs.PivotTests.{first_done, first_bad_lem, first_cong, FirstBad}
 use Rattle.factor.proofs.RowByRow.{inside, by_rest, by_kept, by_entry}
 use Rattle.factor.proofs.CholeskyRows.{cholesky_below_lem, cholesky_on, cholesky_above}
@@ -75,17 +75,17 @@ module _ (s : ℕ) (A : List Float) (h : s * s ≤ length A) where
       }
 
 -- ---- what `cholesky` leaves
-pub cholesky_textbook : (s : ℕ) (A X : List Float) → s * s ≤ length A → CholeskyLeaves s A Done X → CholeskyTextbook s A X × KeptAbove s A X
+pub cholesky_textbook : (s : ℕ) (A X : List Float) → s * s ≤ length A → CholeskyLeaves s A (Ok tt) X → CholeskyTextbook s A X × KeptAbove s A X
 unfolding reach cholesky_of
 cholesky_textbook s A X h d = rw d.out (cholesky_of_textbook s A h, cholesky_of_keeps s A h)
 
 -- every pivot is above zero and finite
-pub cholesky_pivots : (s : ℕ) (A X : List Float) → CholeskyLeaves s A Done X → (i : ℕ) → i < s → positive (cholesky_pivot s i (λ k. X ! k) (at s A i i)) ≡ true
+pub cholesky_pivots : (s : ℕ) (A X : List Float) → CholeskyLeaves s A (Ok tt) X → (i : ℕ) → i < s → positive (cholesky_pivot s i (λ k. X ! k) (at s A i i)) ≡ true
 unfolding reach cholesky_of cholesky_end cholesky_passes
 cholesky_pivots s A X d = rw d.out (first_done (cholesky_passes s A (cholesky_of s A)) s d.end)
 
 -- pivot i, from the entries of its row, is not; those before it are
-pub cholesky_bad_pivot : (s : ℕ) (A X : List Float) (i : ℕ) → s * s ≤ length A → CholeskyLeaves s A (Bad i) X
+pub cholesky_bad_pivot : (s : ℕ) (A X : List Float) (i : ℕ) → s * s ≤ length A → CholeskyLeaves s A (Err i) X
     → (i < s) × (positive (cholesky_pivot s i (λ k. X ! k) (at s A i i)) ≡ false) × ((j : ℕ) → j < i → positive (cholesky_pivot s j (λ k. X ! k) (at s A j j)) ≡ true)
 unfolding reach cholesky_of cholesky_end cholesky_passes
 cholesky_bad_pivot s A X i h d =
@@ -98,10 +98,10 @@ cholesky_bad_pivot s A X i h d =
     )
 
 -- one answer and one buffer
-pub cholesky_unique : (s : ℕ) (A X Y : List Float) (q r : Factored) → CholeskyLeaves s A q X → CholeskyLeaves s A r Y → (q ≡ r) × (X ≡ Y)
+pub cholesky_unique : (s : ℕ) (A X Y : List Float) (q r : Result ⊤ ℕ) → CholeskyLeaves s A q X → CholeskyLeaves s A r Y → (q ≡ r) × (X ≡ Y)
 cholesky_unique s A X Y q r d e =
     let same : q ≡ r = d.end ∙ sym e.end in
-    (same, d.out ∙ ap (λ (z : Factored). fill_by (cholesky_rule s) (reach s z) A) same ∙ sym e.out)
+    (same, d.out ∙ ap (λ (z : Result ⊤ ℕ). fill_by (cholesky_rule s) (reach s z) A) same ∙ sym e.out)
 
 -- ---- the equations fix the lower triangle, from the lower triangle of the matrix
 pub cholesky_fixes : (s : ℕ) (A B F G : List Float) → SameBelow s A B → CholeskyTextbook s A F → CholeskyTextbook s B G → SameBelow s F G

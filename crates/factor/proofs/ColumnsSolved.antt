@@ -1,5 +1,5 @@
 -- The substitutions on several right sides: zeros that are left out of one of them, the last row of each pass, and the three passes together. Assumes nothing.
-use mathlib.Core.Path.{◌≡◌, refl, ◌∙◌}
+use mathlib.Core.Path.{◌≡◌, refl, ap, ◌∙◌}
 use mathlib.Core.List.{List}
 use Prim.Native.Nat.{ℕ, ◌+◌, ◌-◌, ◌*◌, ◌<◌, ◌≤◌}
 use native.Mathlib.Omega.{arith}
@@ -7,21 +7,26 @@ use lib.ListN.{length}
 use lib.Ieee.{Float}
 use Rattle.base.specs.Sum.{◌!◌}
 use Rattle.base.specs.List.{at, grid_to}
+use Rattle.base.specs.Rows.{row}
 use Rattle.base.specs.InPlace.{fill_by, fill_down}
 use Rattle.base.proofs.InPlace.{length_by}
+use Rattle.base.proofs.Fills.{row_fits}
+use Rattle.base.proofs.Rows.{row_at}
 use Rattle.factor.specs.Substitution.{across_term, down_term, unit_forward_rule, unit_backward_rule, unit_forward, over_d, unit_backward, ldl_solve}
 use Rattle.factor.specs.Heads.{Zeros}
 use Rattle.factor.specs.Sides.{column_at, each_column, ldl_columns_at}
 use Rattle.factor.proofs.EachColumn.{each_then}
 
 -- ---- the zeros before the head, of one column lent as a part P
-pub forward_part : (s i a r : ℕ) (L b P : List Float) → r ≤ s → ((k : ℕ) → k < s → P ! k ≡ at s b a k) → Zeros 0 r (across_term s L i (λ k. at s b a k)) → Zeros 0 r (across_term s L i (λ k. P ! k))
+pub forward_part : (s i n a r : ℕ) (L b P : List Float) → r ≤ s → n * s ≤ length b → a < n → P ≡ row (a * s) s b → Zeros 0 r (across_term s L i (λ k. at s b a k)) → Zeros 0 r (across_term s L i (λ k. P ! k))
 unfolding across_term
-forward_part s i a r L b P h same z k l m = rw (same k (omega arith)) (z k l m)
+forward_part s i n a r L b P h fits m q z k l w =
+    rw (ap (λ (c : List Float). c ! k) q ∙ row_at (a * s) s b (omega (arith, row_fits a n s m)) k (omega arith)) (z k l w)
 
-pub backward_part : (s i a r : ℕ) (L b P : List Float) → r ≤ s → ((k : ℕ) → k < s → P ! k ≡ at s b a k) → Zeros (i + 1) r (down_term s L i (λ k. at s b a k)) → Zeros (i + 1) r (down_term s L i (λ k. P ! k))
+pub backward_part : (s i n a r : ℕ) (L b P : List Float) → r ≤ s → n * s ≤ length b → a < n → P ≡ row (a * s) s b → Zeros (i + 1) r (down_term s L i (λ k. at s b a k)) → Zeros (i + 1) r (down_term s L i (λ k. P ! k))
 unfolding down_term
-backward_part s i a r L b P h same z k l m = rw (same k (omega arith)) (z k l m)
+backward_part s i n a r L b P h fits m q z k l w =
+    rw (ap (λ (c : List Float). c ! k) q ∙ row_at (a * s) s b (omega (arith, row_fits a n s m)) k (omega arith)) (z k l w)
 
 -- ---- the last row of a pass
 pub forward_end : (s n i : ℕ) (L b X : List Float) → i ≤ s → s ≤ i → X ≡ each_column (fill_by (unit_forward_rule s L) i) s n b → X ≡ each_column (unit_forward s L) s n b

@@ -10,7 +10,7 @@ use native.Mathlib.Omega.{arith}
 use lib.ListN.{length}
 use lib.Seq.{get_or-set_other, ext_get_or}
 use lib.Ieee.{Float, nan}
-use borrow.Rule.Slice.PartMut.{put_mid, mid_of}
+use borrow.Rule.Slice.PartMut.{put_mid, mid_of, mid_len}
 use Rattle.base.specs.Number.{finite}
 use Rattle.base.specs.Sum.{◌!◌, all_to}
 use Rattle.base.specs.List.{at, grid_to}
@@ -19,8 +19,8 @@ use Rattle.base.specs.InPlace.{Rule, ruled, fill_by, fill_down}
 use Rattle.base.proofs.Sums.{last_or_before, and_true, all_at}
 use Rattle.base.proofs.InPlace.{length_by, length_down, down_step}
 use Rattle.base.proofs.Fills.{row_fits, grid_in, grid_past, grid_is, length_grid}
-use Rattle.base.proofs.Rows.{row_length, row_at, part_is, only_row, grid_wrote}
-use Rattle.factor.specs.Sides.{column_at, each_column, Entered, RowEntered}
+use Rattle.base.proofs.Rows.{row_length, row_at, part_is, part_wrote, only_row, only_wide, only_trans, grid_wrote}
+use Rattle.factor.specs.Sides.{changed_at, column_at, each_column, Entered, RowEntered}
 use Rattle.factor.proofs.Columns.{grid_part}
 
 -- ---- the columns
@@ -47,16 +47,10 @@ module _ (h : List Float → List Float) (s n : ℕ) (b : List Float) (fits : n 
       let m' : k < s = omega (arith, row_length (a * s) s (each_column h s n b) new) in
       row_at (a * s) s (each_column h s n b) new k m' ∙ each_at a k l m')
 
--- no column yet, and the last one
+-- no column yet
 pub each_first : (h : List Float → List Float) (s : ℕ) (b : List Float) → b ≡ each_column h s 0 b
 unfolding each_column grid_to
 each_first h s b = refl
-
-pub each_end : (h : List Float → List Float) (s a n : ℕ) (b X : List Float) → a ≤ n → n ≤ a → X ≡ each_column h s a b → X ≡ each_column h s n b
-each_end h s a n b X l m e = let q : a ≡ n = omega arith in rw (← q) e
-
-pub flag_end : (t : ℕ → Bool) (a n : ℕ) (f : Bool) → a ≤ n → n ≤ a → f ≡ all_to a t → f ≡ all_to n t
-flag_end t a n f l m e = let q : a ≡ n = omega arith in rw (← q) e
 
 -- no change
 pub each_none : (h : List Float → List Float) (s n : ℕ) (b : List Float) → n * s ≤ length b → ((c : List Float) → h c ≡ c) → b ≡ each_column h s n b
@@ -95,38 +89,47 @@ each_then h k m s n b Y Z fits keeps same eY eZ = is
     is = grid_is n s (column_at m s b) b Z fits (ap length eZ ∙ each_length h s n Y room ∙ long) inside past
 
 -- ---- one column more, lent as the part from o to e
-module _ (h : List Float → List Float) (s a : ℕ) (b X : List Float) (o e : ℕ) (eX : X ≡ each_column h s a b) (eo : o ≡ a * s) (ee : e ≡ o + s) (fits : e ≤ length X) where
-  same_length : length X ≡ length b
-  unfolding each_column
-  same_length = ap length eX ∙ length_grid a s (column_at h s b) b
-
+module _ (s a : ℕ) (b X : List Float) (o e : ℕ) (only : Only 0 (a * s) b X) (eo : o ≡ a * s) (ee : e ≡ o + s) (fits : e ≤ length X) where
   -- it is as it was
   pub part_before : mid_of o (e - o) X ≡ row (a * s) s b
-  unfolding each_column
-  part_before =
-      let only : Only 0 (a * s) b X = rw eX (grid_wrote a s (column_at h s b) b (omega (arith, same_length))).only in
-      part_is o s e X ee ∙ rw eo (only_row (a * s) s 0 (a * s) (inr (omega arith)) (omega (arith, same_length)) only)
+  part_before = part_is o s e X ee ∙ rw eo (only_row (a * s) s 0 (a * s) (inr (omega arith)) (omega (arith, only.len)) only)
 
-  pub part_entry : (k : ℕ) → k < s → mid_of o (e - o) X ! k ≡ at s b a k
-  part_entry k l = ap (λ (c : List Float). c ! k) part_before ∙ row_at (a * s) s b (omega (arith, same_length)) k l
+  -- nothing behind it changes
+  pub part_only : (ys : List Float) → length ys ≡ length (mid_of o (e - o) X) → Only 0 ((a + 1) * s) b (put_mid o (e - o) X ys)
+  part_only ys k =
+      let l : length ys ≡ s = k ∙ mid_len o e X fits ∙ omega arith in
+      only_trans (only_wide 0 (a * s) 0 ((a + 1) * s) (omega arith) (omega arith) only)
+      (only_wide o s 0 ((a + 1) * s) (omega arith) (omega (arith)) (part_wrote o s e X ys ee fits l).only)
 
-  pub each_part : (ys : List Float) → length ys ≡ length (mid_of o (e - o) X) → ys ≡ h (mid_of o (e - o) X) → put_mid o (e - o) X ys ≡ each_column h s (a + 1) b
-  unfolding each_column column_at
-  each_part ys k q =
-      grid_part a s (column_at h s b) b X ys (h (mid_of o (e - o) X)) o e eX eo ee fits k q (λ i m. ap (λ (c : List Float). h c ! i) part_before)
+-- h of it
+pub changed_part : (h : ℕ → List Float → List Float) (s a : ℕ) (b X ys : List Float) (o e : ℕ) → X ≡ grid_to a s (changed_at h s b) b → o ≡ a * s → e ≡ o + s → e ≤ length X
+    → length ys ≡ length (mid_of o (e - o) X) → ys ≡ h a (mid_of o (e - o) X) → put_mid o (e - o) X ys ≡ grid_to (a + 1) s (changed_at h s b) b
+unfolding changed_at
+changed_part h s a b X ys o e eX eo ee fits k q =
+    let long : length X ≡ length b = ap length eX ∙ length_grid a s (changed_at h s b) b in
+    let only : Only 0 (a * s) b X = rw eX (grid_wrote a s (changed_at h s b) b (omega (arith, long))).only in
+    grid_part a s (changed_at h s b) b X ys (h a (mid_of o (e - o) X)) o e eX eo ee fits k q (λ i m. ap (λ (c : List Float). h a c ! i) (part_before s a b X o e only eo ee fits))
+
+-- the same change h of every column
+pub each_changed : (h : List Float → List Float) (s n : ℕ) (b X : List Float) → X ≡ grid_to n s (changed_at (λ a c. h c) s b) b → X ≡ each_column h s n b
+unfolding each_column column_at changed_at
+each_changed h s n b X e = e
 
 -- ---- one entry of each column by a rule
-module _ (g : Rule) (i s a : ℕ) (b X : List Float) (o e : ℕ) (eX : X ≡ each_column (ruled g i) s a b) (eo : o ≡ a * s) (ee : e ≡ o + s) (fits : e ≤ length X)
-    (ys : List Float) (r : Bool) (made : Entered g i (mid_of o (e - o) X) r ys) where
-  pub entered_list : length ys ≡ length (mid_of o (e - o) X) → put_mid o (e - o) X ys ≡ each_column (ruled g i) s (a + 1) b
-  entered_list k = each_part (ruled g i) s a b X o e eX eo ee fits ys k made.list
 
-  pub entered_fine : (t u : Bool) → u ≡ (t && r) → t ≡ all_to a (λ c. finite (column_at (ruled g i) s b c i)) → u ≡ all_to (a + 1) (λ c. finite (column_at (ruled g i) s b c i))
-  unfolding all_to column_at
-  entered_fine t u q so =
-      let last : r ≡ finite (ruled g i (row (a * s) s b) ! i) =
-      made.fine ∙ ap (λ (c : List Float). finite (c ! i)) (made.list ∙ ap (ruled g i) (part_before (ruled g i) s a b X o e eX eo ee fits)) in
-      rw (q, so, last, add-one) refl
+-- of no column
+pub entered_none : (g : Rule) (i s : ℕ) (b : List Float) → RowEntered g i s 0 b true b
+unfolding all_to
+entered_none g i s b = record { list = each_first (ruled g i) s b; fine = refl }
+
+-- and of the next one
+pub entered_part : (g : Rule) (i s a : ℕ) (b X ys : List Float) (o e : ℕ) (t r : Bool) → Only 0 (a * s) b X → o ≡ a * s → e ≡ o + s → e ≤ length X → length ys ≡ length (mid_of o (e - o) X)
+    → Entered g i (mid_of o (e - o) X) r ys → RowEntered g i s a b t X → RowEntered g i s (a + 1) b (t && r) (put_mid o (e - o) X ys)
+unfolding all_to column_at each_column changed_at
+entered_part g i s a b X ys o e t r only eo ee fits k made so =
+    let last : r ≡ finite (ruled g i (row (a * s) s b) ! i) =
+    made.fine ∙ ap (λ (c : List Float). finite (c ! i)) (made.list ∙ ap (ruled g i) (part_before s a b X o e only eo ee fits)) in
+    record { list = changed_part (λ d c. ruled g i c) s a b X ys o e so.list eo ee fits k made.list; fine = rw (so.fine, last, add-one) refl }
 
 module _ (g : Rule) (i s n : ℕ) (b X : List Float) (r : Bool) (fits : n * s ≤ length b) (made : RowEntered g i s n b r X) where
   -- the other entries are as they were

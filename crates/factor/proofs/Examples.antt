@@ -1,4 +1,6 @@
 -- Worked examples, by computation. Assumes nothing.
+use Rattle.std.specs.Prelude.{Ok, Err}
+use Prim.{tt}
 use mathlib.Core.Path.{◌≡◌, refl}
 use mathlib.Core.List.{[], ◌∷◌}
 use lib.Ieee.{Float, of_bits, size, add, sub, mul, div, lt, eq}
@@ -11,7 +13,6 @@ use Rattle.factor.specs.Triangle.{rows_dot, triangle, usable, positive, and_then
 use Rattle.factor.specs.Factor.{ldl_term, ldl_sum, ldl_pivot, ldl_below, ldl_rule, ldl_of, ldl_passes, ldl_end, cholesky_pivot, cholesky_below, cholesky_rule, cholesky_of, cholesky_passes, cholesky_end}
 use Rattle.factor.specs.Substitution.{across_term, down_term, unit_forward_rule, unit_backward_rule, over_d_rule, forward_rule, backward_rule, unit_forward, over_d, unit_backward, forward, backward, ldl_solve, cholesky_solve}
 use Rattle.factor.specs.Inverse.{unit_at, unit_column, ldl_column, ldl_inverse_at, ldl_inverse, cholesky_column, cholesky_column_at, cholesky_inverse, v_at}
-use Rattle.factor.specs.declared.pivots.Factored.TheVariants.{Done, Bad}
 
 abbrev minus_four : Float
 minus_four = bits 0xc010_0000_0000_0000
@@ -87,17 +88,17 @@ unfolding ldl_of fill_by ruled ldl_rule triangle ldl_below ldl_pivot ldl_sum ldl
 ldl_3 = refl
 
 -- it succeeds
-pub ldl_3_end : ldl_end 3 (four ∷ eight ∷ eight ∷ half ∷ four ∷ eight ∷ minus_half ∷ half ∷ four ∷ []) ≡ Done
+pub ldl_3_end : ldl_end 3 (four ∷ eight ∷ eight ∷ half ∷ four ∷ eight ∷ minus_half ∷ half ∷ four ∷ []) ≡ Ok tt
 unfolding ldl_end first_bad and_then ldl_passes usable finite of_bits eq
 ldl_3_end = refl
 
 -- the second pivot of 1 1, 1 1 is zero
-pub ldl_singular : ldl_end 2 (ldl_of 2 (one_f ∷ one_f ∷ one_f ∷ one_f ∷ []) (eight ∷ eight ∷ eight ∷ eight ∷ [])) ≡ Bad 1
+pub ldl_singular : ldl_end 2 (ldl_of 2 (one_f ∷ one_f ∷ one_f ∷ one_f ∷ []) (eight ∷ eight ∷ eight ∷ eight ∷ [])) ≡ Err 1
 unfolding ldl_end first_bad and_then ldl_passes usable finite ldl_of fill_by ruled ldl_rule triangle ldl_below ldl_pivot ldl_sum ldl_term sum_to of_bits add sub mul div eq
 ldl_singular = refl
 
 -- a negative pivot can be divided by
-pub ldl_negative : ldl_end 2 (ldl_of 2 (minus_four ∷ two ∷ two ∷ three ∷ []) (eight ∷ eight ∷ eight ∷ eight ∷ [])) ≡ Done
+pub ldl_negative : ldl_end 2 (ldl_of 2 (minus_four ∷ two ∷ two ∷ three ∷ []) (eight ∷ eight ∷ eight ∷ eight ∷ [])) ≡ Ok tt
 unfolding ldl_end first_bad and_then ldl_passes usable finite ldl_of fill_by ruled ldl_rule triangle ldl_below ldl_pivot ldl_sum ldl_term sum_to of_bits add sub mul div eq
 ldl_negative = refl
 
@@ -122,12 +123,12 @@ unfolding cholesky_of fill_by ruled cholesky_rule triangle cholesky_below choles
 cholesky_3 = refl
 
 -- it succeeds
-pub cholesky_3_end : cholesky_end 3 (four ∷ eight ∷ eight ∷ two ∷ ten ∷ eight ∷ minus_two ∷ two ∷ six ∷ []) (two ∷ eight ∷ eight ∷ one_f ∷ three ∷ eight ∷ minus_one ∷ one_f ∷ two ∷ []) ≡ Done
+pub cholesky_3_end : cholesky_end 3 (four ∷ eight ∷ eight ∷ two ∷ ten ∷ eight ∷ minus_two ∷ two ∷ six ∷ []) (two ∷ eight ∷ eight ∷ one_f ∷ three ∷ eight ∷ minus_one ∷ one_f ∷ two ∷ []) ≡ Ok tt
 unfolding cholesky_end first_bad and_then cholesky_passes positive finite cholesky_pivot rows_dot sum_to of_bits add sub mul lt
 cholesky_3_end = refl
 
 -- a negative pivot has no root
-pub cholesky_negative : cholesky_end 2 (four ∷ eight ∷ two ∷ minus_three ∷ []) (two ∷ eight ∷ one_f ∷ three ∷ []) ≡ Bad 1
+pub cholesky_negative : cholesky_end 2 (four ∷ eight ∷ two ∷ minus_three ∷ []) (two ∷ eight ∷ one_f ∷ three ∷ []) ≡ Err 1
 unfolding cholesky_end first_bad and_then cholesky_passes positive finite cholesky_pivot rows_dot sum_to of_bits add sub mul lt
 cholesky_negative = refl
 

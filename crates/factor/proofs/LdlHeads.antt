@@ -3,22 +3,21 @@ use mathlib.Core.Path.{◌≡◌, refl, sym, ap, ◌∙◌}
 use mathlib.Core.List.{List}
 use mathlib.Core.Bool.{Bool, true, false, ◌&&◌, cond}
 use mathlib.Core.Logic.{⊎_elim}
-use Prim.Native.Nat.{ℕ, zero, suc, ◌+◌, ◌-◌, ◌*◌, ◌<◌, ◌≤◌}
+use Prim.Native.Nat.{ℕ, zero, suc, ◌+◌, ◌*◌, ◌<◌, ◌≤◌}
 use native.Mathlib.Nat.{eq-or-lt_of_le}
 use native.Mathlib.Omega.{arith}
 use lib.Dec.{eqb}
-use lib.ListN.{length, set, take, drop}
+use lib.ListN.{length, set}
 use lib.Seq.{get_or-set_same, get_or-set_other}
 use lib.Ieee.{Float, nan, inf, fin, eq, of_bits}
 use borrow.Author.Tests.{eq-eqb, ne_eqb, eqb-true}
 use Rattle.base.specs.Number.{◌⊗◌, zero_f, finite}
-use Rattle.base.specs.Sum.{◌!◌, all_to, finite_at}
+use Rattle.base.specs.Sum.{◌!◌, all_to}
 use Rattle.base.specs.List.{at}
 use Rattle.base.specs.InPlace.{Rule, ruled}
 use Rattle.base.proofs.Doubles.{ff}
 use Rattle.base.proofs.Sums.{last_or_before, and_true, all_at}
 use Rattle.base.proofs.Fills.{row_fits}
-use Rattle.base.proofs.Rows.{part_at}
 use Rattle.factor.specs.Triangle.{row_by}
 use Rattle.factor.specs.Heads.{Zeros, FineRows, ZeroHead, next_head}
 use Rattle.factor.specs.Factor.{ldl_term}
@@ -102,10 +101,6 @@ all_cong : (n : ℕ) (t u : ℕ → Bool) → ((k : ℕ) → k < n → t k ≡ u
 unfolding all_to
 all_cong zero t u h = refl
 all_cong (suc n) t u h = rw (all_cong n t u (λ k l. h k (omega arith)), h n (omega arith)) refl
-
-pub fine_some : (s i o m : ℕ) (x : List Float) (t r : Bool) → o ≡ i * s → i + 1 ≤ m → t ≡ true → r ≡ all_to (i + 1) (finite_at (take m (drop o x))) → r ≡ (t && all_to (i + 1) (λ k. finite (at s x i k)))
-fine_some s i o m x t r eo l q e =
-    rw q (e ∙ all_cong (i + 1) (finite_at (take m (drop o x))) (λ k. finite (at s x i k)) (λ k h. ap finite (part_at o m k x (omega arith) ∙ ap (λ (p : ℕ). x ! (p + k)) eo)))
 
 pub fine_next : (s i io : ℕ) (X : List Float) (v : Float) (t r : Bool) → i < s → io ≡ i * s → r ≡ (t && all_to (i + 1) (λ k. finite (at s (set X (io + i) v) i k))) → (t ≡ true → FineRows s X i) → r ≡ true → FineRows s (set X (io + i) v) (i + 1)
 fine_next s i io X v t r l eo e fine q a k m n =

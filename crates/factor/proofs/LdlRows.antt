@@ -1,4 +1,6 @@
 -- The rule of LDL' below, on and above the diagonal, and the two ways on from a row. Assumes nothing.
+use Rattle.std.specs.Prelude.{Ok, Err}
+use Prim.{tt}
 use mathlib.Core.Path.{◌≡◌, refl, sym, ap, ◌∙◌}
 use mathlib.Core.List.{List}
 use mathlib.Core.Bool.{Bool, true, false}
@@ -13,7 +15,6 @@ use Rattle.base.specs.InPlace.{fill_by}
 use Rattle.base.proofs.Fills.{place_row, place_column}
 use Rattle.factor.specs.Triangle.{triangle, row_by, usable, first_bad, reach}
 use Rattle.factor.specs.Factor.{ldl_sum, ldl_pivot, ldl_below, ldl_rule, ldl_of, ldl_passes, ldl_end, LdlLeaves}
-use Rattle.factor.specs.declared.pivots.Factored.TheVariants.{Done, Bad}
 use Rattle.factor.proofs.PivotTests.{first_step, first_end, first_stop}
 use Rattle.factor.proofs.RowByRow.{triangle_below, triangle_on, triangle_above, row_step, row_reached, pivot_now, row_done}
 
@@ -39,7 +40,7 @@ ldl_row_step s A i j b X l m e = rw (← ldl_below_lem s A i j (λ k. X ! k) (X 
 
 -- ---- from row i, which begins at io: P before it, X with its entries before the diagonal, r the test of its pivot
 module _ (s i io : ℕ) (A b P X : List Float) (sum : Float) (r : Bool) (l : i < s) (h : s * s ≤ length b) (eo : io ≡ i * s) (eP : P ≡ fill_by (ldl_rule s A) (i * s) b)
-    (eX : X ≡ row_by (ldl_rule s A) (i * s) i P) (es : sum ≡ ldl_sum s (λ k. X ! k) i i) (er : r ≡ usable ((A ! (io + i)) ⊖ sum)) (so : Done ≡ first_bad i (ldl_passes s (ldl_of s A b))) where
+    (eX : X ≡ row_by (ldl_rule s A) (i * s) i P) (es : sum ≡ ldl_sum s (λ k. X ! k) i i) (er : r ≡ usable ((A ! (io + i)) ⊖ sum)) (so : Ok tt ≡ first_bad i (ldl_passes s (ldl_of s A b))) where
   ldl_now : (A ! (io + i)) ⊖ sum ≡ ldl_rule s A (i * s + i) (λ k. X ! k) (X ! (i * s + i))
   unfolding ldl_pivot
   ldl_now = rw (eo, es) (sym (ldl_on s A i (λ k. X ! k) (X ! (i * s + i)) l))
@@ -49,7 +50,7 @@ module _ (s i io : ℕ) (A b P X : List Float) (sum : Float) (r : Bool) (l : i <
   ldl_test = ap usable (pivot_now (ldl_rule s A) s i b P X l eP eX h ∙ sym ldl_now) ∙ sym er
 
   -- its pivot fails
-  pub ldl_stop : r ≡ false → LdlLeaves s A b (Bad i) X
+  pub ldl_stop : r ≡ false → LdlLeaves s A b (Err i) X
   unfolding ldl_end reach
   ldl_stop e =
       record {
@@ -59,14 +60,14 @@ module _ (s i io : ℕ) (A b P X : List Float) (sum : Float) (r : Bool) (l : i <
 
   -- it passes, and is written
   pub ldl_go : r ≡ true
-      → (set X (io + i) ((A ! (io + i)) ⊖ sum) ≡ fill_by (ldl_rule s A) ((i + 1) * s) b) × (Done ≡ first_bad (i + 1) (ldl_passes s (ldl_of s A b)))
+      → (set X (io + i) ((A ! (io + i)) ⊖ sum) ≡ fill_by (ldl_rule s A) ((i + 1) * s) b) × (Ok tt ≡ first_bad (i + 1) (ldl_passes s (ldl_of s A b)))
   ldl_go e =
       let w : set X (i * s + i) ((A ! (io + i)) ⊖ sum) ≡ fill_by (ldl_rule s A) ((i + 1) * s) b =
       row_done (ldl_rule s A) s i b P X l eP eX ((A ! (io + i)) ⊖ sum) (ldl_above s A i) ldl_now in
       (rw eo (rw eo at w), first_step (ldl_passes s (ldl_of s A b)) i so (ldl_test ∙ e))
 
 -- no row is left
-pub ldl_done : (s i : ℕ) (A b X : List Float) → i ≤ s → s ≤ i → X ≡ fill_by (ldl_rule s A) (i * s) b → Done ≡ first_bad i (ldl_passes s (ldl_of s A b)) → LdlLeaves s A b Done X
+pub ldl_done : (s i : ℕ) (A b X : List Float) → i ≤ s → s ≤ i → X ≡ fill_by (ldl_rule s A) (i * s) b → Ok tt ≡ first_bad i (ldl_passes s (ldl_of s A b)) → LdlLeaves s A b (Ok tt) X
 unfolding ldl_end reach
 ldl_done s i A b X l m e so =
     let q : i ≡ s = omega arith in

@@ -1,4 +1,6 @@
 -- What `ldl` leaves satisfies the textbook's equations, which fix the lower triangle; what stood in the buffer, and above A's diagonal, has no part in it. Assumes nothing.
+use Rattle.std.specs.Prelude.{Result, Ok, Err, ⊤}
+use Prim.{tt}
 use mathlib.Core.Path.{◌≡◌, refl, sym, ap, ◌∙◌}
 use mathlib.Core.List.{List}
 use mathlib.Core.Bool.{true, false}
@@ -18,8 +20,6 @@ use Rattle.base.proofs.InPlace.{length_by}
 use Rattle.factor.specs.Triangle.{cell, SameBelow, usable, reach}
 use Rattle.factor.specs.Factor.{ldl_term, ldl_sum, ldl_pivot, ldl_below, ldl_rule, ldl_of, ldl_passes, ldl_end, LdlLeaves}
 use Rattle.factor.specs.Textbook.{LdlTextbook, KeptAbove}
-use Rattle.factor.specs.declared.pivots.Factored.{Factored}
-use Rattle.factor.specs.declared.pivots.Factored.TheVariants.{Done, Bad}
 use Rattle.factor.proofs.PivotTests.{first_done, first_bad_lem, first_cong, FirstBad}
 use Rattle.factor.proofs.RowByRow.{inside, by_rest, by_kept, by_entry}
 use Rattle.factor.proofs.LdlRows.{ldl_below_lem, ldl_on, ldl_above}
@@ -74,17 +74,17 @@ module _ (s : ℕ) (A b : List Float) (h : s * s ≤ length b) where
       }
 
 -- ---- what `ldl` leaves
-pub ldl_textbook : (s : ℕ) (A b X : List Float) → s * s ≤ length b → LdlLeaves s A b Done X → LdlTextbook s A X × KeptAbove s b X
+pub ldl_textbook : (s : ℕ) (A b X : List Float) → s * s ≤ length b → LdlLeaves s A b (Ok tt) X → LdlTextbook s A X × KeptAbove s b X
 unfolding reach ldl_of
 ldl_textbook s A b X h d = rw d.out (ldl_of_textbook s A b h, ldl_of_keeps s A b h)
 
 -- every pivot can be divided by
-pub ldl_pivots : (s : ℕ) (A b X : List Float) → LdlLeaves s A b Done X → (i : ℕ) → i < s → usable (at s X i i) ≡ true
+pub ldl_pivots : (s : ℕ) (A b X : List Float) → LdlLeaves s A b (Ok tt) X → (i : ℕ) → i < s → usable (at s X i i) ≡ true
 unfolding reach ldl_of ldl_end ldl_passes
 ldl_pivots s A b X d = rw d.out (first_done (ldl_passes s (ldl_of s A b)) s d.end)
 
 -- pivot i, from the entries of its row, cannot; those before it can
-pub ldl_bad_pivot : (s : ℕ) (A b X : List Float) (i : ℕ) → s * s ≤ length b → LdlLeaves s A b (Bad i) X
+pub ldl_bad_pivot : (s : ℕ) (A b X : List Float) (i : ℕ) → s * s ≤ length b → LdlLeaves s A b (Err i) X
     → (i < s) × (usable (ldl_pivot s i (λ k. X ! k) (at s A i i)) ≡ false) × ((j : ℕ) → j < i → usable (at s X j j) ≡ true)
 unfolding reach ldl_of ldl_end ldl_passes
 ldl_bad_pivot s A b X i h d =
@@ -97,10 +97,10 @@ ldl_bad_pivot s A b X i h d =
     )
 
 -- one answer and one buffer
-pub ldl_unique : (s : ℕ) (A b X Y : List Float) (q r : Factored) → LdlLeaves s A b q X → LdlLeaves s A b r Y → (q ≡ r) × (X ≡ Y)
+pub ldl_unique : (s : ℕ) (A b X Y : List Float) (q r : Result ⊤ ℕ) → LdlLeaves s A b q X → LdlLeaves s A b r Y → (q ≡ r) × (X ≡ Y)
 ldl_unique s A b X Y q r d e =
     let same : q ≡ r = d.end ∙ sym e.end in
-    (same, d.out ∙ ap (λ (z : Factored). fill_by (ldl_rule s A) (reach s z) b) same ∙ sym e.out)
+    (same, d.out ∙ ap (λ (z : Result ⊤ ℕ). fill_by (ldl_rule s A) (reach s z) b) same ∙ sym e.out)
 
 -- ---- the equations fix the lower triangle, from the lower triangle of the matrix
 pub ldl_fixes : (s : ℕ) (A B F G : List Float) → SameBelow s A B → LdlTextbook s A F → LdlTextbook s B G → SameBelow s F G
@@ -127,16 +127,16 @@ unfolding ldl_end ldl_passes
 ldl_end_same s F G h = first_cong (ldl_passes s F) (ldl_passes s G) s (λ k l. ap usable (h k k l (omega arith)))
 
 -- a factorisation writes within its square
-reach_fits : (s : ℕ) (F : List Float) (r : Factored) → r ≡ ldl_end s F → reach s r ≤ s * s
+reach_fits : (s : ℕ) (F : List Float) (r : Result ⊤ ℕ) → r ≡ ldl_end s F → reach s r ≤ s * s
 unfolding reach ldl_end
-reach_fits s F Done e = omega arith
-reach_fits s F (Bad i) e =
+reach_fits s F (Ok tt) e = omega arith
+reach_fits s F (Err i) e =
     let f : FirstBad (ldl_passes s F) s i = first_bad_lem (ldl_passes s F) s i e in
     let l : i < s = f.below in
     omega (arith, row_fits i s s l)
 
 -- and leaves the rest of its slice
-pub ldl_only : (s : ℕ) (A b X : List Float) (r : Factored) → LdlLeaves s A b r X → Only 0 (s * s) b X
+pub ldl_only : (s : ℕ) (A b X : List Float) (r : Result ⊤ ℕ) → LdlLeaves s A b r X → Only 0 (s * s) b X
 ldl_only s A b X r d =
     let h : reach s r ≤ s * s = reach_fits s (ldl_of s A b) r d.end in
     rw d.out

@@ -116,9 +116,6 @@ pub turn_step : (s i j io jo : ℕ) (P X : List Float) → io ≡ i * s → jo �
 unfolding row_turned swapped
 turn_step s i j io jo P X e e' q = rw (e, e', q, add-one j) refl
 
-pub turn_end : (s i j : ℕ) (P X : List Float) → j ≤ i → i ≤ j → X ≡ row_turned s i j P → X ≡ row_turned s i i P
-turn_end s i j P X l m e = let q : j ≡ i = omega arith in rw q at e
-
 pub square_none : (s : ℕ) (X : List Float) → X ≡ square_turned s 0 X
 unfolding square_turned
 square_none s X = refl

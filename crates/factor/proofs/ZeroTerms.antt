@@ -99,9 +99,6 @@ row_test s L i k o b e h = rw e at h
 pub behind_head : (t : Bool) (a e : ℕ) (f : ℕ → Float) (r : ℕ) → t ≡ true → FirstOther a e f r → Head t a e f r
 behind_head t a e f r q h = record { behind = λ _. h; whole = λ p. absurd (ff (sym p ∙ q)) }
 
-pub whole_head : (t : Bool) (a e : ℕ) (f : ℕ → Float) (r : ℕ) → t ≡ false → r ≡ a → Head t a e f r
-whole_head t a e f r q h = record { behind = λ p. absurd (ff (sym q ∙ p)); whole = λ _. h }
-
 pub head_bounds : (t : Bool) (a e : ℕ) (f : ℕ → Float) (r : ℕ) → Head t a e f r → a ≤ e → (a ≤ r) × (r ≤ e)
 head_bounds true a e f r h l = ((h.behind refl).from, (h.behind refl).to)
 head_bounds false a e f r h l = let q : r ≡ a = h.whole refl in (omega arith, omega arith)

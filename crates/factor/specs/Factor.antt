@@ -1,13 +1,12 @@
 -- LDL' and Cholesky, from the lower triangle of an s by s matrix. Document 01, "The inner fit", its sentences on pivots.
 -- L stands below the diagonal and d on it; what stands above it is neither read nor written. Assumes nothing.
-use Rattle.std.specs.Prelude.{◌≡◌, List, Bool, ℕ, ◌*◌, ◌/◌, ◌%◌, Float}
+use Rattle.std.specs.Prelude.{◌≡◌, List, Bool, ℕ, ◌*◌, ◌/◌, ◌%◌, Float, Result, ⊤}
 use Rattle.base.specs.Number.{◌⊖◌, ◌⊗◌, ◌⊘◌}
 use Rattle.base.specs.Sum.{◌!◌, sum_to}
 use Rattle.base.specs.List.{at}
 use Rattle.base.specs.InPlace.{Rule, fill_by}
 use Rattle.root.specs.Sqrt.{sqrt_of}
 use Rattle.factor.specs.Triangle.{cell, rows_dot, triangle, usable, positive, first_bad, reach}
-use Rattle.factor.specs.declared.pivots.Factored.{Factored}
 
 -- ---- LDL'
 
@@ -40,11 +39,11 @@ unfoldable pub ldl_passes : ℕ → List Float → ℕ → Bool
 ldl_passes s F i = usable (at s F i i)
 
 -- the end of LDL' with the factor F: the first pivot that is zero or not finite, if there is one
-unfoldable pub ldl_end : ℕ → List Float → Factored
+unfoldable pub ldl_end : ℕ → List Float → Result ⊤ ℕ
 ldl_end s F = first_bad s (ldl_passes s F)
 
 -- what `ldl` answers and leaves in b: the end, and the entries before it
-pub record LdlLeaves (s : ℕ) (A b : List Float) (r : Factored) (X : List Float) : Type 0 where
+pub record LdlLeaves (s : ℕ) (A b : List Float) (r : Result ⊤ ℕ) (X : List Float) : Type 0 where
   pub end : r ≡ ldl_end s (ldl_of s A b)
   pub out : X ≡ fill_by (ldl_rule s A) (reach s r) b
 
@@ -71,10 +70,10 @@ unfoldable pub cholesky_passes : ℕ → List Float → List Float → ℕ → B
 cholesky_passes s A F i = positive (cholesky_pivot s i (λ k. F ! k) (at s A i i))
 
 -- the end of Cholesky of A with the factor F: the first pivot that is not above zero or not finite, if there is one
-unfoldable pub cholesky_end : ℕ → List Float → List Float → Factored
+unfoldable pub cholesky_end : ℕ → List Float → List Float → Result ⊤ ℕ
 cholesky_end s A F = first_bad s (cholesky_passes s A F)
 
 -- what `cholesky` answers and leaves of A: the end, and the entries before it
-pub record CholeskyLeaves (s : ℕ) (A : List Float) (r : Factored) (X : List Float) : Type 0 where
+pub record CholeskyLeaves (s : ℕ) (A : List Float) (r : Result ⊤ ℕ) (X : List Float) : Type 0 where
   pub end : r ≡ cholesky_end s A (cholesky_of s A)
   pub out : X ≡ fill_by (cholesky_rule s) (reach s r) A

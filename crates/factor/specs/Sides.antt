@@ -11,6 +11,10 @@ use Rattle.factor.specs.Substitution.{ldl_solve}
 unfoldable pub column_at : (List Float → List Float) → ℕ → List Float → ℕ → ℕ → Float
 column_at h s X a k = h (row (a * s) s X) ! k
 
+-- entry k of what h a makes of column a
+unfoldable pub changed_at : (ℕ → List Float → List Float) → ℕ → List Float → ℕ → ℕ → Float
+changed_at h s X a k = h a (row (a * s) s X) ! k
+
 -- h of each of the first n columns
 unfoldable pub each_column : (List Float → List Float) → ℕ → ℕ → List Float → List Float
 each_column h s n X = grid_to n s (column_at h s X) X

@@ -1,12 +1,11 @@
 -- A lower triangle of size s that is written row by row, and how far a factorisation comes. Document 01, "The inner fit". Assumes nothing.
-use Rattle.std.specs.Prelude.{◌≡◌, List, Bool, true, false, not, ◌&&◌, cond, ℕ, zero, suc, ◌+◌, ◌*◌, ◌<◌, ◌≤◌, ltb, eqb, Float}
+use Rattle.std.specs.Prelude.{◌≡◌, List, Bool, true, false, not, ◌&&◌, cond, ℕ, zero, suc, ◌+◌, ◌*◌, ◌<◌, ◌≤◌, ltb, eqb, Float, Result, Ok, Err, ⊤}
+use Prim.{tt}
 use Rattle.std.specs.Float.Ieee.{lt, eq}
 use Rattle.base.specs.Number.{◌⊗◌, zero_f, finite}
 use Rattle.base.specs.Sum.{sum_to}
 use Rattle.base.specs.List.{at}
 use Rattle.base.specs.InPlace.{Rule, ruled}
-use Rattle.factor.specs.declared.pivots.Factored.{Factored}
-use Rattle.factor.specs.declared.pivots.Factored.TheVariants.{Done, Bad}
 
 -- entry (i, j) of a matrix of s columns whose entries a rule looks at
 abbrev pub cell : ℕ → (ℕ → Float) → ℕ → ℕ → Float
@@ -40,17 +39,17 @@ unfoldable pub positive : Float → Bool
 positive d = lt zero_f d && finite d
 
 -- the end so far, or by the test of pivot i
-unfoldable pub and_then : Factored → ℕ → Bool → Factored
-and_then (Bad k) i t = Bad k
-and_then Done i true = Done
-and_then Done i false = Bad i
+unfoldable pub and_then : Result ⊤ ℕ → ℕ → Bool → Result ⊤ ℕ
+and_then (Err k) i t = Err k
+and_then (Ok tt) i true = Ok tt
+and_then (Ok tt) i false = Err i
 
 -- the first of n pivots that fails the test, if one does
-unfoldable pub first_bad : ℕ → (ℕ → Bool) → Factored
-first_bad zero t = Done
+unfoldable pub first_bad : ℕ → (ℕ → Bool) → Result ⊤ ℕ
+first_bad zero t = Ok tt
 first_bad (suc n) t = and_then (first_bad n t) n (t n)
 
 -- how many places of the square, row by row, a factorisation with this end has written: all, or those before the pivot that failed
-unfoldable pub reach : ℕ → Factored → ℕ
-reach s Done = s * s
-reach s (Bad i) = i * s + i
+unfoldable pub reach : ℕ → Result ⊤ ℕ → ℕ
+reach s (Ok tt) = s * s
+reach s (Err i) = i * s + i

@@ -4,6 +4,7 @@ ghost use Rattle.base.specs.List.{grid_to};
 ghost use Rattle.factor.specs.Transpose.{turned_at, row_turned};
 ghost use Rattle.factor.specs.Inverse.{unit_column, ldl_column, ldl_column_at, ldl_inverse_at, cholesky_column, cholesky_column_at, v_at};
 
+use crate::each::change_columns;
 use crate::factors::rows_dot;
 use crate::substitution::{forward, ldl_solve};
 
@@ -25,33 +26,17 @@ fn ldl_column(l: &[f64], s: usize, c: usize, x: &mut [f64])
     ldl_solve(l, s, x);
 }
 
-// The columns of that inverse, one behind the other.
-fn ldl_columns(l: &[f64], s: usize, out: &mut [f64])
-    requires { (s * s ≤ length l.now) × (s * s ≤ length out.old) }
-    ensures { out.new ≡ grid_to s s (ldl_column_at s l.now) out.old }
-{
-    let mut c = 0;
-    while c < s {
-        let o = base::offset(c, s, s);
-        let e = o + s;
-        ldl_column(l, s, c, &mut out[o..e]);
-        c += 1;
-    }
-}
-
 // The first i entries of row i change places with those of column i.
 fn turn_row(x: &mut [f64], s: usize, i: usize)
     requires { (i < s) × (s * s ≤ length x.old) }
     ensures { x.new ≡ row_turned s i i x.old }
 {
     let io = base::offset(i, s, s);
-    let mut j = 0;
-    while j < i {
+    for j in 0..i {
         let jo = base::offset(j, s, s);
         let below = x[io + j];
         x[io + j] = x[jo + i];
         x[jo + i] = below;
-        j += 1;
     }
 }
 
@@ -60,10 +45,8 @@ fn transpose(x: &mut [f64], s: usize)
     requires { s * s ≤ length x.old }
     ensures { x.new ≡ grid_to s s (turned_at s x.old) x.old }
 {
-    let mut i = 0;
-    while i < s {
+    for i in 0..s {
         turn_row(x, s, i);
-        i += 1;
     }
 }
 
@@ -72,7 +55,7 @@ pub fn ldl_inverse(l: &[f64], s: usize, out: &mut [f64])
     requires { (s * s ≤ length l.now) × (s * s ≤ length out.old) }
     ensures { out.new ≡ grid_to s s (ldl_inverse_at s l.now) out.old }
 {
-    ldl_columns(l, s, out);
+    change_columns(s, s, out, |c, column| ldl_column(l, s, c, column));
     transpose(out, s);
 }
 
@@ -90,13 +73,7 @@ pub fn cholesky_inverse(l: &[f64], s: usize, out: &mut [f64])
     requires { (s * s ≤ length l.now) × (s * s ≤ length out.old) }
     ensures { out.new ≡ grid_to s s (cholesky_column_at s l.now) out.old }
 {
-    let mut c = 0;
-    while c < s {
-        let o = base::offset(c, s, s);
-        let e = o + s;
-        cholesky_column(l, s, c, &mut out[o..e]);
-        c += 1;
-    }
+    change_columns(s, s, out, |c, column| cholesky_column(l, s, c, column));
 }
 
 // Entry (a, b) of v, from the columns of the inverse of the Cholesky factor.

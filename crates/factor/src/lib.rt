@@ -2,6 +2,7 @@
 // and only its lower triangle is read.
 #![tactic(auto)]
 
+mod each;
 mod factors;
 mod inverses;
 mod pivots;
@@ -10,7 +11,6 @@ mod substitution;
 
 pub use factors::{cholesky, ldl};
 pub use inverses::{cholesky_inverse, ldl_inverse, v_at};
-pub use pivots::Factored;
 pub use sides::ldl_solve_columns;
 pub use substitution::{
     backward, cholesky_solve, forward, ldl_solve, over_d, unit_backward, unit_forward,

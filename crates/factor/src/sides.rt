@@ -7,17 +7,8 @@ ghost use Rattle.factor.specs.Substitution.{across_term, down_term, unit_forward
 ghost use Rattle.factor.specs.Heads.{Zeros, Head};
 ghost use Rattle.factor.specs.Sides.{each_column, ldl_columns_at, Entered, RowEntered};
 
+use crate::each::{change_columns, enter_columns};
 use crate::substitution::{over_d, sum_behind, sum_further};
-
-// Both of two tests.
-fn both(a: bool, b: bool) -> bool
-    ensures { result ≡ (a && b) }
-{
-    if a {
-        return b;
-    }
-    false
-}
 
 // Where the sums of row i begin: behind the zeros at the head of row i of L where that is allowed.
 fn row_head(l: &[f64], s: usize, i: usize, allowed: bool) -> usize
@@ -25,15 +16,13 @@ fn row_head(l: &[f64], s: usize, i: usize, allowed: bool) -> usize
     ensures { Head allowed 0 i (λ k. at s l.now i k) result }
 {
     let o = base::offset(i, s, s);
-    let mut k = 0;
     if !allowed {
         return 0;
     }
-    while k < i {
+    for k in 0..i {
         if l[o + k] != 0.0 {
             return k;
         }
-        k += 1;
     }
     i
 }
@@ -43,16 +32,14 @@ fn column_head(l: &[f64], s: usize, i: usize, allowed: bool) -> usize
     requires { (i < s) × (s * s ≤ length l.now) }
     ensures { Head allowed (i + 1) s (λ k. at s l.now k i) result }
 {
-    let mut k = i + 1;
     if !allowed {
-        return k;
+        return i + 1;
     }
-    while k < s {
+    for k in i + 1..s {
         let o = base::offset(k, s, s);
         if l[o + i] != 0.0 {
             return k;
         }
-        k += 1;
     }
     s
 }
@@ -68,49 +55,20 @@ fn forward_entry(l: &[f64], s: usize, i: usize, head: usize, x: &mut [f64]) -> b
     base::is_finite(x[i])
 }
 
-// Entry i of every right side forwards, and whether all are finite.
-fn forward_row(l: &[f64], s: usize, i: usize, head: usize, count: usize, x: &mut [f64]) -> bool
-    requires { (i < s) × (s * s ≤ length l.now) × (count * s ≤ length x.old) × (head ≤ i) × ((a : ℕ) → a < count → Zeros 0 head (across_term s l.now i (λ k. at s x.old a k))) }
-    ensures { RowEntered (unit_forward_rule s l.now) i s count x.old result x.new }
-{
-    let mut fine = true;
-    let mut a = 0;
-    while a < count {
-        let o = base::offset(a, count, s);
-        let e = o + s;
-        let one = forward_entry(l, s, i, head, &mut x[o..e]);
-        fine = both(fine, one);
-        a += 1;
-    }
-    fine
-}
-
 // L x = b for every right side, where L has 1 on its diagonal.
 fn forward_columns(l: &[f64], s: usize, count: usize, x: &mut [f64])
     requires { (s * s ≤ length l.now) × (count * s ≤ length x.old) }
     ensures { x.new ≡ each_column (unit_forward s l.now) s count x.old }
 {
     let mut fine = true;
-    let mut i = 0;
-    while i < s {
+    for i in 0..s {
         let head = row_head(l, s, i, fine);
-        let row = forward_row(l, s, i, head, count, x);
-        fine = both(fine, row);
-        i += 1;
-    }
-}
-
-// Each entry of every right side divided by its d.
-fn over_d_columns(l: &[f64], s: usize, count: usize, x: &mut [f64])
-    requires { (s * s ≤ length l.now) × (count * s ≤ length x.old) }
-    ensures { x.new ≡ each_column (over_d s l.now) s count x.old }
-{
-    let mut a = 0;
-    while a < count {
-        let o = base::offset(a, count, s);
-        let e = o + s;
-        over_d(l, s, &mut x[o..e]);
-        a += 1;
+        fine &= enter_columns(
+            s,
+            count,
+            x,
+            move |column| forward_entry(l, s, i, head, column),
+        );
     }
 }
 
@@ -124,35 +82,20 @@ fn backward_entry(l: &[f64], s: usize, i: usize, head: usize, x: &mut [f64]) -> 
     base::is_finite(x[i])
 }
 
-// Entry i of every right side backwards, and whether all are finite.
-fn backward_row(l: &[f64], s: usize, i: usize, head: usize, count: usize, x: &mut [f64]) -> bool
-    requires { (i < s) × (s * s ≤ length l.now) × (count * s ≤ length x.old) × (i < head) × (head ≤ s) × ((a : ℕ) → a < count → Zeros (i + 1) head (down_term s l.now i (λ k. at s x.old a k))) }
-    ensures { RowEntered (unit_backward_rule s l.now) i s count x.old result x.new }
-{
-    let mut fine = true;
-    let mut a = 0;
-    while a < count {
-        let o = base::offset(a, count, s);
-        let e = o + s;
-        let one = backward_entry(l, s, i, head, &mut x[o..e]);
-        fine = both(fine, one);
-        a += 1;
-    }
-    fine
-}
-
 // L' x = b for every right side, where L has 1 on its diagonal.
 fn backward_columns(l: &[f64], s: usize, count: usize, x: &mut [f64])
     requires { (s * s ≤ length l.now) × (count * s ≤ length x.old) }
     ensures { x.new ≡ each_column (unit_backward s l.now) s count x.old }
 {
     let mut fine = true;
-    let mut i = s;
-    while 0 < i {
-        i -= 1;
+    for i in (0..s).rev() {
         let head = column_head(l, s, i, fine);
-        let row = backward_row(l, s, i, head, count, x);
-        fine = both(fine, row);
+        fine &= enter_columns(
+            s,
+            count,
+            x,
+            move |column| backward_entry(l, s, i, head, column),
+        );
     }
 }
 
@@ -162,6 +105,6 @@ pub fn ldl_solve_columns(l: &[f64], s: usize, count: usize, x: &mut [f64])
     ensures { x.new ≡ grid_to count s (ldl_columns_at s l.now x.old) x.old }
 {
     forward_columns(l, s, count, x);
-    over_d_columns(l, s, count, x);
+    change_columns(s, count, x, |_, column| over_d(l, s, column));
     backward_columns(l, s, count, x);
 }

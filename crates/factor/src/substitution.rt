@@ -9,12 +9,10 @@ fn zeros_before(l: &[f64], o: usize, x: &[f64], n: usize) -> usize
     requires { (o + n ≤ length l.now) × (n ≤ length x.now) }
     ensures { FirstOther 0 n (product_from l.now o x.now) result }
 {
-    let mut k = 0;
-    while k < n {
+    for k in 0..n {
         if l[o + k] * x[k] != 0.0 {
             return k;
         }
-        k += 1;
     }
     n
 }
@@ -25,10 +23,8 @@ pub fn sum_behind(l: &[f64], o: usize, x: &[f64], head: usize, n: usize) -> f64
     ensures { result ≡ sum_to n (product_from l.now o x.now) }
 {
     let mut sum = 0.0;
-    let mut k = head;
-    while k < n {
+    for k in head..n {
         sum = sum + l[o + k] * x[k];
-        k += 1;
     }
     sum
 }
@@ -47,13 +43,11 @@ fn zeros_below(l: &[f64], s: usize, i: usize, x: &[f64]) -> usize
     requires { (i < s) × (s * s ≤ length l.now) × (s ≤ length x.now) }
     ensures { FirstOther (i + 1) s (down_term s l.now i (λ k. x.now ! k)) result }
 {
-    let mut k = i + 1;
-    while k < s {
+    for k in i + 1..s {
         let o = base::offset(k, s, s);
         if l[o + i] * x[k] != 0.0 {
             return k;
         }
-        k += 1;
     }
     s
 }
@@ -64,11 +58,9 @@ pub fn sum_further(l: &[f64], s: usize, i: usize, x: &[f64], head: usize) -> f64
     ensures { result ≡ sum_from (i + 1) s (down_term s l.now i (λ k. x.now ! k)) }
 {
     let mut sum = 0.0;
-    let mut k = head;
-    while k < s {
+    for k in head..s {
         let o = base::offset(k, s, s);
         sum = sum + l[o + i] * x[k];
-        k += 1;
     }
     sum
 }
@@ -87,12 +79,10 @@ pub fn unit_forward(l: &[f64], s: usize, x: &mut [f64])
     requires { (s * s ≤ length l.now) × (s ≤ length x.old) }
     ensures { x.new ≡ unit_forward s l.now x.old }
 {
-    let mut i = 0;
-    while i < s {
+    for i in 0..s {
         let o = base::offset(i, s, s);
         let sum = sum_before(l, o, x, i);
         x[i] = x[i] - sum;
-        i += 1;
     }
 }
 
@@ -101,11 +91,9 @@ pub fn over_d(l: &[f64], s: usize, x: &mut [f64])
     requires { (s * s ≤ length l.now) × (s ≤ length x.old) }
     ensures { x.new ≡ over_d s l.now x.old }
 {
-    let mut i = 0;
-    while i < s {
+    for i in 0..s {
         let o = base::offset(i, s, s);
         x[i] = x[i] / l[o + i];
-        i += 1;
     }
 }
 
@@ -114,9 +102,7 @@ pub fn unit_backward(l: &[f64], s: usize, x: &mut [f64])
     requires { (s * s ≤ length l.now) × (s ≤ length x.old) }
     ensures { x.new ≡ unit_backward s l.now x.old }
 {
-    let mut i = s;
-    while 0 < i {
-        i -= 1;
+    for i in (0..s).rev() {
         let below = sum_below(l, s, i, x);
         x[i] = x[i] - below;
     }
@@ -127,12 +113,10 @@ pub fn forward(l: &[f64], s: usize, x: &mut [f64])
     requires { (s * s ≤ length l.now) × (s ≤ length x.old) }
     ensures { x.new ≡ forward s l.now x.old }
 {
-    let mut i = 0;
-    while i < s {
+    for i in 0..s {
         let o = base::offset(i, s, s);
         let sum = base::dot_from(l, o, x, i);
         x[i] = (x[i] - sum) / l[o + i];
-        i += 1;
     }
 }
 
@@ -141,9 +125,7 @@ pub fn backward(l: &[f64], s: usize, x: &mut [f64])
     requires { (s * s ≤ length l.now) × (s ≤ length x.old) }
     ensures { x.new ≡ backward s l.now x.old }
 {
-    let mut i = s;
-    while 0 < i {
-        i -= 1;
+    for i in (0..s).rev() {
         let o = base::offset(i, s, s);
         let below = sum_below(l, s, i, x);
         x[i] = (x[i] - below) / l[o + i];

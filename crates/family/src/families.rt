@@ -9,6 +9,7 @@ use elementary::ln;
 use log_gamma::ln_gamma;
 
 // The variance of a response with mean mu, up to the dispersion.
+#[tactic(auto, unfolding(crate::specs::Family::variance_of))]
 pub fn variance(family: CarriedFamily, mu: f64) -> f64
     ensures { result ≡ variance_of family mu }
 {
@@ -27,38 +28,37 @@ pub fn variance(family: CarriedFamily, mu: f64) -> f64
 }
 
 // y·ln(y / m), left out where y is 0, as its logarithm is infinite.
+#[tactic(auto, unfolding(crate::specs::Family::success_term, base::specs::Sum::add_where))]
 fn success_term(y: f64, m: f64) -> f64
     ensures { result ≡ success_term y m }
 {
-    if y > 0.0 {
-        return 0.0 + y * ln(y / m);
-    }
-    0.0
+    if y > 0.0 { 0.0 + y * ln(y / m) } else { 0.0 }
 }
 
 // Half the deviance of y from 0 to 1 with mean m; the failures' part is left out where y is 1.
+#[tactic(auto, unfolding(crate::specs::Family::binomial_term, base::specs::Sum::add_where))]
 fn binomial_term(y: f64, m: f64) -> f64
     ensures { result ≡ binomial_term y m }
 {
     let successes = success_term(y, m);
     if y < 1.0 {
-        return successes + (1.0 - y) * ln((1.0 - y) / (1.0 - m));
+        successes + (1.0 - y) * ln((1.0 - y) / (1.0 - m))
+    } else {
+        successes
     }
-    successes
 }
 
 // Half the deviance of a count y with mean m.
+#[tactic(auto, unfolding(crate::specs::Family::poisson_term, base::specs::Sum::add_where))]
 fn poisson_term(y: f64, m: f64) -> f64
     ensures { result ≡ poisson_term y m }
 {
     let rest = -(y - m);
-    if y > 0.0 {
-        return rest + y * ln(y / m);
-    }
-    rest
+    if y > 0.0 { rest + y * ln(y / m) } else { rest }
 }
 
 // Half the deviance of a response y with mean m, both at least E.
+#[tactic(auto, unfolding(crate::specs::Family::gamma_term))]
 fn gamma_term(y: f64, m: f64) -> f64
     ensures { result ≡ gamma_term y m }
 {
@@ -66,16 +66,15 @@ fn gamma_term(y: f64, m: f64) -> f64
 }
 
 // From 0 to 1, which no NaN is.
+#[tactic(auto, unfolding(crate::specs::Family::proportion))]
 fn is_proportion(y: f64) -> bool
     ensures { result ≡ proportion y }
 {
-    if 0.0 <= y {
-        return y <= 1.0;
-    }
-    false
+    0.0 <= y && y <= 1.0
 }
 
 // Whether the family is for such a response.
+#[tactic(auto, unfolding(crate::specs::Family::in_range))]
 pub fn in_range(family: CarriedFamily, y: f64) -> bool
     ensures { result ≡ in_range family y }
 {
@@ -88,36 +87,43 @@ pub fn in_range(family: CarriedFamily, y: f64) -> bool
 }
 
 // The deviance of a binomial response; NaN of one that is not from 0 to 1.
+#[tactic(auto, unfolding(crate::specs::Family::dev_resid))]
 fn binomial_deviance(y: f64, mu: f64, wt: f64) -> f64
     ensures { result ≡ dev_resid CarriedFamily.Binomial y mu wt }
 {
     if is_proportion(y) {
-        return 2.0 * wt * binomial_term(y, inside(mu));
+        2.0 * wt * binomial_term(y, inside(mu))
+    } else {
+        f64::NAN
     }
-    0.0 / 0.0
 }
 
 // The deviance of a Poisson response; NaN of one below 0.
+#[tactic(auto, unfolding(crate::specs::Family::dev_resid))]
 fn poisson_deviance(y: f64, mu: f64, wt: f64) -> f64
     ensures { result ≡ dev_resid CarriedFamily.Poisson y mu wt }
 {
     if y < 0.0 {
-        return 0.0 / 0.0;
+        f64::NAN
+    } else {
+        2.0 * wt * poisson_term(y, max(mu, EPSILON))
     }
-    2.0 * wt * poisson_term(y, max(mu, EPSILON))
 }
 
 // The deviance of a Gamma response; NaN of one that is 0 or below. A NaN passes the test, and its floor takes it for E.
+#[tactic(auto, unfolding(crate::specs::Family::dev_resid))]
 fn gamma_deviance(y: f64, mu: f64, wt: f64) -> f64
     ensures { result ≡ dev_resid CarriedFamily.Gamma y mu wt }
 {
     if y <= 0.0 {
-        return 0.0 / 0.0;
+        f64::NAN
+    } else {
+        2.0 * wt * gamma_term(max(y, EPSILON), max(mu, EPSILON))
     }
-    2.0 * wt * gamma_term(max(y, EPSILON), max(mu, EPSILON))
 }
 
 // What a response y with mean mu and weight wt adds to the deviance.
+#[tactic(auto, unfolding(crate::specs::Family::dev_resid))]
 pub fn dev_resid(family: CarriedFamily, y: f64, mu: f64, wt: f64) -> f64
     ensures { result ≡ dev_resid family y mu wt }
 {
@@ -133,6 +139,7 @@ pub fn dev_resid(family: CarriedFamily, y: f64, mu: f64, wt: f64) -> f64
 }
 
 // The mean that a fit starts from.
+#[tactic(auto, unfolding(crate::specs::Family::initialize_mu))]
 pub fn initialize_mu(family: CarriedFamily, y: f64) -> f64
     ensures { result ≡ initialize_mu family y }
 {
@@ -145,6 +152,7 @@ pub fn initialize_mu(family: CarriedFamily, y: f64) -> f64
 }
 
 // The mean that a binomial fit starts from where the weight is a number of trials.
+#[tactic(auto, unfolding(crate::specs::Family::trials_mean))]
 pub fn trials_mean(wt: f64, y: f64) -> f64
     ensures { result ≡ trials_mean wt y }
 {
@@ -155,33 +163,25 @@ pub fn trials_mean(wt: f64, y: f64) -> f64
 pub fn uses_dispersion(family: CarriedFamily) -> bool
     ensures { result ≡ uses_dispersion family }
 {
-    match family {
-        CarriedFamily::Binomial => false,
-        CarriedFamily::Poisson => false,
-        CarriedFamily::Gaussian => true,
-        CarriedFamily::Gamma => true,
-    }
+    matches!(family, CarriedFamily::Gaussian | CarriedFamily::Gamma)
 }
 
 // Whether a response, a shape and a scale have a density: all three are above zero, which no NaN is.
+#[tactic(auto, unfolding(crate::specs::Family::has_density))]
 fn has_density(y: f64, shape: f64, scale: f64) -> bool
     ensures { result ≡ has_density y shape scale }
 {
-    if 0.0 < y {
-        if 0.0 < shape {
-            return 0.0 < scale;
-        }
-        return false;
-    }
-    false
+    0.0 < y && 0.0 < shape && 0.0 < scale
 }
 
 // The logarithm of Gamma's density at y.
+#[tactic(auto, unfolding(crate::specs::Family::ln_dgamma))]
 pub fn ln_dgamma(y: f64, shape: f64, scale: f64) -> f64
     ensures { result ≡ ln_dgamma y shape scale }
 {
     if has_density(y, shape, scale) {
-        return -ln_gamma(shape) - shape * ln(scale) + (shape - 1.0) * ln(y) - y / scale;
+        -ln_gamma(shape) - shape * ln(scale) + (shape - 1.0) * ln(y) - y / scale
+    } else {
+        -infinity()
     }
-    -infinity()
 }

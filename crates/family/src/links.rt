@@ -9,6 +9,7 @@ use normal::{norm_cdf, norm_pdf, norm_quantile};
 use root::sqrt;
 
 // A probability kept off 0 and 1 by E, so that no logarithm of 0 is taken.
+#[tactic(auto, unfolding(crate::specs::Link::clamp_e))]
 pub fn inside(p: f64) -> f64
     ensures { result ≡ clamp_e p }
 {
@@ -16,6 +17,7 @@ pub fn inside(p: f64) -> f64
 }
 
 // The mean of the logit link before it is clamped.
+#[tactic(auto, unfolding(crate::specs::Link::logistic))]
 fn expit(eta: f64) -> f64
     ensures { result ≡ logistic eta }
 {
@@ -23,16 +25,15 @@ fn expit(eta: f64) -> f64
 }
 
 // x·exp(-x), for x = exp(eta): where x is infinite the product would be no number.
+#[tactic(auto, unfolding(crate::specs::Link::cloglog_slope))]
 fn cloglog_slope(x: f64) -> f64
     ensures { result ≡ cloglog_slope x }
 {
-    if is_infinite(x) {
-        return 0.0;
-    }
-    x * exp(-x)
+    if is_infinite(x) { 0.0 } else { x * exp(-x) }
 }
 
 // The predictor of a mean.
+#[tactic(auto, unfolding(crate::specs::Link::link_fun))]
 pub fn link_fun(link: CarriedLink, mu: f64) -> f64
     ensures { result ≡ link_fun link mu }
 {
@@ -51,6 +52,7 @@ pub fn link_fun(link: CarriedLink, mu: f64) -> f64
 }
 
 // The mean of a predictor.
+#[tactic(auto, unfolding(crate::specs::Link::link_inv))]
 pub fn link_inv(link: CarriedLink, eta: f64) -> f64
     ensures { result ≡ link_inv link eta }
 {
@@ -69,6 +71,7 @@ pub fn link_inv(link: CarriedLink, eta: f64) -> f64
 }
 
 // The derivative of the mean by the predictor, kept off zero where the link has a floor.
+#[tactic(auto, unfolding(crate::specs::Link::mu_eta))]
 pub fn mu_eta(link: CarriedLink, eta: f64) -> f64
     ensures { result ≡ mu_eta link eta }
 {

@@ -1,4 +1,6 @@
 -- What documents 01 and 02 fix of the AIC: where those of Gaussian and Gamma are +infinity, which weights add a logarithm, what absent weights count, and the others' value. Assumes nothing.
+use Rattle.family_lists.specs.declared.lists.ListError.TheVariants.{LengthsDiffer}
+use Rattle.std.specs.Prelude.{Ok, Err}
 use Rattle.std.proofs.Common.{◌≡◌, ℕ, zero, suc, ◌<◌, ◌≤◌, Bool, true, false, cond, not, ◌||◌, eqb, List, [], length, replicate, sym, refl, ap, arith}
 use lib.ListN.{length-replicate, get_or-replicate}
 use lib.Ieee.{Float, nan, inf, fin, add, lt, le, eq, is_nan, of_bits}
@@ -12,7 +14,6 @@ use Rattle.family_lists.specs.Aic.{above_zero_at, ln_at, log_weights, gaussian_t
 use Rattle.family_lists.specs.Lists.{weight_at, weight_sum, lengths_agree}
 use Rattle.family.specs.declared.carried.CarriedFamily.{CarriedFamily}
 use Rattle.family.specs.declared.carried.CarriedFamily.TheVariants.{Binomial, Poisson, Gaussian, Gamma}
-use Rattle.family_lists.specs.declared.aics.AicAnswer.TheVariants.{Value, LengthsDiffer}
 
 -- ---- binomial and Poisson: the deviance itself
 pub binomial_aic : (y mu w : List Float) (dev : Float) → aic_of Binomial y mu w dev ≡ dev
@@ -137,6 +138,6 @@ pub aic_number_lem : (f : CarriedFamily) (y mu w : List Float) (dev : Float)
 unfolding aic_answer
 aic_number_lem f y mu w dev = picked (lengths_agree (length y) (length mu) (length w))
   where
-    picked : (b : Bool) → aic_number (cond b (Value (aic_of f y mu w dev)) LengthsDiffer) ≡ cond b 0 2
+    picked : (b : Bool) → aic_number (cond b (Ok (aic_of f y mu w dev)) (Err LengthsDiffer)) ≡ cond b 0 2
     picked true = refl
     picked false = refl

@@ -1,4 +1,7 @@
 -- The families' AIC over lists. Document 01, module 3, and document 02, P2; `aic` of family.rs. Assumes nothing.
+use Rattle.family_lists.specs.declared.lists.ListError.{ListError}
+use Rattle.family_lists.specs.declared.lists.ListError.TheVariants.{LengthsDiffer}
+use Rattle.std.specs.Prelude.{Result, Ok, Err}
 use Rattle.std.specs.Prelude.{ℕ, Bool, false, cond, not, ◌||◌, List, length, ◌==◌, Float}
 use Rattle.std.specs.Float.{inf}
 use Rattle.std.specs.Float.Ieee.{lt, le, neg}
@@ -9,8 +12,6 @@ use Rattle.family.specs.Family.{ln_dgamma}
 use Rattle.family.specs.declared.carried.CarriedFamily.{CarriedFamily}
 use Rattle.family.specs.declared.carried.CarriedFamily.TheVariants.{Binomial, Poisson, Gaussian, Gamma}
 use Rattle.family_lists.specs.Lists.{weight_at, weight_sum, lengths_agree}
-use Rattle.family_lists.specs.declared.aics.AicAnswer.{AicAnswer}
-use Rattle.family_lists.specs.declared.aics.AicAnswer.TheVariants.{Value, LengthsDiffer}
 
 -- π
 abbrev pub pi_f : Float
@@ -60,10 +61,10 @@ aic_of Gaussian y mu w dev = gaussian_aic (length y) w dev
 aic_of Gamma y mu w dev = gamma_aic y mu w dev
 
 -- the list function `aic`
-unfoldable pub aic_answer : CarriedFamily → List Float → List Float → List Float → Float → AicAnswer
-aic_answer f y mu w dev = cond (lengths_agree (length y) (length mu) (length w)) (Value (aic_of f y mu w dev)) LengthsDiffer
+unfoldable pub aic_answer : CarriedFamily → List Float → List Float → List Float → Float → Result Float ListError
+aic_answer f y mu w dev = cond (lengths_agree (length y) (length mu) (length w)) (Ok (aic_of f y mu w dev)) (Err LengthsDiffer)
 
 -- document 01's number of each answer
-abbrev pub aic_number : AicAnswer → ℕ
-aic_number (Value x) = 0
-aic_number LengthsDiffer = 2
+abbrev pub aic_number : Result Float ListError → ℕ
+aic_number (Ok x) = 0
+aic_number (Err LengthsDiffer) = 2

@@ -4,8 +4,8 @@
 mod aics;
 mod lists;
 
-pub use aics::{AicAnswer, aic, aic_of};
+pub use aics::{aic, aic_of};
 pub use lists::{
-    ListAnswer, dev_resid_list, initialize_mu_list, lengths_agree, link_fun_list, link_inv_list,
+    ListError, dev_resid_list, initialize_mu_list, lengths_agree, link_fun_list, link_inv_list,
     list_number, mu_eta_list, variance_list, weight_at, weight_sum,
 };

@@ -4,23 +4,24 @@
 ghost use Rattle.std.specs.Prelude.{◌≤◌, length};
 ghost use Rattle.fitjob.specs.Input.{held_of, Printed};
 
-use intake::{Input, Step};
+use intake::InputError;
 use std::io::Read;
+use std::ops::ControlFlow;
 
 // After a full space: whether the input ends there.
-fn read_past<R: Read>(from: &mut R, room: usize) -> Input
+fn read_past<R: Read>(from: &mut R, room: usize) -> Result<usize, InputError>
     ensures { held_of result ≤ room }
 {
     let mut one = [0u8; 1];
     let got = intake::read_some(from, &mut one);
     match intake::after_read(room, room, got) {
-        Step::More(_) => Input::TooLong,
-        Step::Ended(input) => input,
+        ControlFlow::Continue(_) => Err(InputError::TooLong),
+        ControlFlow::Break(input) => input,
     }
 }
 
 // Reads until the input ends, fails, or goes on behind a full space.
-fn read_input<R: Read>(from: &mut R, space: &mut [u8]) -> Input
+fn read_input<R: Read>(from: &mut R, space: &mut [u8]) -> Result<usize, InputError>
     ensures { held_of result ≤ length space.old }
 {
     let end = space.len();
@@ -28,22 +29,27 @@ fn read_input<R: Read>(from: &mut R, space: &mut [u8]) -> Input
     while at < end {
         let got = intake::read_some(from, &mut space[at..end]);
         match intake::after_read(end, at, got) {
-            Step::More(n) => at = n,
-            Step::Ended(input) => return input,
+            ControlFlow::Continue(n) => at = n,
+            ControlFlow::Break(input) => return input,
         }
     }
     read_past(from, end)
 }
 
 // What is to be printed of an input: it stands in the front of out, and its length is told.
-fn answer(input: Input, space: &[u8], terms: &mut [f64], out: &mut [u8]) -> usize
+fn answer(
+    input: Result<usize, InputError>,
+    space: &[u8],
+    terms: &mut [f64],
+    out: &mut [u8],
+) -> usize
     requires { held_of input ≤ length space.now }
     ensures { Printed input space.now terms.old out.old result terms.new out.new }
 {
     match input {
-        Input::Failed => 0,
-        Input::TooLong => respond::respond_long(out),
-        Input::Held(n) => respond::respond(&space[0..n], terms, out),
+        Err(InputError::Failed) => 0,
+        Err(InputError::TooLong) => respond::respond_long(out),
+        Ok(n) => respond::respond(&space[0..n], terms, out),
     }
 }
 
@@ -55,13 +61,13 @@ fn put(bytes: &[u8]) {
 }
 
 // A line on standard error where the input could not be read.
-fn put_fault(input: Input) {
+fn put_fault(input: Result<usize, InputError>) {
     match input {
-        Input::Failed => {
+        Err(InputError::Failed) => {
             io::write_all(2, b"fitjob: standard input cannot be read\n");
         }
-        Input::TooLong => {}
-        Input::Held(_) => {}
+        Err(InputError::TooLong) => {}
+        Ok(_) => {}
     }
 }
 

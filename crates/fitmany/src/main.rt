@@ -7,12 +7,13 @@ ghost use Rattle.manytext.specs.Text.{response_room};
 ghost use Rattle.manytext.specs.Pieces.{PiecesFit};
 ghost use Rattle.fitmany.specs.Held.{held_of};
 
-use intake::{Input, Step};
+use intake::InputError;
 use manytext::Pieces;
 use std::io::Read;
+use std::ops::ControlFlow;
 
 // Reads until the input ends or fails, or the space is full: what stands behind it changes nothing (`manytext`'s law `room_enough`).
-fn read_input<R: Read>(from: &mut R, space: &mut [u8]) -> Input
+fn read_input<R: Read>(from: &mut R, space: &mut [u8]) -> Result<usize, InputError>
     ensures { held_of result ≤ length space.old }
 {
     let end = space.len();
@@ -20,11 +21,11 @@ fn read_input<R: Read>(from: &mut R, space: &mut [u8]) -> Input
     while at < end {
         let got = intake::read_some(from, &mut space[at..end]);
         match intake::after_read(end, at, got) {
-            Step::More(n) => at = n,
-            Step::Ended(input) => return input,
+            ControlFlow::Continue(n) => at = n,
+            ControlFlow::Break(input) => return input,
         }
     }
-    Input::Held(end)
+    Ok(end)
 }
 
 // Some bytes on standard output; where they cannot be written, a line on standard error says so.
@@ -41,13 +42,11 @@ fn put_pieces(pieces: Pieces, counts: &[u64], results: &[f64], out: &mut [u8])
     requires { (response_room ≤ length out.old) × PiecesFit pieces counts.now results.now }
 {
     let count = manytext::count_of(pieces);
-    let mut i = 0;
-    while i < count {
+    for i in 0..count {
         let n = manytext::put_piece(out, pieces, i, counts, results);
         if !put(&out[0..n]) {
             return;
         }
-        i += 1;
     }
 }
 
@@ -63,17 +62,17 @@ fn answer(input: &[u8])
 }
 
 // What was read; a line on standard error where it could not be. No read brings more bytes than it has room for.
-fn answer_held(input: Input, space: &[u8])
+fn answer_held(input: Result<usize, InputError>, space: &[u8])
     requires { (held_of input ≤ length space.now) × (length space.now ≤ input_room) }
 {
     match input {
-        Input::Failed => {
+        Err(InputError::Failed) => {
             io::write_all(2, b"fitmany: standard input cannot be read\n");
         }
-        Input::TooLong => {
+        Err(InputError::TooLong) => {
             io::write_all(2, b"fitmany: standard input cannot be read\n");
         }
-        Input::Held(n) => answer(&space[0..n]),
+        Ok(n) => answer(&space[0..n]),
     }
 }
 

@@ -1,4 +1,5 @@
 -- A call that the table accepts is one that an inner fit may be asked for. Assumes nothing.
+use Rattle.std.specs.Prelude.{Ok}
 use mathlib.Core.Path.{◌≡◌, sym}
 use mathlib.Core.List.{List}
 use mathlib.Core.Logic.{inl, inr, ⊎_elim}
@@ -18,14 +19,13 @@ use Rattle.model.specs.Inputs.{inputs}
 use Rattle.table.specs.Facts.{AbsentOr}
 use Rattle.table.specs.Table.{table_of}
 use Rattle.table.specs.declared.verdicts.LentLengths.{LentLengths}
-use Rattle.table.specs.declared.verdicts.Verdict.TheVariants.{Accepted}
 use Rattle.table.proofs.Accepting.{accepted_sound}
 
 optional : (n : ℕ) (l : List Float) → AbsentOr n l → Optional n l
 optional n l o = ⊎_elim (λ (a : length l ≡ 0). inl a) (λ (a : length l ≡ n). inr (omega (arith, a))) o
 
 module _ (t : Settings) (s : Shape) (theta y weights offset x : List Float) (starts columns : List ℕ) (values : List Float) (L : LentLengths) (f : CarriedFamily) (l : CarriedLink)
-    (e : table_of 1 t s (inputs theta y weights offset x starts columns values) L ≡ Accepted f l) where
+    (e : table_of 1 t s (inputs theta y weights offset x starts columns values) L ≡ Ok (f, l)) where
   pub accepted_asked : (r m w : List Float) → length r ≡ L.rows → length m ≡ L.matrices → length w ≡ L.terms → Asked t.n t.p t.rows s theta starts columns values offset x y r m w
   accepted_asked r m w er em ew =
       let a = accepted_sound 1 t s (inputs theta y weights offset x starts columns values) L f l e in

@@ -1,4 +1,5 @@
 -- What the table's verdict gives: of an accepted call the facts that the fit asks for, and what the call is by each verdict. Assumes nothing.
+use Rattle.std.specs.Prelude.{Result, Ok, Err}
 use mathlib.Core.Path.{◌≡◌, refl, sym, ◌∙◌}
 use mathlib.Core.List.{List}
 use Prim.Native.Nat.{ℕ, ◌*◌, ◌≤◌}
@@ -16,8 +17,6 @@ use Rattle.iteration.specs.Iterated.{Asked}
 use Rattle.results.specs.Room.{Writable}
 use Rattle.model.specs.Inputs.{Inputs, inputs}
 use Rattle.table.specs.Table.{table_of}
-use Rattle.table.specs.declared.verdicts.Verdict.{Verdict}
-use Rattle.table.specs.declared.verdicts.Verdict.TheVariants.{Accepted, Refused}
 use Rattle.table.proofs.Accepting.{accepted_sound}
 use Rattle.call.specs.Fit.{fit_of}
 use Rattle.call.specs.Call.{Lent, lent, lengths_of, left, call_given, call_means, fit_left, call_by, call_of}
@@ -31,8 +30,8 @@ module _ (t : Settings) (s : Shape) (theta y weights offset x : List Float) (sta
   L = lent beta se z u b mu eta residual v r m w
 
   -- ---- an accepted call
-  module _ (verdict : Verdict) (f : CarriedFamily) (l : CarriedLink) (told : verdict ≡ table_of 1 t s I (lengths_of L)) (given : verdict ≡ Accepted f l) where
-    table : table_of 1 t s I (lengths_of L) ≡ Accepted f l
+  module _ (verdict : Result (CarriedFamily × CarriedLink) Refusal) (f : CarriedFamily) (l : CarriedLink) (told : verdict ≡ table_of 1 t s I (lengths_of L)) (given : verdict ≡ Ok (f, l)) where
+    table : table_of 1 t s I (lengths_of L) ≡ Ok (f, l)
     table = sym told ∙ given
 
     pub call_asked : Asked t.n t.p t.rows s theta starts columns values offset x y r m w
@@ -65,8 +64,8 @@ module _ (t : Settings) (s : Shape) (theta y weights offset x : List Float) (sta
     call_fitted k answer L' ek e = rw table (rw ek at e)
 
   -- ---- a refusal
-  pub call_refused : (verdict : Verdict) (refusal : Refusal) (answer : Answer) → verdict ≡ table_of 1 t s I (lengths_of L) → verdict ≡ Refused refusal → answer ≡ refused_answer refusal → left answer L ≡ call_of t s I L
+  pub call_refused : (verdict : Result (CarriedFamily × CarriedLink) Refusal) (refusal : Refusal) (answer : Answer) → verdict ≡ table_of 1 t s I (lengths_of L) → verdict ≡ Err refusal → answer ≡ refused_answer refusal → left answer L ≡ call_of t s I L
   unfolding call_of call_by
   call_refused verdict refusal answer told given e =
-      let table : table_of 1 t s I (lengths_of L) ≡ Refused refusal = sym told ∙ given in
+      let table : table_of 1 t s I (lengths_of L) ≡ Err refusal = sym told ∙ given in
       rw (table, e) refl

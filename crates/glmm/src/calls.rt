@@ -1,24 +1,19 @@
 // One call of the fit: the table of refusals, then the fit of an accepted call.
 ghost use Rattle.std.specs.Prelude.{◌≡◌};
-ghost use Rattle.model.specs.Inputs.{inputs};
+ghost use Rattle.model.specs.Inputs.{inputs_in};
 ghost use Rattle.call.specs.Call.{lent, left, call_of};
 
 use crate::accepted::fit_accepted;
-use model::{Answer, Settings, Shape};
-use table::{LentLengths, Verdict, verdict_of};
+use model::{Answer, Inputs, Settings, Shape};
+use rule::{Design, Given};
+use stored::Sparse;
+use table::{LentLengths, verdict_of};
 
 // Nothing is asked of the arguments: what cannot be fitted is refused, and then every slice stays as it is.
 pub fn fit(
     settings: Settings,
     shape: Shape,
-    theta: &[f64],
-    y: &[f64],
-    weights: &[f64],
-    offset: &[f64],
-    x: &[f64],
-    starts: &[usize],
-    columns: &[usize],
-    values: &[f64],
+    lists: &Inputs<'_>,
     beta: &mut [f64],
     se: &mut [f64],
     z: &mut [f64],
@@ -36,8 +31,7 @@ pub fn fit(
         (lent beta.new se.new z.new u.new b.new mu.new eta.new residual.new
         v.new rows.new matrices.new terms.new)
         ≡ call_of settings shape
-        (inputs theta.now y.now weights.now offset.now x.now starts.now columns.now
-        values.now)
+        (inputs_in lists.now)
         (lent beta.old se.old z.old u.old b.old mu.old eta.old
         residual.old v.old rows.old matrices.old terms.old) }
 {
@@ -55,33 +49,37 @@ pub fn fit(
         matrices: matrices.len(),
         terms: terms.len(),
     };
-    let verdict = verdict_of(
-        1, settings, shape, theta, y, weights, offset, x, starts, columns, values, lengths,
-    );
+    let verdict = verdict_of(1, settings, shape, lists, lengths);
     match verdict {
-        Verdict::Accepted(f, l) => {
-            let given = settings.limit;
-            let link = settings.link;
-            let start = settings.start;
-            let limit = model::limit_of(given, link);
+        Ok((family, link)) => {
+            let zt = Sparse {
+                starts: lists.starts,
+                columns: lists.columns,
+                values: lists.values,
+            };
+            let design = Design {
+                n: settings.n,
+                p: settings.p,
+                q: settings.rows,
+                shape,
+                theta: lists.theta,
+                offset: lists.offset,
+                x: lists.x,
+                zt,
+            };
+            let given = Given {
+                family,
+                link,
+                y: lists.y,
+                weights: lists.weights,
+                design,
+            };
+            let limit = model::limit_of(settings.limit, settings.link);
             fit_accepted(
-                f,
-                l,
+                &given,
                 limit,
                 settings.n_agq,
-                start,
-                shape,
-                settings.n,
-                settings.p,
-                settings.rows,
-                theta,
-                y,
-                weights,
-                offset,
-                x,
-                starts,
-                columns,
-                values,
+                settings.start,
                 beta,
                 se,
                 z,
@@ -96,6 +94,6 @@ pub fn fit(
                 terms,
             )
         }
-        Verdict::Refused(refusal) => Answer::refused(refusal),
+        Err(refusal) => Answer::refused(refusal),
     }
 }

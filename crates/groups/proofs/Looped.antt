@@ -1,4 +1,5 @@
 -- The groups' loop: what the groups before g told is points before what the rule says of the rest. Assumes nothing.
+use Rattle.std.specs.Prelude.{Ok, Err}
 use mathlib.Core.Path.{◌≡◌, ap, ◌∙◌}
 use mathlib.Core.List.{List}
 use mathlib.Core.Logic.{⊎_elim}
@@ -8,7 +9,6 @@ use native.Mathlib.Omega.{arith}
 use lib.Ieee.{Float, neg}
 use borrow.Author.Tests.{eq-eqb, ne_eqb}
 use Rattle.base.specs.Number.{◌⊕◌, ◌⊗◌, two_f, zero_f}
-use Rattle.base.specs.List.{at}
 use Rattle.base.specs.Sparse.{Sparse}
 use Rattle.base.proofs.Sums.{lt_or_ge}
 use Rattle.base.proofs.Fills.{row_fits}
@@ -24,12 +24,10 @@ use Rattle.quadrature.proofs.Chosen.{size_to}
 use Rattle.rule.specs.Given.{Given}
 use Rattle.rule.specs.Stop.{Mode}
 use Rattle.agq_rule.specs.Steps.{Integrated, points_before, group_by, with_sum, groups_from}
-use Rattle.agq_rule.specs.declared.answers.Integral.TheVariants.{Deviance, Declined}
 use Rattle.sums.specs.Stands.{Stands, given_with}
 use Rattle.sums.specs.Summed.{carry, integrated_of, StepFrame, GroupLeft, StepLeft}
 use Rattle.sums.specs.Rules.{one_rule}
 use Rattle.groups.specs.Rules.{Grouped, several_rule, group_rule, product_rule}
-use Rattle.sums.specs.declared.answers.Summed.TheVariants.{LogSum, NoSum}
 use Rattle.sums.specs.declared.answers.GroupSum.{GroupSum}
 use Rattle.sums.proofs.Framed.{frame_none, frame_trans, stands_kept}
 use Rattle.sums.proofs.Told.{points_add, no_points, step_told}
@@ -111,15 +109,15 @@ module _ (family : CarriedFamily) (link : CarriedLink) (shape : Shape) (theta : 
     pub room_left : (i : ℕ) → i ≤ size_of o ^ k → g < groups → points + i ≤ 7000
     room_left i h l = omega (arith, going.few, row_fits g groups (size_of o ^ k) l, all_few)
 
-    pub ends : (fit : Float) → groups ≤ g → StepLeft G (product_rule phi o k groups) n p q fit r r' m m' t t' (record { answer = Deviance (fit ⊕ total) o; points = points })
+    pub ends : (fit : Float) → groups ≤ g → StepLeft G (product_rule phi o k groups) n p q fit r r' m m' t t' (record { answer = Ok ((fit ⊕ total), o); points = points })
     unfolding groups_from
     ends fit h =
         let e : groups - g ≡ 0 = omega (arith, going.reached) in
         let z : g ≡ groups = omega (arith, going.reached) in
         record {
           told = λ x M s f.
-              (rw e at (going.told x M s)) ∙ step_told points (Deviance (M.fit ⊕ total) o)
-              ∙ ap (λ (z : Float). integrated_of (record { answer = Deviance (z ⊕ total) o; points = points })) f;
+              (rw e at (going.told x M s)) ∙ step_told points (Ok ((M.fit ⊕ total), o))
+              ∙ ap (λ (z : Float). integrated_of (record { answer = Ok ((z ⊕ total), o); points = points })) f;
           few = omega (arith, all_few, rw z at going.few);
           frame = going.frame;
         }
@@ -139,7 +137,7 @@ module _ (family : CarriedFamily) (link : CarriedLink) (shape : Shape) (theta : 
           ∙ ap (points_before points) (left.told x M (still x M s) (next x M))
           ∙ points_add points a.points (carry a.sum (next x M))
 
-      pub goes_on : (s : Float) → a.sum ≡ LogSum s → Going r'' m'' t'' (total ⊕ (neg two_f ⊗ s)) (points + a.points) (g + 1)
+      pub goes_on : (s : Float) → a.sum ≡ Ok s → Going r'' m'' t'' (total ⊕ (neg two_f ⊗ s)) (points + a.points) (g + 1)
       unfolding carry with_sum
       goes_on s e =
           record {
@@ -149,11 +147,11 @@ module _ (family : CarriedFamily) (link : CarriedLink) (shape : Shape) (theta : 
             told = λ x M st. rw e at (turn x M st);
           }
 
-      pub declines : (fit : Float) (d : Decline) → a.sum ≡ NoSum d → StepLeft G (product_rule phi o k groups) n p q fit r r'' m m'' t t'' (record { answer = Declined d; points = points + a.points })
+      pub declines : (fit : Float) (d : Decline) → a.sum ≡ Err d → StepLeft G (product_rule phi o k groups) n p q fit r r'' m m'' t t'' (record { answer = Err d; points = points + a.points })
       unfolding carry
       declines fit d e =
           record {
-            told = λ x M st f. (rw e at (turn x M st)) ∙ step_told (points + a.points) (Declined d);
+            told = λ x M st f. (rw e at (turn x M st)) ∙ step_told (points + a.points) (Err d);
             few = room_left a.points left.few l;
             frame = frame_trans going.frame left.frame;
           }

@@ -1,4 +1,6 @@
 -- The log terms of a group with several effects, as they stand at the front of the terms, are the rule's. Assumes nothing.
+use Rattle.std.specs.Prelude.{Result, Ok, Err, ⊤}
+use Prim.{tt}
 use mathlib.Core.Path.{◌≡◌, refl, ap, ◌∙◌}
 use mathlib.Core.List.{List}
 use mathlib.Core.Logic.{inl}
@@ -30,15 +32,12 @@ use Rattle.agq_rule.specs.Term.{inverse_phi, group_term}
 use Rattle.agq_rule.specs.Steps.{Integrated, after_scale, several_group}
 use Rattle.points.specs.Gain.{mark_at}
 use Rattle.scale.specs.Tells.{entry_from, tell_scale, ScaleLeaves}
-use Rattle.scale.specs.declared.scales.Scaling.{Scaling}
-use Rattle.scale.specs.declared.scales.Scaling.TheVariants.{Scaled, Unscaled}
 use Rattle.scale.proofs.SectionCopied.{square_within}
 use Rattle.agq.specs.Gained.{gain_in}
 use Rattle.several.specs.Several.{group_term_in, TermsIn}
 use Rattle.several.proofs.SeveralRuled.{group_ruled}
 use Rattle.sums.specs.Stands.{Stands, given_with}
 use Rattle.sums.specs.Summed.{group_sum_of, StepFrame, SumLeft, GroupLeft, tells_then}
-use Rattle.sums.specs.declared.answers.Summed.TheVariants.{NoSum}
 use Rattle.sums.specs.declared.answers.GroupSum.{GroupSum}
 use Rattle.sums.proofs.Framed.{frame_scaled, frame_trans, frame_terms, stands_kept}
 use Rattle.sums.proofs.Fronts.{copied_only, copied_u, copied_trial, marked_row, marked_fixed, marked_devs, sum_made}
@@ -47,13 +46,13 @@ use Rattle.sums.proofs.Told.{terms_told, declined_told}
 use Rattle.groups.specs.Rules.{several_terms, several_rule}
 
 -- ---- what the scale of a block tells
-module _ (G : Given) (M : Mode) (phi : Float) (o : Order) (s k : ℕ) (c : Scaling) (L : List Float) (rest : Float → Integrated)
+module _ (G : Given) (M : Mode) (phi : Float) (o : Order) (s k : ℕ) (c : Result ⊤ Decline) (L : List Float) (rest : Float → Integrated)
     (e : tell_scale c L ≡ block_scale k (section_of (q_of G.design) M.system s k)) where
-  pub several_declined : (d : Decline) → c ≡ Unscaled d → several_group G M phi o s k rest ≡ tells_then (record { sum = NoSum d; points = 0 }) rest
+  pub several_declined : (d : Decline) → c ≡ Err d → several_group G M phi o s k rest ≡ tells_then (record { sum = Err d; points = 0 }) rest
   unfolding several_group after_scale tell_scale
   several_declined d f = rw (← e, f) (declined_told d rest)
 
-  pub several_told : (A : GroupSum) → c ≡ Scaled → A ≡ group_sum_of (build (group_term G M phi o s k L) (size_of o ^ k)) → several_group G M phi o s k rest ≡ tells_then A rest
+  pub several_told : (A : GroupSum) → c ≡ (Ok tt) → A ≡ group_sum_of (build (group_term G M phi o s k L) (size_of o ^ k)) → several_group G M phi o s k rest ≡ tells_then A rest
   unfolding several_group after_scale tell_scale
   several_told A f h = rw (← e, f, h) (terms_told (build (group_term G M phi o s k L) (size_of o ^ k)) rest)
 
@@ -117,18 +116,18 @@ module _ (family : CarriedFamily) (link : CarriedLink) (shape : Shape) (theta : 
         (frame_terms n p q mark xbeta trial count _ r r1 r2 m m1 m2 t t' em ex et few wrote.only made.in_r (rw copied (copied_only n p q u trial r m t lent eu et)) made.in_m made.terms)
 
   -- ---- a group, from the scale of its block
-  module _ (s k : ℕ) (r m m1 t t1 : List Float) (c : Scaling) (eq : q ≡ effects_of shape) (lent : WorkRoom n p q r m t) (h : s + k ≤ q) (scale : ScaleLeaves q s k m m1 t t1 c) where
+  module _ (s k : ℕ) (r m m1 t t1 : List Float) (c : Result ⊤ Decline) (eq : q ≡ effects_of shape) (lent : WorkRoom n p q r m t) (h : s + k ≤ q) (scale : ScaleLeaves q s k m m1 t t1 c) where
     told_scale : (x : List Float) (M : Mode) → Stands (G x) M r m → tell_scale c (row (inverse_place q) (k * k) m1) ≡ block_scale k (section_of (effects_of shape) M.system s k)
     told_scale x M st = scale.scale ∙ rw (eq, st.system) refl
 
     frame_first : StepFrame n p q r r m m1 t t1
     frame_first = frame_scaled n p q s k r m m1 t t1 c lent.sizes h scale
 
-    pub several_unscaled : (d : Decline) → c ≡ Unscaled d → GroupLeft G (several_rule phi o s k) n p q (size_of o ^ k) r r m m1 t t1 (record { sum = NoSum d; points = 0 })
+    pub several_unscaled : (d : Decline) → c ≡ Err d → GroupLeft G (several_rule phi o s k) n p q (size_of o ^ k) r r m m1 t t1 (record { sum = Err d; points = 0 })
     several_unscaled d e =
         record { told = λ x M st rest. several_declined (G x) M phi o s k c (row (inverse_place q) (k * k) m1) rest (told_scale x M st) d e; few = omega arith; frame = frame_first }
 
-    pub several_scaled : (r2 m2 t2 : List Float) (a : GroupSum) → c ≡ Scaled → SumLeft G (several_terms phi o s k (row (inverse_place q) (k * k) m1)) n p q (size_of o ^ k) r r2 m1 m2 t1 t2 a
+    pub several_scaled : (r2 m2 t2 : List Float) (a : GroupSum) → c ≡ (Ok tt) → SumLeft G (several_terms phi o s k (row (inverse_place q) (k * k) m1)) n p q (size_of o ^ k) r r2 m1 m2 t1 t2 a
         → GroupLeft G (several_rule phi o s k) n p q (size_of o ^ k) r r2 m m2 t t2 a
     several_scaled r2 m2 t2 a e left =
         record {

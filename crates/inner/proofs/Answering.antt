@@ -1,4 +1,5 @@
 -- The run's ending decides the answer: without a mode it is the run's, with one the quadrature's answer is added and the rows of the results stay. Assumes nothing.
+use Rattle.std.specs.Prelude.{Result, Ok, Err}
 use mathlib.Core.Path.{◌≡◌, refl, sym, ap, ◌∙◌}
 use mathlib.Core.Bool.{true}
 use mathlib.Core.List.{List, ◌++◌}
@@ -32,14 +33,15 @@ use Rattle.stages.specs.Held.{eta_row}
 use Rattle.iteration.specs.Iterated.{Asked}
 use Rattle.iteration.proofs.IterationMade.{eta_before}
 use Rattle.pirls.specs.Inner.{HoldsResults, HoldsMode, EndingTold, InnerLeft}
-use Rattle.pirls.specs.declared.run.Ended.TheVariants.{Stopped, Failed}
 use Rattle.pirls.specs.declared.run.InnerFit.{InnerFit}
+use Rattle.pirls.specs.declared.run.Stopped.{Stopped}
 use Rattle.agq_rule.specs.Steps.{quadrature_of}
-use Rattle.agq_rule.specs.Inner.{with_mode, without_mode, deviance_by, with_points, after_run, inner_with, inner_of}
+use Rattle.agq_rule.specs.Inner.{with_mode, without_mode, deviance_by, order_by, why_by, with_points, after_run, inner_with, inner_of}
 use Rattle.sums.specs.Summed.{integrated_of}
 use Rattle.inner.specs.Read.{Reads, QuadratureAt}
 use Rattle.inner.specs.Answered.{failed_answer, stopped_answer, HoldsAnswer, AnswerLeft}
 use Rattle.sums.specs.declared.answers.Quadrature.{Quadrature}
+use Rattle.inner.specs.declared.answers.Answered.{Answered}
 use Rattle.inner.specs.declared.answers.InnerAnswer.{InnerAnswer}
 
 -- two changes within the first N places
@@ -84,41 +86,44 @@ module _ (G : Given) (wish : ℕ) (phi : Float) (L : ℕ) (mu r r1 m m1 t t1 : L
       }
 
   -- ---- without a mode
-  run_failed : (o : Ending) (e : End) → EndingTold o G r1 m1 fit → fit.end ≡ Failed e → o ≡ failed e
+  run_failed : (o : Ending) (e : End) → EndingTold o G r1 m1 fit → fit.outcome ≡ Err e → o ≡ failed e
   run_failed (failed e') e h d =
-      let i : Failed e' ≡ Failed e = sym (ap (λ (f : InnerFit). f.end) h) ∙ d in
+      let i : ◌≡◌ {A = Result Stopped End} (Err e') (Err e) = sym h ∙ d in
       let j : e' ≡ e = cc in
       ap failed j
   run_failed (stopped k) e h d =
-      let i : Stopped ≡ Failed e = sym h.end ∙ d in
+      let i : ◌≡◌ {A = Result Stopped End} (Ok h.0) (Err e) = sym h.1 ∙ d in
       absurd (let z : ◌≡◌ {A = ℕ} 0 1 = cc in omega arith)
 
   failed_is : (e : End) → (run_of G phi L mu).ending ≡ failed e → inner_of G wish phi L mu ≡ record { ending = without_mode e; items = (run_of G phi L mu).items }
   unfolding inner_of inner_with after_run
   failed_is e h = rw h refl
 
-  pub failed_left : (e : End) (a : InnerAnswer) → fit.end ≡ Failed e → a ≡ failed_answer e fit.account → AnswerLeft G wish phi L mu r r1 m m1 t t1 a
+  pub failed_left : (e : End) (a : InnerAnswer) → fit.outcome ≡ Err e → a ≡ failed_answer e fit.account → AnswerLeft G wish phi L mu r r1 m m1 t t1 a
   failed_left e a d ha =
       let i = failed_is e (run_failed (run_of G phi L mu).ending e x.told d) in
       rw ha
       (record { told = rw i refl; counted = rw i x.counted; rows_only = x.rows_only; matrices_only = x.matrices_only; terms_only = x.terms_only })
 
   -- ---- with one
-  record Held : Type 0 where
+  record Held (s : Stopped) : Type 0 where
     mode : Mode
     ending : (run_of G phi L mu).ending ≡ stopped mode
-    holds : HoldsMode G mode r1 m1 fit
+    holds : HoldsMode G mode r1 m1 s
 
-  run_stopped : (o : Ending) → (run_of G phi L mu).ending ≡ o → EndingTold o G r1 m1 fit → fit.end ≡ Stopped → Held
-  run_stopped (stopped k) e h d = record { mode = k; ending = e; holds = h }
-  run_stopped (failed f) e h d =
-      let i : Failed f ≡ Stopped = sym (ap (λ (f : InnerFit). f.end) h) ∙ d in
+  run_stopped : (s : Stopped) (o : Ending) → (run_of G phi L mu).ending ≡ o → EndingTold o G r1 m1 fit → fit.outcome ≡ Ok s → Held s
+  run_stopped s (stopped k) e h d =
+      let i : ◌≡◌ {A = Result Stopped End} (Ok h.0) (Ok s) = sym h.1 ∙ d in
+      let j : h.0 ≡ s = cc in
+      record { mode = k; ending = e; holds = rw j at h.2 }
+  run_stopped s (failed f) e h d =
+      let i : ◌≡◌ {A = Result Stopped End} (Err f) (Ok s) = sym h ∙ d in
       absurd (let z : ◌≡◌ {A = ℕ} 0 1 = cc in omega arith)
 
-  reads : (k : Mode) → HoldsMode G k r1 m1 fit → Reads G k fit.fit r1 m1
-  reads k h = record { fit_term_lem = sym h.fit_term_lem; deviances = h.deviances; system = h.system; beta = h.results.beta; u = h.results.u }
+  reads : (s : Stopped) (k : Mode) → HoldsMode G k r1 m1 s → Reads G k s.fit r1 m1
+  reads s k h = record { fit_term_lem = sym h.fit_term_lem; deviances = h.deviances; system = h.system; beta = h.results.beta; u = h.results.u }
 
-  module _ (lent : WorkRoom n p q r1 m1 t1) (r2 m2 t2 : List Float) (a : Quadrature) (s : QuadratureAt G wish phi fit.fit r1 r2 m1 m2 t1 t2 a) where
+  module _ (lent : WorkRoom n p q r1 m1 t1) (r2 m2 t2 : List Float) (st : Stopped) (a : Quadrature) (s : QuadratureAt G wish phi st.fit r1 r2 m1 m2 t1 t2 a) where
     laid : MatricesLaid p q
     laid = (laid_out lent.sizes).matrices
 
@@ -130,30 +135,40 @@ module _ (G : Given) (wish : ℕ) (phi : Float) (L : ℕ) (mu r r1 m m1 t t1 : L
     matrix_kept : (c w : ℕ) → Apart c w (inverse_place q) (q * q) → Apart c w (trial_u_place p q) (q + q + q) → c + w ≤ matrices_length p q → row c w m2 ≡ row c w m1
     matrix_kept c w h h' l = two_row c w (inverse_place q) (q * q) (trial_u_place p q) (q + q + q) h h' (omega (arith, lent.matrices_long)) s.matrices_only
 
-    module _ (k : Mode) (e : (run_of G phi L mu).ending ≡ stopped k) (h : HoldsMode G k r1 m1 fit) where
+    module _ (k : Mode) (e : (run_of G phi L mu).ending ≡ stopped k) (h : HoldsMode G k r1 m1 st) where
       integral : quadrature_of G wish k phi ≡ integrated_of a
-      integral = s.told k (reads k h)
+      integral = s.told k (reads st k h)
 
       inner_is : inner_of G wish phi L mu ≡ record { ending = with_mode k a.answer; items = (run_of G phi L mu).items ++ replicate a.points a_point }
       unfolding inner_of inner_with after_run with_points integrated_of
       inner_is = rw (e, integral) refl
 
-      results_kept : HoldsResults G k fit.in_second r2 m2
+      results_kept : HoldsResults G k st.in_second r2 m2
       results_kept =
           let d = h.results in
           record {
             place = d.place;
-            eta = row_kept (eta_row n fit.in_second) (omega (arith, eta_before n fit.in_second)) ∙ d.eta;
+            eta = row_kept (eta_row n st.in_second) (omega (arith, eta_before n st.in_second)) ∙ d.eta;
             mu = row_kept (mu_row n) (omega arith) ∙ d.mu;
             inverse = matrix_kept (root_inverse_place p q) (p * p) (inr (omega (arith, laid.inverse, laid.solved))) (inl (omega (arith, laid.root_inverse))) (omega (arith, laid.beta_end_lem)) ∙ d.inverse;
             beta = matrix_kept (beta_place p q) p (inr (omega arith)) (inr (omega arith)) (omega (arith, laid.beta_end_lem)) ∙ d.beta;
             u = matrix_kept (u_place p q) q (inr (omega arith)) (inl (omega arith)) (omega (arith, laid.beta_end_lem)) ∙ d.u;
           }
 
-      holds : HoldsAnswer G k a.answer r2 m2 (stopped_answer fit a)
+      abbrev answered : Answered
+      answered =
+          record {
+            iterations = st.iterations;
+            in_second = st.in_second;
+            deviance_sum = st.deviance_sum;
+            deviance = deviance_by a.answer st.laplace;
+            order = order_by a.answer;
+            why = why_by a.answer;
+          }
+
+      holds : HoldsAnswer G k a.answer r2 m2 answered
       holds =
           record {
-            end = refl;
             iterations = h.iterations;
             results = results_kept;
             sum = h.sum;
@@ -165,19 +180,19 @@ module _ (G : Given) (wish : ℕ) (phi : Float) (L : ℕ) (mu r r1 m m1 t t1 : L
       counted : fit.account ⊞ points_of a.points ≡ tally ((run_of G phi L mu).items ++ replicate a.points a_point)
       counted = sym (tally_append (run_of G phi L mu).items (replicate a.points a_point) ∙ rw (← x.counted, tally_points a.points) refl)
 
-      mode_left : (b : InnerAnswer) → b ≡ stopped_answer fit a → AnswerLeft G wish phi L mu r r2 m m2 t t2 b
+      mode_left : (b : InnerAnswer) → b ≡ stopped_answer st fit.account a → AnswerLeft G wish phi L mu r r2 m m2 t t2 b
       mode_left b hb =
           let lr : rows_length n ≤ length r1 = lent.rows_long in
           rw hb
           (record {
-            told = rw inner_is holds;
+            told = rw inner_is (answered, refl, holds);
             counted = rw inner_is counted;
             rows_only = only_trans x.rows_only (two_within (xbeta_row n) n (point_row n) (n + n) (rows_length n) (omega arith) (omega arith) s.rows_only);
             matrices_only = only_trans x.matrices_only (two_within (inverse_place q) (q * q) (trial_u_place p q) (q + q + q) (matrices_length p q) (omega (arith, laid.beta_end_lem)) (omega (arith, laid.beta_end_lem)) s.matrices_only);
             terms_only = only_trans x.terms_only s.terms_only;
           })
 
-    pub stopped_left : (b : InnerAnswer) → fit.end ≡ Stopped → b ≡ stopped_answer fit a → AnswerLeft G wish phi L mu r r2 m m2 t t2 b
+    pub stopped_left : (b : InnerAnswer) → fit.outcome ≡ Ok st → b ≡ stopped_answer st fit.account a → AnswerLeft G wish phi L mu r r2 m m2 t t2 b
     stopped_left b d hb =
-        let h : Held = run_stopped (run_of G phi L mu).ending refl x.told d in
+        let h : Held st = run_stopped st (run_of G phi L mu).ending refl x.told d in
         mode_left h.mode h.ending h.holds b hb

@@ -1,4 +1,5 @@
 -- With Xβ in its row the work slices hold a mode for a step, and what the step tells is what the rule says of the order that was chosen. Assumes nothing.
+use Rattle.std.specs.Prelude.{Ok, Err}
 use mathlib.Core.Path.{◌≡◌, refl, sym, ap, ◌∙◌}
 use mathlib.Core.Bool.{true, false}
 use mathlib.Core.List.{List}
@@ -26,14 +27,12 @@ use Rattle.linear.specs.Product.{x_beta_at}
 use Rattle.model.specs.Shape.{total_to, block_effects, effects_of}
 use Rattle.model.specs.declared.sizes.Shape.{Shape}
 use Rattle.quadrature.specs.Orders.{product_order, joint_order}
-use Rattle.quadrature.specs.declared.orders.Choice.TheVariants.{Use, Without}
 use Rattle.quadrature.specs.declared.orders.Decline.{Decline}
 use Rattle.quadrature.specs.declared.orders.Order.{Order}
 use Rattle.quadrature.proofs.OrderFacts.{product_within}
 use Rattle.rule.specs.Given.{Given, n_of, q_of}
 use Rattle.rule.specs.Stop.{Mode}
 use Rattle.agq_rule.specs.Steps.{Integrated, answers, product_with, product_step, joint_with, joint_step, step_by, quadrature_of}
-use Rattle.agq_rule.specs.declared.answers.Integral.TheVariants.{Declined}
 use Rattle.iteration.specs.Iterated.{Asked}
 use Rattle.sums.specs.Stands.{Roomy, given_with, Stands}
 use Rattle.sums.specs.Summed.{integrated_of, StepLeft}
@@ -47,7 +46,7 @@ pub roomy : {n p q : ℕ} {shape : Shape} {theta : List Float} {starts columns :
     → length r' ≡ length r → Roomy n p q shape theta starts columns values offset y r' m t
 roomy a e = record { ready = a.ready; lent = lent_kept a.lent e refl refl; offset_fits = a.offset_fits; y_long = a.y_long }
 
-pub grouped : (wish q groups k : ℕ) (o : Order) → groups * k ≡ q → product_order wish k ≡ Use o → Grouped q groups k o
+pub grouped : (wish q groups k : ℕ) (o : Order) → groups * k ≡ q → product_order wish k ≡ Ok o → Grouped q groups k o
 grouped wish q groups k o a e = record { all = a; capped = λ n. product_within wish k o n e }
 
 -- the effects of a single block are all
@@ -84,19 +83,19 @@ module _ (family : CarriedFamily) (link : CarriedLink) (shape : Shape) (theta : 
   G = given_with family link shape theta zt y weights offset n p x
 
   -- no step
-  declined_left : (said : Mode → Integrated) (d : Decline) → ((k : Mode) → said k ≡ answers (Declined d)) → (r m t : List Float) (a : Quadrature) → a ≡ declined_for d → QuadratureLeft G said fit r r m m t t a
+  declined_left : (said : Mode → Integrated) (d : Decline) → ((k : Mode) → said k ≡ answers (Err d)) → (r m t : List Float) (a : Quadrature) → a ≡ declined_for d → QuadratureLeft G said fit r r m m t t a
   unfolding answers integrated_of
   declined_left said d h r m t a e =
       rw e (record { told = λ k _. h k; few = omega arith; rows_only = two_none _ _ _ _ r; matrices_only = two_none _ _ _ _ m; terms_only = only_none 0 terms_length t })
 
-  pub product_declined : (groups k : ℕ) (d : Decline) → product_order wish k ≡ Without d → (r m t : List Float) (a : Quadrature) → a ≡ declined_for d → ProductAt G wish groups k phi fit r r m m t t a
+  pub product_declined : (groups k : ℕ) (d : Decline) → product_order wish k ≡ Err d → (r m t : List Float) (a : Quadrature) → a ≡ declined_for d → ProductAt G wish groups k phi fit r r m m t t a
   unfolding product_step product_with
   product_declined groups k d e r m t a ea = declined_left (λ M. product_step G wish M phi groups k) d (λ M. rw e refl) r m t a ea
 
-  pub joint_declined : (d : Decline) → q ≡ effects_of shape → joint_order wish q ≡ Without d → (r m t : List Float) (a : Quadrature) → a ≡ declined_for d → JointAt G wish phi fit r r m m t t a
+  pub joint_declined : (d : Decline) → q ≡ effects_of shape → joint_order wish q ≡ Err d → (r m t : List Float) (a : Quadrature) → a ≡ declined_for d → JointAt G wish phi fit r r m m t t a
   unfolding joint_step joint_with
   joint_declined d eq e r m t a ea =
-      let e' : joint_order wish (effects_of shape) ≡ Without d = rw eq at e in
+      let e' : joint_order wish (effects_of shape) ≡ Err d = rw eq at e in
       declined_left (λ M. joint_step G wish M phi) d (λ M. rw e' refl) r m t a ea
 
   -- a step, after Xβ
@@ -114,15 +113,15 @@ module _ (family : CarriedFamily) (link : CarriedLink) (shape : Shape) (theta : 
           terms_only = s.frame.terms_only;
         }
 
-    pub product_made : (groups k : ℕ) → product_order wish k ≡ Use o → StepLeft (given_with family link shape theta zt y weights offset n p) (product_rule phi o k groups) n p q fit r1 r2 m m2 t t2 a
+    pub product_made : (groups k : ℕ) → product_order wish k ≡ Ok o → StepLeft (given_with family link shape theta zt y weights offset n p) (product_rule phi o k groups) n p q fit r1 r2 m m2 t t2 a
         → ProductAt G wish groups k phi fit r r2 m m2 t t2 a
     unfolding product_step product_with
     product_made groups k e s = made_left (product_rule phi o k groups) (λ M. product_step G wish M phi groups k) (λ M. rw e refl) s
 
-    pub joint_made : joint_order wish q ≡ Use o → StepLeft (given_with family link shape theta zt y weights offset n p) (joint_rule phi o) n p q fit r1 r2 m m2 t t2 a → JointAt G wish phi fit r r2 m m2 t t2 a
+    pub joint_made : joint_order wish q ≡ Ok o → StepLeft (given_with family link shape theta zt y weights offset n p) (joint_rule phi o) n p q fit r1 r2 m m2 t t2 a → JointAt G wish phi fit r r2 m m2 t t2 a
     unfolding joint_step joint_with
     joint_made e s =
-        let e' : joint_order wish (effects_of shape) ≡ Use o = rw eq at e in
+        let e' : joint_order wish (effects_of shape) ≡ Ok o = rw eq at e in
         made_left (joint_rule phi o) (λ M. joint_step G wish M phi) (λ M. rw e' refl) s
 
   -- ---- which of the two

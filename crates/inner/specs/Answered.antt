@@ -1,6 +1,8 @@
 -- What the inner fit with its quadrature answers and leaves. Document 01, "The inner fit"; document 02, P5. Assumes nothing.
-use Rattle.std.specs.Prelude.{◌≡◌, List, false, ℕ, Float}
-use Rattle.base.specs.Number.{zero_f}
+use Rattle.quadrature.specs.declared.orders.Decline.{Decline}
+use Rattle.quadrature.specs.declared.orders.Order.{Order}
+use Rattle.std.specs.Prelude.{Result, Ok, Err}
+use Rattle.std.specs.Prelude.{◌≡◌, List, ℕ, Float}
 use Rattle.base.specs.Rows.{Only}
 use Rattle.layout.specs.WorkRows.{rows_length}
 use Rattle.layout.specs.WorkMatrices.{matrices_length}
@@ -12,24 +14,34 @@ use Rattle.model.specs.declared.ends.End.{End}
 use Rattle.rule.specs.Given.{Given, n_of, q_of}
 use Rattle.rule.specs.Stop.{Mode}
 use Rattle.pirls.specs.Inner.{HoldsResults}
-use Rattle.pirls.specs.declared.run.Ended.TheVariants.{Stopped, Failed}
-use Rattle.pirls.specs.declared.run.InnerFit.{InnerFit}
+use Rattle.pirls.specs.declared.run.Stopped.{Stopped}
 use Rattle.agq_rule.specs.Inner.{InnerEnd, with_mode, without_mode, deviance_by, order_by, why_by, inner_of}
-use Rattle.agq_rule.specs.declared.answers.Integral.{Integral}
 use Rattle.sums.specs.declared.answers.Quadrature.{Quadrature}
+use Rattle.inner.specs.declared.answers.Answered.{Answered}
 use Rattle.inner.specs.declared.answers.InnerAnswer.{InnerAnswer}
 
--- an inner fit without a result: its end and its account, and zero everywhere else
+-- an inner fit without a result: its end and its account
 abbrev pub failed_answer : End → Account → InnerAnswer
-failed_answer e a = record { end = Failed e; iterations = 0; in_second = false; deviance_sum = zero_f; deviance = zero_f; order = 0; why = 0; account = a }
+failed_answer e a = record { outcome = Err e; account = a }
 
 -- a fit that stopped, with what its quadrature answers: the points are counted, whatever became of them
-abbrev pub stopped_answer : InnerFit → Quadrature → InnerAnswer
-stopped_answer f a = record { end = Stopped; iterations = f.iterations; in_second = f.in_second; deviance_sum = f.deviance_sum; deviance = deviance_by a.answer f.laplace; order = order_by a.answer; why = why_by a.answer; account = f.account ⊞ points_of a.points }
+abbrev pub stopped_answer : Stopped → Account → Quadrature → InnerAnswer
+stopped_answer f w a =
+    record {
+      outcome =
+          Ok (record {
+            iterations = f.iterations;
+            in_second = f.in_second;
+            deviance_sum = f.deviance_sum;
+            deviance = deviance_by a.answer f.laplace;
+            order = order_by a.answer;
+            why = why_by a.answer;
+          });
+      account = w ⊞ points_of a.points;
+    }
 
 -- the answer holds the mode k with what the quadrature answered, i; the work slices hold what the results are made of
-pub record HoldsAnswer (G : Given) (k : Mode) (i : Integral) (rows matrices : List Float) (a : InnerAnswer) : Type 0 where
-  pub end : a.end ≡ Stopped
+pub record HoldsAnswer (G : Given) (k : Mode) (i : Result (Float × Order) Decline) (rows matrices : List Float) (a : Answered) : Type 0 where
   pub iterations : a.iterations ≡ k.iterations
   pub results : HoldsResults G k a.in_second rows matrices
   pub sum : a.deviance_sum ≡ k.dev_sum
@@ -39,8 +51,8 @@ pub record HoldsAnswer (G : Given) (k : Mode) (i : Integral) (rows matrices : Li
 
 -- the answer says how the inner fit ended
 abbrev pub AnswerTold : InnerEnd → Given → (rows matrices : List Float) → InnerAnswer → Type 0
-AnswerTold (with_mode k i) G r m a = HoldsAnswer G k i r m a
-AnswerTold (without_mode e) G r m a = a ≡ failed_answer e a.account
+AnswerTold (with_mode k i) G r m a = (s : Answered) × (a.outcome ≡ Ok s) × HoldsAnswer G k i r m s
+AnswerTold (without_mode e) G r m a = a.outcome ≡ Err e
 
 -- the answer is the rule's inner fit from the means mu, its account the tally of all items; nothing behind the named lengths has changed
 pub record AnswerLeft (G : Given) (wish : ℕ) (phi : Float) (L : ℕ) (mu r r' m m' t t' : List Float) (a : InnerAnswer) : Type 0 where

@@ -1,4 +1,5 @@
 -- What the quadrature at a mode reads of the work slices, and what it answers and leaves. Document 01, "The inner fit", on stopping. Assumes nothing.
+use Rattle.std.specs.Prelude.{Err}
 use Rattle.std.specs.Prelude.{◌≡◌, List, ℕ, ◌+◌, ◌*◌, ◌≤◌, Float}
 use Rattle.base.specs.Rows.{row, Only, OnlyTwo}
 use Rattle.layout.specs.WorkRows.{xbeta_row, deviance_row, point_row}
@@ -8,13 +9,12 @@ use Rattle.quadrature.specs.declared.orders.Decline.{Decline}
 use Rattle.rule.specs.Given.{Given, n_of, q_of}
 use Rattle.rule.specs.Stop.{Mode}
 use Rattle.agq_rule.specs.Steps.{Integrated, product_step, joint_step, quadrature_of}
-use Rattle.agq_rule.specs.declared.answers.Integral.TheVariants.{Declined}
 use Rattle.sums.specs.Summed.{integrated_of}
 use Rattle.sums.specs.declared.answers.Quadrature.{Quadrature}
 
 -- no step is made: why
 abbrev pub declined_for : Decline → Quadrature
-declined_for d = record { answer = Declined d; points = 0 }
+declined_for d = record { answer = Err d; points = 0 }
 
 -- `fit` is the fit term of the mode k, and the work slices hold its deviances, A, β and u
 pub record Reads (G : Given) (k : Mode) (fit : Float) (rows matrices : List Float) : Type 0 where

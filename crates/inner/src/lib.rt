@@ -5,6 +5,6 @@ mod answers;
 mod fits;
 mod quadratures;
 
-pub use answers::InnerAnswer;
+pub use answers::{Answered, InnerAnswer};
 pub use fits::inner_answer;
 pub use quadratures::quadrature_at;

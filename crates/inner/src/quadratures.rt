@@ -6,18 +6,15 @@ ghost use Rattle.linear.specs.Product.{x_beta_at};
 ghost use Rattle.layout.specs.WorkMatrices.{beta_place, matrices_length};
 ghost use Rattle.layout.specs.WorkRows.{xbeta_row, rows_length};
 ghost use Rattle.model.specs.Settings.{Sizes};
-ghost use Rattle.stored.specs.Stored.{sparse};
-ghost use Rattle.iteration.specs.Iterated.{Asked};
-ghost use Rattle.sums.specs.Stands.{given_with};
+ghost use Rattle.iteration.specs.Iterated.{AskedFor};
 ghost use Rattle.inner.specs.Read.{declined_for, ProductAt, JointAt, QuadratureAt};
+ghost use Rattle.rule.specs.Lent.{given_in};
 
-use agq_rule::Integral;
-use family::{CarriedFamily, CarriedLink};
 use groups::product_step;
 use joint::joint_step;
 use linear::x_beta;
-use model::Shape;
-use quadrature::{Choice, Decline, resolve_gh_order_joint, resolve_gh_order_product};
+use quadrature::{Decline, resolve_gh_order_joint, resolve_gh_order_product};
+use rule::Given;
 use sums::Quadrature;
 
 // No step is made.
@@ -25,7 +22,7 @@ fn declined(why: Decline) -> Quadrature
     ensures { result ≡ declined_for why }
 {
     Quadrature {
-        answer: Integral::Declined(why),
+        answer: Err(why),
         points: 0,
     }
 }
@@ -44,130 +41,79 @@ fn fixed_row(x: &[f64], n: usize, p: usize, q: usize, r: &mut [f64], m: &[f64])
 
 // One block of groups of k effects.
 fn product_at(
-    family: CarriedFamily,
-    link: CarriedLink,
+    given: &Given<'_>,
     wish: usize,
     groups: usize,
     k: usize,
-    shape: Shape,
-    theta: &[f64],
-    starts: &[usize],
-    columns: &[usize],
-    values: &[f64],
-    offset: &[f64],
-    x: &[f64],
-    y: &[f64],
-    weights: &[f64],
-    n: usize,
-    p: usize,
-    q: usize,
     phi: f64,
     fit: f64,
     r: &mut [f64],
     m: &mut [f64],
     t: &mut [f64],
 ) -> Quadrature
-    requires asked { Asked n p q shape theta.now starts.now columns.now values.now offset.now x.now y.now r.old m.old t.old }
-    requires k_value { groups * k ≡ q }
+    requires asked { AskedFor given.now r.old m.old t.old }
+    requires k_value { groups * k ≡ given.now.design.q }
     ensures { ProductAt
-        (given_with family link shape theta.now (sparse starts.now columns.now values.now) y.now
-        weights.now offset.now n p x.now) wish groups k phi fit r.old r.new m.old
+        (given_in given.now) wish groups k phi fit r.old r.new m.old
         m.new t.old t.new result }
 {
+    let design = &given.design;
     let choice = resolve_gh_order_product(wish, k);
     match choice {
-        Choice::Without(why) => declined(why),
-        Choice::Use(order) => {
-            fixed_row(x, n, p, q, r, m);
-            product_step(
-                family, link, shape, theta, starts, columns, values, y, weights, offset, n, p, q,
-                order, groups, k, phi, fit, r, m, t,
-            )
+        Err(why) => declined(why),
+        Ok(order) => {
+            fixed_row(design.x, design.n, design.p, design.q, r, m);
+            product_step(given, order, groups, k, phi, fit, r, m, t)
         }
     }
 }
 
 // Several blocks: all effects at once.
 fn joint_at(
-    family: CarriedFamily,
-    link: CarriedLink,
+    given: &Given<'_>,
     wish: usize,
-    shape: Shape,
-    theta: &[f64],
-    starts: &[usize],
-    columns: &[usize],
-    values: &[f64],
-    offset: &[f64],
-    x: &[f64],
-    y: &[f64],
-    weights: &[f64],
-    n: usize,
-    p: usize,
-    q: usize,
     phi: f64,
     fit: f64,
     r: &mut [f64],
     m: &mut [f64],
     t: &mut [f64],
 ) -> Quadrature
-    requires { Asked n p q shape theta.now starts.now columns.now values.now offset.now x.now y.now r.old m.old t.old }
+    requires { AskedFor given.now r.old m.old t.old }
     ensures { JointAt
-        (given_with family link shape theta.now (sparse starts.now columns.now values.now) y.now
-        weights.now offset.now n p x.now) wish phi fit r.old r.new m.old m.new
+        (given_in given.now) wish phi fit r.old r.new m.old m.new
         t.old t.new result }
 {
-    let choice = resolve_gh_order_joint(wish, q);
+    let design = &given.design;
+    let choice = resolve_gh_order_joint(wish, design.q);
     match choice {
-        Choice::Without(why) => declined(why),
-        Choice::Use(order) => {
-            fixed_row(x, n, p, q, r, m);
-            joint_step(
-                family, link, shape, theta, starts, columns, values, y, weights, offset, n, p, q,
-                order, phi, fit, r, m, t,
-            )
+        Err(why) => declined(why),
+        Ok(order) => {
+            fixed_row(design.x, design.n, design.p, design.q, r, m);
+            joint_step(given, order, phi, fit, r, m, t)
         }
     }
 }
 
 // The quadrature at the mode that the work slices hold, whose fit term is `fit`: the product rule for one block, the joint rule for several.
 pub fn quadrature_at(
-    family: CarriedFamily,
-    link: CarriedLink,
+    given: &Given<'_>,
     wish: usize,
-    shape: Shape,
-    theta: &[f64],
-    starts: &[usize],
-    columns: &[usize],
-    values: &[f64],
-    offset: &[f64],
-    x: &[f64],
-    y: &[f64],
-    weights: &[f64],
-    n: usize,
-    p: usize,
-    q: usize,
     phi: f64,
     fit: f64,
     r: &mut [f64],
     m: &mut [f64],
     t: &mut [f64],
 ) -> Quadrature
-    requires { Asked n p q shape theta.now starts.now columns.now values.now offset.now x.now y.now r.old m.old t.old }
+    requires { AskedFor given.now r.old m.old t.old }
     ensures { QuadratureAt
-        (given_with family link shape theta.now (sparse starts.now columns.now values.now) y.now
-        weights.now offset.now n p x.now) wish phi fit r.old r.new m.old m.new
+        (given_in given.now) wish phi fit r.old r.new m.old m.new
         t.old t.new result }
 {
-    if shape.count == 1 {
-        let groups = shape.m[0];
-        let k = shape.k[0];
-        return product_at(
-            family, link, wish, groups, k, shape, theta, starts, columns, values, offset, x, y,
-            weights, n, p, q, phi, fit, r, m, t,
-        );
+    let design = &given.design;
+    if design.shape.count == 1 {
+        let groups = design.shape.m[0];
+        let k = design.shape.k[0];
+        return product_at(given, wish, groups, k, phi, fit, r, m, t);
     }
-    joint_at(
-        family, link, wish, shape, theta, starts, columns, values, offset, x, y, weights, n, p, q,
-        phi, fit, r, m, t,
-    )
+    joint_at(given, wish, phi, fit, r, m, t)
 }

@@ -1,64 +1,47 @@
 // Reading an input of unknown length into a space: what one read leads to.
 #![tactic(auto)]
 
-ghost use Rattle.std.specs.Prelude.{◌≡◌, pos, ◌≤ℤ◌, length};
+ghost use Rattle.std.specs.Prelude.{◌≡◌, length};
 ghost use Rattle.intake.specs.Intake.{after_bytes, after_read, Brought};
 
 use std::io::Read;
+use std::ops::ControlFlow;
 
-// What an input came to: it ended behind so many bytes, it goes on behind a full space, or it could not be read.
-#[derive(Clone, Copy)]
-pub enum Input {
-    Held(usize),
+// Why an input is not held whole: it goes on behind a full space, or it could not be read.
+#[derive(Clone, Copy, Debug, PartialEq, Eq)]
+pub enum InputError {
     TooLong,
     Failed,
 }
 
 // What one read leads to: so many bytes are there and the input may go on, or reading has ended.
-#[derive(Clone, Copy)]
-pub enum Step {
-    More(usize),
-    Ended(Input),
-}
-
-// A count that is not negative, as a number of bytes.
-fn bytes_of(got: isize) -> usize
-    requires { pos 0 ≤ℤ got }
-    ensures { pos result ≡ got }
-{
-    got as usize
-}
+pub type Step = ControlFlow<Result<usize, InputError>, usize>;
 
 // n bytes more, `held` being there in a space of `room`.
 fn after_bytes(room: usize, held: usize, n: usize) -> Step
     ensures { result ≡ after_bytes room held n }
 {
     if n == 0 {
-        return Step::Ended(Input::Held(held));
+        return ControlFlow::Break(Ok(held));
     }
-    if room < held {
-        return Step::Ended(Input::TooLong);
+    if room < held || room - held < n {
+        return ControlFlow::Break(Err(InputError::TooLong));
     }
-    let free = room - held;
-    if free < n {
-        return Step::Ended(Input::TooLong);
-    }
-    let all = held + n;
-    Step::More(all)
+    ControlFlow::Continue(held + n)
 }
 
 // What a read answered, `held` bytes being there in a space of `room`.
 pub fn after_read(room: usize, held: usize, got: isize) -> Step
     ensures { result ≡ after_read room held got }
 {
-    if got < 0 {
-        return Step::Ended(Input::Failed);
+    match usize::try_from(got) {
+        Ok(n) => after_bytes(room, held, n),
+        Err(_) => ControlFlow::Break(Err(InputError::Failed)),
     }
-    let n = bytes_of(got);
-    after_bytes(room, held, n)
 }
 
 // One read into a space, as `after_read` takes its answer: how many bytes it brought, or -1 where it failed.
+// The answer is the operating system's and not a Result: `Brought` says which number stands for a failure, and the edit failed_read_as_minus_two tries another.
 pub fn read_some<R: Read>(from: &mut R, space: &mut [u8]) -> isize
     ensures { Brought (length space.old) result }
 {

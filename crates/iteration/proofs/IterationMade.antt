@@ -1,4 +1,6 @@
 -- An iteration from its three parts, in the rule's words. Assumes nothing.
+use Rattle.std.specs.Prelude.{Result, Ok, Err, ⊤}
+use Prim.{tt}
 use mathlib.Core.Path.{◌≡◌, refl, sym, ap, ◌∙◌}
 use mathlib.Core.List.{List}
 use mathlib.Core.Bool.{Bool, true, false, not}
@@ -31,14 +33,10 @@ use Rattle.stages.specs.Held.{eta_row}
 use Rattle.stages.specs.Weighed.{Weighed, Weighs}
 use Rattle.tries.specs.Told.{trial_in, Brief, found, none, briefly, TriesDone}
 use Rattle.tries.proofs.Counted.{none_few}
-use Rattle.tries.specs.declared.search.TriesEnd.{TriesEnd}
-use Rattle.tries.specs.declared.search.TriesEnd.TheVariants.{Moved, NoMove}
 use Rattle.base.proofs.TwoRows.{two_row}
 use Rattle.iteration.specs.Held.{Prepared, HeldSolved}
 use Rattle.iteration.specs.Solving.{SolveTold, SolveLeft, SolvesWorking}
 use Rattle.iteration.specs.Iterated.{IterationLeft}
-use Rattle.iteration.specs.declared.solving.Solving.{Solving}
-use Rattle.iteration.specs.declared.solving.Solving.TheVariants.{Found, Unsolved}
 use Rattle.iteration.specs.declared.iterates.Iteration.TheVariants as iteration
 
 -- ---- what the answers of the parts say
@@ -49,11 +47,11 @@ record FoundSolve (s : Solve) (D : Design) (r m t : List Float) : Type 0 where
   pub is : s ≡ solved v
   pub held : HeldSolved D v r m t
 
-told_found : (s : Solve) (D : Design) (r m t : List Float) → SolveTold Found s D r m t → FoundSolve s D r m t
+told_found : (s : Solve) (D : Design) (r m t : List Float) → SolveTold (Ok tt) s D r m t → FoundSolve s D r m t
 told_found (solved v) D r m t h = record { v = v; is = refl; held = h }
 told_found (unsolved e) D r m t h = absurd h
 
-told_unsolved : (e : End) (s : Solve) (D : Design) (r m t : List Float) → SolveTold (Unsolved e) s D r m t → s ≡ unsolved e
+told_unsolved : (e : End) (s : Solve) (D : Design) (r m t : List Float) → SolveTold (Err e) s D r m t → s ≡ unsolved e
 told_unsolved e (solved v) D r m t h = absurd h
 told_unsolved e (unsolved f) D r m t h = ap unsolved (sym h)
 
@@ -133,11 +131,11 @@ module _ (G : Given) (phi : Float) (second : Bool) (r r1 r2 m m2 t t1 t2 : List 
     terms1 = only_wide (w_place q) (n + n) 0 terms_length (omega arith) (omega (arith, (laid_out lent.sizes).terms)) wd.terms_only
 
     -- ends 10 and 11
-    pub unsolvable : (e : End) → ((w' z' : List Float) → Prepared D w' z' r1 t1 → SolveLeft D (solve_working D w' z') r1 r2 m m2 t1 t2 (Unsolved e))
+    pub unsolvable : (e : End) → ((w' z' : List Float) → Prepared D w' z' r1 t1 → SolveLeft D (solve_working D w' z') r1 r2 m m2 t1 t2 (Err e))
         → IterationLeft G phi eta mu (eta_row n (not second)) r r2 m m2 t t2 (iteration.Unsolvable e)
     unfolding solve_of
     unsolvable e f =
-        let s : SolveLeft D (solve_working D w z) r1 r2 m m2 t1 t2 (Unsolved e) = f w z ready in
+        let s : SolveLeft D (solve_working D w z) r1 r2 m m2 t1 t2 (Err e) = f w z ready in
         record {
           told = told_unsolved e (solve_working D w z) D r2 m2 t2 s.told;
           few = none_few 100;
@@ -146,8 +144,8 @@ module _ (G : Given) (phi : Float) (second : Bool) (r r1 r2 m m2 t t1 t2 : List 
           terms_only = only_trans terms1 s.terms_only;
         }
 
-    module _ (f : (w' z' : List Float) → Prepared D w' z' r1 t1 → SolveLeft D (solve_working D w' z') r1 r2 m m2 t1 t2 Found) where
-      s : SolveLeft D (solve_working D w z) r1 r2 m m2 t1 t2 Found
+    module _ (f : (w' z' : List Float) → Prepared D w' z' r1 t1 → SolveLeft D (solve_working D w' z') r1 r2 m m2 t1 t2 (Ok tt)) where
+      s : SolveLeft D (solve_working D w z) r1 r2 m m2 t1 t2 (Ok tt)
       s = f w z ready
 
       fs : FoundSolve (solve_working D w z) D r2 m2 t2
@@ -186,7 +184,7 @@ module _ (G : Given) (phi : Float) (second : Bool) (r r1 r2 m m2 t t1 t2 : List 
           outside j b h a = ⊎_elim (λ x. absurd (omega arith)) (λ x. inr (omega arith)) a
 
       -- end 12
-      pub stuck : (r3 : List Float) (made : Account) → TriesDone trial (eta_row n (not second)) (mu_row n) r2 r3 (NoMove made) → IterationLeft G phi eta mu (eta_row n (not second)) r r3 m m2 t t2 (iteration.Stuck made)
+      pub stuck : (r3 : List Float) (made : Account) → TriesDone trial (eta_row n (not second)) (mu_row n) r2 r3 (Err made) → IterationLeft G phi eta mu (eta_row n (not second)) r r3 m m2 t t2 (iteration.Stuck made)
       stuck r3 made d =
           let x : NoItems (tries_of (trial_of G fs.v eta)) made = told_none (tries_of (trial_of G fs.v eta)) made (d.says ∙ ap (λ (y : Trial). briefly (tries_of y)) trial_is) in
           record {
@@ -198,7 +196,7 @@ module _ (G : Given) (phi : Float) (second : Bool) (r r1 r2 m m2 t t1 t2 : List 
           }
 
       -- a move; the raw predictor is as it was
-      pub moved : (r3 : List Float) (pwrss : Float) (made : Account) → TriesDone trial (eta_row n (not second)) (mu_row n) r2 r3 (Moved pwrss made)
+      pub moved : (r3 : List Float) (pwrss : Float) (made : Account) → TriesDone trial (eta_row n (not second)) (mu_row n) r2 r3 (Ok (pwrss, made))
           → IterationLeft G phi eta mu (eta_row n (not second)) r r3 m m2 t t2 (iteration.Moved pwrss made)
       moved r3 pwrss made d =
           let h : eta_row n (not second) + n ≤ mu_row n = eta_before n (not second) in
@@ -223,7 +221,7 @@ module _ (G : Given) (phi : Float) (second : Bool) (r r1 r2 m m2 t t1 t2 : List 
 
 -- ---- the same for the arguments of the code, of which q is the number of effects
 module _ (family : CarriedFamily) (link : CarriedLink) (phi : Float) (n p q' : ℕ) (shape : Shape) (theta offset x y weights : List Float) (zt : Sparse) (second : Bool) (r r1 r2 m m2 t t1 t2 : List Float)
-    (a : Solving) (e : q' ≡ effects_of shape) (lent : WorkRoom n p q' r m t) (wd : Weighs family link phi y weights offset n q' (row (eta_row n second) n r) (row (mu_row n) n r) r r1 t t1)
+    (a : Result ⊤ End) (e : q' ≡ effects_of shape) (lent : WorkRoom n p q' r m t) (wd : Weighs family link phi y weights offset n q' (row (eta_row n second) n r) (row (mu_row n) n r) r r1 t t1)
     (f : SolvesWorking (design_of n p shape theta offset x zt) r1 r2 m m2 t1 t2 a) where
   abbrev G : Given
   G = given_of family link y weights (design_of n p shape theta offset x zt)
@@ -234,15 +232,15 @@ module _ (family : CarriedFamily) (link : CarriedLink) (phi : Float) (n p q' : �
   wd' : Weighed G phi (q_of G.design) (row (eta_row n second) n r) (row (mu_row n) n r) r r1 t t1
   wd' = rw e at (wd G.design refl refl)
 
-  pub iterate_unsolvable : (end : End) → a ≡ Unsolved end → IterationLeft G phi (row (eta_row n second) n r) (row (mu_row n) n r) (eta_row n (not second)) r r2 m m2 t t2 (iteration.Unsolvable end)
+  pub iterate_unsolvable : (end : End) → a ≡ Err end → IterationLeft G phi (row (eta_row n second) n r) (row (mu_row n) n r) (eta_row n (not second)) r r2 m m2 t t2 (iteration.Unsolvable end)
   iterate_unsolvable end ea = unsolvable G phi second r r1 r2 m m2 t t1 t2 lent' wd' end (λ w z. rw ea at (f w z))
 
-  pub iterate_stuck : (r3 : List Float) (made : Account) (b : TriesEnd) → a ≡ Found → b ≡ NoMove made
+  pub iterate_stuck : (r3 : List Float) (made : Account) (b : Result (Float × Account) Account) → a ≡ (Ok tt) → b ≡ Err made
       → TriesDone (trial_in link n q' (eta_row n second) (raw_row n) (row (u_place p q') q' m2) (row (w_place q') n t2) (row (z_place n q') n t2) r2) (eta_row n (not second)) (mu_row n) r2 r3 b
       → IterationLeft G phi (row (eta_row n second) n r) (row (mu_row n) n r) (eta_row n (not second)) r r3 m m2 t t2 (iteration.Stuck made)
   iterate_stuck r3 made b ea eb d = stuck G phi second r r1 r2 m m2 t t1 t2 lent' wd' (λ w z. rw ea at (f w z)) r3 made (rw (e, eb) at d)
 
-  pub iterate_moved : (r3 : List Float) (pwrss : Float) (made : Account) (b : TriesEnd) → a ≡ Found → b ≡ Moved pwrss made
+  pub iterate_moved : (r3 : List Float) (pwrss : Float) (made : Account) (b : Result (Float × Account) Account) → a ≡ (Ok tt) → b ≡ Ok (pwrss, made)
       → TriesDone (trial_in link n q' (eta_row n second) (raw_row n) (row (u_place p q') q' m2) (row (w_place q') n t2) (row (z_place n q') n t2) r2) (eta_row n (not second)) (mu_row n) r2 r3 b
       → IterationLeft G phi (row (eta_row n second) n r) (row (mu_row n) n r) (eta_row n (not second)) r r3 m m2 t t2 (iteration.Moved pwrss made)
   iterate_moved r3 pwrss made b ea eb d = moved G phi second r r1 r2 m m2 t t1 t2 lent' wd' (λ w z. rw ea at (f w z)) r3 pwrss made (rw (e, eb) at d)

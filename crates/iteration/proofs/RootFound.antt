@@ -1,4 +1,6 @@
 -- The normal matrix's factor and β, at the places of the layout. Assumes nothing.
+use Rattle.std.specs.Prelude.{Result, Ok, Err, ⊤}
+use Prim.{tt}
 use mathlib.Core.Path.{◌≡◌, sym, ◌∙◌}
 use mathlib.Core.List.{List}
 use Prim.Native.Nat.{ℕ, ◌+◌, ◌-◌, ◌*◌}
@@ -8,15 +10,13 @@ use lib.Ieee.{Float}
 use Rattle.base.specs.Rows.{row, Wrote}
 use Rattle.base.proofs.Rows.{part_is, only_none}
 use Rattle.factor.specs.Factor.{cholesky_of}
-use Rattle.factor.specs.declared.pivots.Factored.{Factored}
-use Rattle.factor.specs.declared.pivots.Factored.TheVariants.{Done, Bad}
 use Rattle.layout.specs.WorkMatrices.{beta_place}
 use Rattle.layout.specs.WorkTerms.{normal_place}
 use Rattle.solve.specs.Root.{RootOf, RootLeaves, SolvedBeta}
 use Rattle.iteration.specs.Solving.{RootSolved}
 
 -- without a factor β's right side is as it was
-pub root_failed : (n p q normal i : ℕ) (m t t' : List Float) (r : Factored) → normal ≡ normal_place n p q → r ≡ Bad i → RootOf normal p t t' r → RootSolved n p q m m t t' (Bad i)
+pub root_failed : (n p q normal i : ℕ) (m t t' : List Float) (r : Result ⊤ ℕ) → normal ≡ normal_place n p q → r ≡ Err i → RootOf normal p t t' r → RootSolved n p q m m t t' (Err i)
 root_failed n p q normal i m t t' r en e f N h same =
     let f' : RootOf (normal_place n p q) p t t' r = rw en at f in
     let l : RootLeaves (normal_place n p q) p N t t' r = f' N h same in
@@ -29,8 +29,8 @@ root_failed n p q normal i m t t' r en e f N h same =
     }
 
 -- with the factor, β is solved with it
-pub root_found : (n p q normal end beta : ℕ) (m m' t t' : List Float) (r : Factored) → normal ≡ normal_place n p q → end ≡ normal + p * p → beta ≡ beta_place p q → r ≡ Done → RootOf normal p t t' r
-    → SolvedBeta beta p (take (end - normal) (drop normal t')) m m' → RootSolved n p q m m' t t' Done
+pub root_found : (n p q normal end beta : ℕ) (m m' t t' : List Float) (r : Result ⊤ ℕ) → normal ≡ normal_place n p q → end ≡ normal + p * p → beta ≡ beta_place p q → r ≡ (Ok tt) → RootOf normal p t t' r
+    → SolvedBeta beta p (take (end - normal) (drop normal t')) m m' → RootSolved n p q m m' t t' (Ok tt)
 root_found n p q normal end beta m m' t t' r en ee eb e f s N h same =
     let s' : SolvedBeta beta p (row normal (p * p) t') m m' = rw (part_is normal (p * p) end t' ee) at s in
     let s'' : SolvedBeta (beta_place p q) p (row (normal_place n p q) (p * p) t') m m' = rw (en, eb) at s' in

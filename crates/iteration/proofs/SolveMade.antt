@@ -1,5 +1,9 @@
 -- A solve from its parts: what each later part leaves of what the earlier ones wrote, and the rule's cases. Assumes nothing.
-use mathlib.Core.Path.{◌≡◌, refl, ◌∙◌}
+use Rattle.std.specs.Prelude.{Result, Ok, Err, ⊤}
+use Prim.{tt}
+use Rattle.std.specs.Result.{MatchResult, IsErrAnd}
+use Rattle.std.proofs.lemmas.Result.{err_from_is_err_and}
+use mathlib.Core.Path.{◌≡◌, refl, sym, ◌∙◌}
 use mathlib.Core.List.{List}
 use mathlib.Core.Logic.{inl, inr}
 use Prim.Native.Nat.{ℕ, ◌+◌, ◌*◌, ◌≤◌}
@@ -12,8 +16,6 @@ use Rattle.base.specs.Sparse.{Sparse}
 use Rattle.base.proofs.Fills.{matrix_length}
 use Rattle.base.proofs.Rows.{only_none, only_row, only_wide, only_trans}
 use Rattle.factor.specs.Factor.{cholesky_of}
-use Rattle.factor.specs.declared.pivots.Factored.{Factored}
-use Rattle.factor.specs.declared.pivots.Factored.TheVariants.{Done, Bad}
 use Rattle.layout.specs.Layout.{WorkRoom, MatricesLaid, TermsLaid}
 use Rattle.layout.specs.WorkRows.{raw_row, weighted_row, working_row}
 use Rattle.layout.specs.WorkMatrices.{system_place, solved_place, wy_place, u_place, beta_place, matrices_length}
@@ -21,6 +23,7 @@ use Rattle.layout.specs.WorkTerms.{factor_place, w_place, z_place, unsolved_plac
 use Rattle.layout.proofs.LaidOut.{laid_out}
 use Rattle.model.specs.Shape.{effects_of}
 use Rattle.model.specs.declared.sizes.Shape.{Shape}
+use Rattle.model.specs.declared.ends.End.{End}
 use Rattle.model.specs.declared.ends.End.TheVariants.{SystemPivot, NormalPivot}
 use Rattle.rule.specs.Given.{Design, q_of, design_of}
 use Rattle.rule.specs.Working.{targets, weighted_targets}
@@ -29,7 +32,20 @@ use Rattle.solve.specs.Ready.{Whatever}
 use Rattle.solve.specs.System.{SystemLeaves}
 use Rattle.iteration.specs.Held.{Prepared}
 use Rattle.iteration.specs.Solving.{SidesLeft, SidesOf, RootLeft, RootSolved, RawLeft, SolveLeft, SolvesWorking}
-use Rattle.iteration.specs.declared.solving.Solving.TheVariants.{Found, Unsolved}
+
+-- ---- an end that `map_err` tells in place of the index of a pivot
+pub end_mapped : {Q : ℕ → End → Type 0} (d : End) (z : Result ⊤ ℕ) (r : Result ⊤ End) → MatchResult z (λ x. r ≡ Ok x) (λ i. IsErrAnd r (Q i)) → ((i : ℕ) (y : End) → Q i y → y ≡ d) → (y : End) → r ≡ Err y
+    → (i : ℕ) × (z ≡ Err i) × (y ≡ d)
+end_mapped d (Ok tt) r m k y e = cc
+end_mapped {Q} d (Err i) r m k y e =
+    let f : (x : End) × (r ≡ Err x) × Q i x = err_from_is_err_and r m in
+    let o : ◌≡◌ {A = Result ⊤ End} (Err y) (Err f.0) = sym e ∙ f.1 in
+    let g : y ≡ f.0 = cc in
+    (i, refl, g ∙ k i f.0 f.2)
+
+pub ok_mapped : (Q : ℕ → End → Type 0) (z : Result ⊤ ℕ) (r : Result ⊤ End) → MatchResult z (λ x. r ≡ Ok x) (λ i. IsErrAnd r (Q i)) → (x : ⊤) → r ≡ Ok x → z ≡ Ok tt
+ok_mapped Q (Ok tt) r m x e = refl
+ok_mapped Q (Err i) r m x e = let f : (y : End) × (r ≡ Err y) × Q i y = err_from_is_err_and r m in cc
 
 -- ---- the rule's cases
 module _ (D : Design) (w z : List Float) where
@@ -48,19 +64,19 @@ module _ (D : Design) (w z : List Float) where
   abbrev reduced : Reduced
   reduced = reduced_of D w z (targets D z) A F
 
-  rule_system : (i : ℕ) (t t' m m' : List Float) → SystemLeaves w t t' m m' (Bad i) D → solve_working D w z ≡ unsolved SystemPivot
+  rule_system : (i : ℕ) (t t' m m' : List Float) → SystemLeaves w t t' m m' (Err i) D → solve_working D w z ≡ unsolved SystemPivot
   unfolding solve_working solve_system solve_factor after_factor
   rule_system i t t' m m' s = rw (← s.end) refl
 
-  rule_reduced : (t t' m m' : List Float) → SystemLeaves w t t' m m' Done D → solve_working D w z ≡ solve_reduced D reduced
+  rule_reduced : (t t' m m' : List Float) → SystemLeaves w t t' m m' (Ok tt) D → solve_working D w z ≡ solve_reduced D reduced
   unfolding solve_working solve_system solve_factor after_factor
   rule_reduced t t' m m' s = rw (← s.end) refl
 
-  rule_normal : (q i : ℕ) (m m' t t' : List Float) → RootLeft D.n D.p q N m m' t t' (Bad i) → solve_reduced D reduced ≡ unsolved NormalPivot
+  rule_normal : (q i : ℕ) (m m' t t' : List Float) → RootLeft D.n D.p q N m m' t t' (Err i) → solve_reduced D reduced ≡ unsolved NormalPivot
   unfolding solve_reduced solve_normal solve_root after_root reduced_of
   rule_normal q i m m' t t' l = rw (← l.end) refl
 
-  rule_found : (q : ℕ) (m m' t t' : List Float) → RootLeft D.n D.p q N m m' t t' Done → solve_reduced D reduced ≡ solved (found D reduced C)
+  rule_found : (q : ℕ) (m m' t t' : List Float) → RootLeft D.n D.p q N m m' t t' (Ok tt) → solve_reduced D reduced ≡ solved (found D reduced C)
   unfolding solve_reduced solve_normal solve_root after_root reduced_of
   rule_found q m m' t t' l = rw (← l.end) refl
 
@@ -82,9 +98,9 @@ module _ (D : Design) (w z r m t : List Float) (lent : WorkRoom D.n D.p (q_of D)
   laid_t = (laid_out lent.sizes).terms
 
   -- end 10
-  pub system_ended : (i : ℕ) (t1 m1 : List Float) → SystemLeaves (row (w_place q) n t) t t1 m m1 (Bad i) D → SolveLeft D (solve_working D w z) r r m m1 t t1 (Unsolved SystemPivot)
+  pub system_ended : (i : ℕ) (t1 m1 : List Float) → SystemLeaves (row (w_place q) n t) t t1 m m1 (Err i) D → SolveLeft D (solve_working D w z) r r m m1 t t1 (Err SystemPivot)
   system_ended i t1 m1 s =
-      let s' : SystemLeaves w t t1 m m1 (Bad i) D = rw ready.weights at s in
+      let s' : SystemLeaves w t t1 m m1 (Err i) D = rw ready.weights at s in
       record {
         told = rw (rule_system D w z i t t1 m m1 s') refl;
         rows_only = only_none (raw_row n) (13 * n) r;
@@ -92,9 +108,9 @@ module _ (D : Design) (w z r m t : List Float) (lent : WorkRoom D.n D.p (q_of D)
         terms_only = only_wide 0 (q * q) 0 terms_length (omega arith) (omega (arith, laid_t)) s'.frame;
       }
 
-  module _ (t1 m1 t2 m2 : List Float) (s : SystemLeaves (row (w_place q) n t) t t1 m m1 Done D)
+  module _ (t1 m1 t2 m2 : List Float) (s : SystemLeaves (row (w_place q) n t) t t1 m m1 (Ok tt) D)
       (x : SidesLeft q D (F D w z) (row (w_place q) n t1) (row (working_row n) n r) (row (weighted_row n) n r) m1 m2 t1 t2) where
-    s' : SystemLeaves w t t1 m m1 Done D
+    s' : SystemLeaves w t t1 m m1 (Ok tt) D
     s' = rw ready.weights at s
 
     long1 : length t1 ≡ length t
@@ -110,7 +126,7 @@ module _ (D : Design) (w z r m t : List Float) (lent : WorkRoom D.n D.p (q_of D)
     x' = rw (w1, ready.target, ready.weighted) at x
 
     -- what was made of the normal matrix that stands there
-    pub rooted : (f : Factored) (m3 t3 : List Float) → RootSolved n p q m2 m3 t2 t3 f → RootLeft n p q (N D w z) m2 m3 t2 t3 f
+    pub rooted : (f : Result ⊤ ℕ) (m3 t3 : List Float) → RootSolved n p q m2 m3 t2 t3 f → RootLeft n p q (N D w z) m2 m3 t2 t3 f
     unfolding normal_of
     rooted f m3 t3 g = g (N D w z) (omega (arith, matrix_length p p (normal_entry D w (solved_columns D (F D w z) w)))) x'.normal
 
@@ -121,7 +137,7 @@ module _ (D : Design) (w z r m t : List Float) (lent : WorkRoom D.n D.p (q_of D)
     terms2 = only_trans (only_wide 0 (q * q) 0 terms_length (omega arith) (omega (arith, laid_t)) s'.frame) (only_wide (unsolved_place n q) (q * p + p * p) 0 terms_length (omega arith) (omega (arith, laid_t)) x'.terms_only)
 
     -- end 11
-    pub normal_ended : (i : ℕ) (t3 m3 : List Float) → RootLeft n p q (N D w z) m2 m3 t2 t3 (Bad i) → SolveLeft D (solve_working D w z) r r m m3 t t3 (Unsolved NormalPivot)
+    pub normal_ended : (i : ℕ) (t3 m3 : List Float) → RootLeft n p q (N D w z) m2 m3 t2 t3 (Err i) → SolveLeft D (solve_working D w z) r r m m3 t t3 (Err NormalPivot)
     normal_ended i t3 m3 l =
         record {
           told = rw (rule_reduced D w z t t1 m m1 s' ∙ rule_normal D w z q i m2 m3 t2 t3 l) refl;
@@ -130,7 +146,7 @@ module _ (D : Design) (w z r m t : List Float) (lent : WorkRoom D.n D.p (q_of D)
           terms_only = only_trans terms2 (only_wide (normal_place n p q) (p * p) 0 terms_length (omega arith) (omega (arith, laid_t)) l.terms_only);
         }
 
-    module _ (r2 t3 m3 t4 m4 : List Float) (l : RootLeft n p q (N D w z) m2 m3 t2 t3 Done)
+    module _ (r2 t3 m3 t4 m4 : List Float) (l : RootLeft n p q (N D w z) m2 m3 t2 t3 (Ok tt))
         (v : RawLeft D (row (wy_place p q) q m3) (row (solved_place q) (p * q) m3) (row (beta_place p q) p m3) r r2 m3 m4 t3 t4) where
       long2 : length t2 ≡ length t
       long2 = x'.terms_only.len ∙ long1
@@ -180,7 +196,7 @@ module _ (D : Design) (w z r m t : List Float) (lent : WorkRoom D.n D.p (q_of D)
       beta3 = l.beta refl ∙ rw x'.side refl
 
       -- a solve found
-      pub solve_found : SolveLeft D (solve_working D w z) r r2 m m4 t t4 Found
+      pub solve_found : SolveLeft D (solve_working D w z) r r2 m m4 t t4 (Ok tt)
       unfolding found found_beta found_with reduced_of
       solve_found =
           record {
@@ -203,7 +219,7 @@ module _ (D : Design) (w z r m t : List Float) (lent : WorkRoom D.n D.p (q_of D)
           }
 
 -- ---- the same for the arguments of the code, of which q is the number of effects
-module _ (n p q at i : ℕ) (shape : Shape) (theta offset x : List Float) (zt : Sparse) (r m t t1 m1 : List Float) (f : Factored) (e : q ≡ effects_of shape) (lent : WorkRoom n p q r m t) (ew : at ≡ w_place q)
+module _ (n p q at i : ℕ) (shape : Shape) (theta offset x : List Float) (zt : Sparse) (r m t t1 m1 : List Float) (f : Result ⊤ ℕ) (e : q ≡ effects_of shape) (lent : WorkRoom n p q r m t) (ew : at ≡ w_place q)
     (s : Whatever n shape theta zt (SystemLeaves (row at n t) t t1 m m1 f)) where
   abbrev D : Design
   D = design_of n p shape theta offset x zt
@@ -214,26 +230,26 @@ module _ (n p q at i : ℕ) (shape : Shape) (theta offset x : List Float) (zt : 
   left : SystemLeaves (row (w_place (q_of D)) n t) t t1 m m1 f D
   left = rw (ew, e) at (s p offset x)
 
-  pub system_ends : f ≡ Bad i → SolvesWorking D r r m m1 t t1 (Unsolved SystemPivot)
+  pub system_ends : f ≡ Err i → SolvesWorking D r r m m1 t t1 (Err SystemPivot)
   system_ends ef w z ready = system_ended D w z r m t lent' ready i t1 m1 (rw ef at left)
 
-  module _ (m2 m3 t2 t3 : List Float) (g : Factored) (ef : f ≡ Done) (sides : SidesOf n p q shape theta x zt r m1 m2 t1 t2) (root : RootSolved n p q m2 m3 t2 t3 g) where
-    done : SystemLeaves (row (w_place (q_of D)) n t) t t1 m m1 Done D
+  module _ (m2 m3 t2 t3 : List Float) (g : Result ⊤ ℕ) (ef : f ≡ (Ok tt)) (sides : SidesOf n p q shape theta x zt r m1 m2 t1 t2) (root : RootSolved n p q m2 m3 t2 t3 g) where
+    done : SystemLeaves (row (w_place (q_of D)) n t) t t1 m m1 (Ok tt) D
     done = rw ef at left
 
     module _ (w z : List Float) (ready : Prepared D w z r t) where
       sided : SidesLeft (q_of D) D (F D w z) (row (w_place (q_of D)) n t1) (row (working_row n) n r) (row (weighted_row n) n r) m1 m2 t1 t2
       sided =
           let sides' : SidesOf n p (q_of D) shape theta x zt r m1 m2 t1 t2 = rw e at sides in
-          let done' : SystemLeaves w t t1 m m1 Done D = rw ready.weights at done in
+          let done' : SystemLeaves w t t1 m m1 (Ok tt) D = rw ready.weights at done in
           sides' (F D w z) offset (done'.lower refl)
 
       root' : RootLeft n p (q_of D) (N D w z) m2 m3 t2 t3 g
       root' = rooted D w z r m t lent' ready t1 m1 t2 m2 done sided g m3 t3 (rw e at root)
 
-    pub normal_ends : g ≡ Bad i → SolvesWorking D r r m m3 t t3 (Unsolved NormalPivot)
+    pub normal_ends : g ≡ Err i → SolvesWorking D r r m m3 t t3 (Err NormalPivot)
     normal_ends eg w z ready = normal_ended D w z r m t lent' ready t1 m1 t2 m2 done (sided w z ready) i t3 m3 (rw eg at (root' w z ready))
 
-    pub solve_finds : (r2 m4 t4 : List Float) → g ≡ Done → RawLeft D (row (wy_place p q) q m3) (row (solved_place q) (p * q) m3) (row (beta_place p q) p m3) r r2 m3 m4 t3 t4
-        → SolvesWorking D r r2 m m4 t t4 Found
+    pub solve_finds : (r2 m4 t4 : List Float) → g ≡ (Ok tt) → RawLeft D (row (wy_place p q) q m3) (row (solved_place q) (p * q) m3) (row (beta_place p q) p m3) r r2 m3 m4 t3 t4
+        → SolvesWorking D r r2 m m4 t t4 (Ok tt)
     solve_finds r2 m4 t4 eg v w z ready = solve_found D w z r m t lent' ready t1 m1 t2 m2 done (sided w z ready) r2 t3 m3 t4 m4 (rw eg at (root' w z ready)) (rw e at v)

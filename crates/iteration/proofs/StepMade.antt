@@ -1,4 +1,6 @@
 -- The tries where the layout has what they look at: the rows lie apart, whichever of the two holds the predictor. Assumes nothing.
+use Rattle.model.specs.declared.counts.Account.{Account}
+use Rattle.std.specs.Prelude.{Result}
 use mathlib.Core.Path.{◌≡◌}
 use mathlib.Core.List.{List}
 use mathlib.Core.Bool.{Bool, true, false, not}
@@ -17,7 +19,6 @@ use Rattle.layout.specs.WorkTerms.{w_place, z_place, unsolved_place}
 use Rattle.layout.proofs.Inside.{u_in, w_in, z_in}
 use Rattle.stages.specs.Held.{eta_row}
 use Rattle.tries.specs.Told.{Room, trial_in, TriesDone}
-use Rattle.tries.specs.declared.search.TriesEnd.{TriesEnd}
 
 rows_room : (n q : ℕ) (second : Bool) (u w z r : List Float) → rows_length n ≤ length r → q ≤ length u → n ≤ length w → n ≤ length z → Room n q (eta_row n second) (eta_row n (not second)) (raw_row n) (mu_row n) u w z r
 unfolding eta_row
@@ -68,7 +69,7 @@ module _ (n p q : ℕ) (second : Bool) (prev next raw mu u b w z unsolved : ℕ)
       rw (e1, e2, e3, e4, u_part, w_part, z_part)
       (rows_room n q second (row u q m) (row w n t) (row z n t) r lent.rows_long (omega (arith, row_length u q m (u_in lent.sizes m e5 lent.matrices_long))) (omega (arith, row_length w n t (w_in lent.sizes t e7 lent.terms_long))) (omega (arith, row_length z n t (z_in lent.sizes t e8 lent.terms_long))))
 
-  pub stepped : (link : CarriedLink) (r' : List Float) (a : TriesEnd)
+  pub stepped : (link : CarriedLink) (r' : List Float) (a : Result (Float × Account) Account)
       → TriesDone (trial_in link n q prev raw (take (b - u) (drop u m)) (take (z - w) (drop w t)) (take (unsolved - z) (drop z t)) r) next mu r r' a
       → TriesDone (trial_in link n q (eta_row n second) (raw_row n) (row (u_place p q) q m) (row (w_place q) n t) (row (z_place n q) n t) r) (eta_row n (not second)) (mu_row n) r r' a
   stepped link r' a d =

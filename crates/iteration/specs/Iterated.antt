@@ -12,7 +12,9 @@ use Rattle.model.specs.declared.sizes.Shape.{Shape}
 use Rattle.rule.specs.Given.{Given, n_of, q_of}
 use Rattle.rule.specs.Solve.{Solved, solved, unsolved, solve_of}
 use Rattle.rule.specs.Try.{found_move, no_move, tries_of, trial_of}
-use Rattle.solve.specs.Ready.{Ready}
+use Rattle.rule.specs.declared.given.Design.{Design as LentDesign}
+use Rattle.rule.specs.declared.given.Given.{Given as LentGiven}
+use Rattle.solve.specs.Ready.{Ready, ReadyIn}
 use Rattle.tries.specs.Told.{tries_to}
 use Rattle.working.specs.Optional.{Optional}
 use Rattle.iteration.specs.Held.{HeldSolved}
@@ -28,6 +30,16 @@ pub record Asked (n p q : ℕ) (shape : Shape) (theta : List Float) (starts colu
   pub offset_fits : Optional n offset
   pub x_long : n * p ≤ length x
   pub y_long : n ≤ length y
+
+-- the same of what is given as it is lent
+abbrev pub AskedFor : LentGiven → (r m t : List Float) → Type 0
+AskedFor g r m t =
+    Asked g.design.n g.design.p g.design.q g.design.shape g.design.theta.now g.design.zt.starts.now g.design.zt.columns.now g.design.zt.values.now
+    g.design.offset.now g.design.x.now g.y.now r m t
+
+-- the sizes and the order of a design as it is lent
+abbrev pub ReadyFor : LentDesign → Type 0
+ReadyFor d = ReadyIn d.shape d.theta.now d.zt d.q d.n
 
 -- ---- what an iteration answers
 

@@ -1,12 +1,13 @@
 -- What the parts of a solve leave in the work slices. Document 01, "The inner fit", from A to the raw predictor; ends 10 and 11. Assumes nothing.
+use Rattle.model.specs.declared.ends.End.{End}
+use Rattle.std.specs.Prelude.{Result, Ok, Err, ⊤}
+use Prim.{tt}
 use Rattle.std.specs.Prelude.{◌≡◌, List, ℕ, ◌+◌, ◌*◌, ◌≤◌, length, Float}
 use Rattle.base.specs.Rows.{row, Only}
 use Rattle.factor.specs.Factor.{cholesky_of, cholesky_end}
 use Rattle.base.specs.Sparse.{Sparse}
 use Rattle.factor.specs.Substitution.{ldl_solve, cholesky_solve}
 use Rattle.factor.specs.Triangle.{SameBelow}
-use Rattle.factor.specs.declared.pivots.Factored.{Factored}
-use Rattle.factor.specs.declared.pivots.Factored.TheVariants.{Done}
 use Rattle.layout.specs.WorkRows.{raw_row, weighted_row, working_row}
 use Rattle.layout.specs.WorkMatrices.{system_place, solved_place, wy_place, u_place, beta_place, matrices_length}
 use Rattle.layout.specs.WorkTerms.{factor_place, w_place, unsolved_place, normal_place, spare_place, terms_length}
@@ -14,8 +15,6 @@ use Rattle.rule.specs.Given.{Design, q_of, design_of}
 use Rattle.model.specs.declared.sizes.Shape.{Shape}
 use Rattle.rule.specs.Solve.{Solve, solved, unsolved, side_of, solved_columns, normal_of, normal_side, effects_after, b_of, raw_of, solve_working}
 use Rattle.iteration.specs.Held.{Prepared, HeldSolved}
-use Rattle.iteration.specs.declared.solving.Solving.{Solving}
-use Rattle.iteration.specs.declared.solving.Solving.TheVariants.{Found, Unsolved}
 
 -- ---- the right sides
 
@@ -37,15 +36,15 @@ SidesOf n p q shape theta x zt r m m' t t' = (F offset : List Float) → SameBel
 -- ---- the normal matrix's factor, and β
 
 -- N being the matrix whose lower triangle stands there: its factor's end; where it was found, the factor over it and β over its right side
-pub record RootLeft (n p q : ℕ) (N m m' t t' : List Float) (r : Factored) : Type 0 where
+pub record RootLeft (n p q : ℕ) (N m m' t t' : List Float) (r : Result ⊤ ℕ) : Type 0 where
   pub end : r ≡ cholesky_end p N (cholesky_of p N)
-  pub root : r ≡ Done → SameBelow p (row (normal_place n p q) (p * p) t') (cholesky_of p N)
-  pub beta : r ≡ Done → row (beta_place p q) p m' ≡ cholesky_solve p (cholesky_of p N) (row (beta_place p q) p m)
+  pub root : r ≡ (Ok tt) → SameBelow p (row (normal_place n p q) (p * p) t') (cholesky_of p N)
+  pub beta : r ≡ (Ok tt) → row (beta_place p q) p m' ≡ cholesky_solve p (cholesky_of p N) (row (beta_place p q) p m)
   pub matrices_only : Only (beta_place p q) p m m'
   pub terms_only : Only (normal_place n p q) (p * p) t t'
 
 -- for each such N
-abbrev pub RootSolved : (n p q : ℕ) (m m' t t' : List Float) → Factored → Type 0
+abbrev pub RootSolved : (n p q : ℕ) (m m' t t' : List Float) → Result ⊤ ℕ → Type 0
 RootSolved n p q m m' t t' r = (N : List Float) → p * p ≤ length N → SameBelow p (row (normal_place n p q) (p * p) t) N → RootLeft n p q N m m' t t' r
 
 -- ---- u, b and the raw predictor
@@ -61,19 +60,19 @@ pub record RawLeft (D : Design) (wy W beta r r' m m' t t' : List Float) : Type 0
 -- ---- the solve
 
 -- the answer says what the rule's solve is: the work slices hold what it found, or both have the same end
-abbrev pub SolveTold : Solving → Solve → Design → (rows matrices terms : List Float) → Type 0
-SolveTold Found (solved v) D r m t = HeldSolved D v r m t
-SolveTold Found (unsolved e) D r m t = ⊥
-SolveTold (Unsolved e) (solved v) D r m t = ⊥
-SolveTold (Unsolved e) (unsolved f) D r m t = e ≡ f
+abbrev pub SolveTold : Result ⊤ End → Solve → Design → (rows matrices terms : List Float) → Type 0
+SolveTold (Ok tt) (solved v) D r m t = HeldSolved D v r m t
+SolveTold (Ok tt) (unsolved e) D r m t = ⊥
+SolveTold (Err e) (solved v) D r m t = ⊥
+SolveTold (Err e) (unsolved f) D r m t = e ≡ f
 
 -- the solve s is told; the two predictors and the means are as they were, and so is all behind the named lengths
-pub record SolveLeft (D : Design) (s : Solve) (r r' m m' t t' : List Float) (a : Solving) : Type 0 where
+pub record SolveLeft (D : Design) (s : Solve) (r r' m m' t t' : List Float) (a : Result ⊤ End) : Type 0 where
   pub told : SolveTold a s D r' m' t'
   pub rows_only : Only (raw_row D.n) (13 * D.n) r r'
   pub matrices_only : Only 0 (matrices_length D.p (q_of D)) m m'
   pub terms_only : Only 0 terms_length t t'
 
 -- with the w and z that were prepared
-abbrev pub SolvesWorking : Design → (r r' m m' t t' : List Float) → Solving → Type 0
+abbrev pub SolvesWorking : Design → (r r' m m' t t' : List Float) → Result ⊤ End → Type 0
 SolvesWorking D r r' m m' t t' a = (w z : List Float) → Prepared D w z r t → SolveLeft D (solve_working D w z) r r' m m' t t' a

@@ -12,5 +12,5 @@ pub use iterates::{Iteration, iterate};
 pub use raws::raw_into;
 pub use roots::solve_root;
 pub use sides::right_sides;
-pub use solving::{Solving, solve_into};
+pub use solving::solve_into;
 pub use steps::{eta_row, step};

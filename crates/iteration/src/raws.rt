@@ -3,50 +3,50 @@ ghost use Rattle.std.specs.Prelude.{◌*◌, ◌≤◌, length};
 ghost use Rattle.base.specs.Rows.{row};
 ghost use Rattle.layout.specs.Layout.{WorkRoom};
 ghost use Rattle.layout.specs.WorkMatrices.{solved_place, wy_place, beta_place};
-ghost use Rattle.stored.specs.Stored.{sparse};
 ghost use Rattle.working.specs.Optional.{Optional};
-ghost use Rattle.solve.specs.Ready.{Ready};
-ghost use Rattle.rule.specs.Given.{design_of};
 ghost use Rattle.iteration.specs.Solving.{RawLeft};
+ghost use Rattle.rule.specs.Lent.{design_in};
+ghost use Rattle.iteration.specs.Iterated.{ReadyFor};
 
 use layout::{b_at, beta_at, raw_row, solved_at, spare_at, u_at, wy_at};
-use model::Shape;
+use rule::Design;
 use solve::{effects_into, solve_u, zb_into};
 
 // u, b = Λu and the raw predictor.
-pub fn raw_into(
-    shape: Shape,
-    theta: &[f64],
-    starts: &[usize],
-    columns: &[usize],
-    values: &[f64],
-    offset: &[f64],
-    x: &[f64],
-    n: usize,
-    p: usize,
-    q: usize,
-    r: &mut [f64],
-    m: &mut [f64],
-    t: &mut [f64],
-)
-    requires ready { Ready shape theta.now starts.now columns.now values.now q n }
-    requires work_room { WorkRoom n p q r.old m.old t.old }
-    requires optional { (Optional n offset.now) × (n * p ≤ length x.now) }
+pub fn raw_into(design: &Design<'_>, r: &mut [f64], m: &mut [f64], t: &mut [f64])
+    requires ready { ReadyFor design.now }
+    requires work_room { WorkRoom design.now.n design.now.p design.now.q r.old m.old t.old }
+    requires optional { (Optional design.now.n design.now.offset.now) × (design.now.n * design.now.p ≤ length design.now.x.now) }
     ensures { RawLeft
-        (design_of n p shape theta.now offset.now x.now
-        (sparse starts.now columns.now values.now)) (row (wy_place p q) q m.old)
-        (row (solved_place q) (p * q) m.old) (row (beta_place p q) p m.old) r.old r.new m.old
+        (design_in design.now) (row (wy_place design.now.p design.now.q) design.now.q m.old)
+        (row (solved_place design.now.q) (design.now.p * design.now.q) m.old) (row (beta_place design.now.p design.now.q) design.now.p m.old) r.old r.new m.old
         m.new t.old t.new }
 {
-    let spare = spare_at(n, p, q);
-    let beta = beta_at(p, q);
-    let u = u_at(p, q);
-    let b = b_at(p, q);
-    let raw = raw_row(n);
-    solve_u(q, p, wy_at(p, q), solved_at(q), beta, m, spare, t);
-    effects_into(shape, theta, q, spare, t, u, m);
-    zb_into(starts, columns, values, q, n, b, m, raw, r);
-    let be = beta + p;
-    let re = raw + n;
-    working::raw_row(offset, x, &m[beta..be], n, p, &mut r[raw..re]);
+    let spare = spare_at(design.n, design.p, design.q);
+    let beta = beta_at(design.p, design.q);
+    let u = u_at(design.p, design.q);
+    let b = b_at(design.p, design.q);
+    let raw = raw_row(design.n);
+    solve_u(
+        design.q,
+        design.p,
+        wy_at(design.p, design.q),
+        solved_at(design.q),
+        beta,
+        m,
+        spare,
+        t,
+    );
+    effects_into(design.shape, design.theta, design.q, spare, t, u, m);
+    zb_into(&design.zt, design.q, design.n, b, m, raw, r);
+    let be = beta + design.p;
+    let re = raw + design.n;
+    working::raw_row(
+        design.offset,
+        design.x,
+        &m[beta..be],
+        design.n,
+        design.p,
+        &mut r[raw..re],
+    );
 }

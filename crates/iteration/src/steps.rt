@@ -10,7 +10,8 @@ ghost use Rattle.tries.specs.Told.{trial_in, TriesDone};
 
 use family::CarriedLink;
 use layout::{b_at, mu_row, raw_row, second_eta_row, u_at, unsolved_at, w_at, z_at};
-use tries::{TriesEnd, tries};
+use model::Account;
+use tries::tries;
 
 // Where the row that holds the predictor begins.
 pub fn eta_row(n: usize, in_second: bool) -> usize
@@ -33,7 +34,7 @@ pub fn step(
     m: &[f64],
     t: &[f64],
     r: &mut [f64],
-) -> TriesEnd
+) -> Result<(f64, Account), Account>
     requires { WorkRoom n p q r.old m.now t.now }
     ensures { TriesDone
         (trial_in link n q (eta_row n in_second) (raw_row n) (row (u_place p q) q m.now) (row (w_place q) n t.now)

@@ -1,70 +1,66 @@
 -- The laws of faults: what a demand that holds, or fails, makes of the rest; one turn of each loop; what a sound part reaches. Assumes nothing.
-use mathlib.Core.Path.{◌≡◌, refl, sym, ap, ◌∙◌}
+use Prim.{tt}
+use Rattle.std.specs.Prelude.{Result, Ok, Err, ⊤}
+use Rattle.std.specs.Result.{IsErrAnd}
+use mathlib.Core.Path.{◌≡◌, refl}
 use mathlib.Core.Bool.{Bool, true, false, not, ◌&&◌, ◌||◌}
 use mathlib.Core.List.{List}
 use Prim.Native.Nat.{ℕ, zero, suc, ◌+◌, ◌*◌, ◌-◌, ◌≤◌, ◌<◌, ◌/◌}
 use native.Mathlib.Omega.{arith}
-use lib.Dec.{leb, ltb, eqb}
+use lib.Dec.{ltb, eqb}
 use lib.ListN.{length}
-use borrow.Author.Tests.{le-leb, lt-leb, leb-true, eq-eqb, eqb-true, ltb-true}
+use borrow.Author.Tests.{le-leb, leb-true, eq-eqb, eqb-true, ltb-true}
 use Rattle.bits.specs.Bits.{bits_of}
 use Rattle.job.specs.declared.faults.Fault.{Fault}
-use Rattle.job.specs.declared.faults.Fault.TheVariants.{Sound, At}
-use Rattle.job.specs.declared.head.Head.{Head}
-use Rattle.job.specs.Heads.{head_of}
-use Rattle.job.specs.Format.{version, link_field, limit_field, is_second, after_row, blocks_at}
-use Rattle.job.specs.Faults.{demand, ◌▹◌, is_sound, reaches, spare, pair_fault, blocks_fault, entry_fault, entries_fault, row_fault, rows_fault, common_fault, second_fault, head_fault}
+use Rattle.job.specs.Format.{version, link_field, limit_field, is_second, short, after_row, blocks_at}
+use Rattle.job.specs.Faults.{Checked, demand, ◌▹◌, first, is_sound, reaches, spare, pair_fault, blocks_fault, entry_fault, entries_fault, row_fault, rows_fault, common_fault, second_fault, head_fault}
 
 -- ---- one demand
-pub reach_yes : (s : List ℕ) (e : ℕ) → e ≤ length s * 8 → reaches s e ≡ Sound
+pub reach_yes : (s : List ℕ) (e : ℕ) → e ≤ length s * 8 → reaches s e ≡ Ok tt
 unfolding reaches demand
 reach_yes s e h = rw (le-leb e (length s * 8) h)
 
-pub reach_no : (s : List ℕ) (e : ℕ) → length s * 8 < e → reaches s e ≡ At 20 (length s)
-unfolding reaches demand
-reach_no s e h = rw (lt-leb e (length s * 8) h)
-
-pub spare_yes : (s : List ℕ) (p w z : ℕ) → z ≡ bits_of s p w → z ≡ 0 → spare s p w ≡ Sound
+pub spare_yes : (s : List ℕ) (p w z : ℕ) → z ≡ bits_of s p w → z ≡ 0 → spare s p w ≡ Ok tt
 unfolding spare demand
 spare_yes s p w z e h = rw (← e, eq-eqb z 0 h)
 
--- the two demands on two bytes
-pub pair_cut : (s : List ℕ) (p w : ℕ) → length s < p + 2 → At 20 (length s) ≡ pair_fault s p w
-unfolding pair_fault ◌▹◌
-pair_cut s p w l = rw (reach_no s (8 * p + 16) (omega arith))
+-- a demand that finds no fault holds
+pub allowed : (t : Bool) (r b : ℕ) (u : ⊤) → demand t r b ≡ Ok u → t ≡ true
+unfolding demand
+allowed true r b u h = refl
+allowed false r b u h = cc
 
-pub pair_tested : (s : List ℕ) (p w z : ℕ) → p + 2 ≤ length s → 1 ≤ w → w ≤ 8 → z ≡ bits_of s (8 * p + (16 - w)) w → demand (eqb z 0) 22 (p + 1) ≡ pair_fault s p w
-unfolding pair_fault spare ◌▹◌
-pair_tested s p w z l a b e =
-    let d : (8 * p + (16 - w)) / 8 ≡ p + 1 = omega arith in
-    rw (reach_yes s (8 * p + 16) (omega arith), d, e)
+-- what `?` returns
+pub refused : {A : Type 0} (r : Result A Fault) (e : Fault) → IsErrAnd r (λ x. x ≡ e) → r ≡ Err e
+refused (Ok a) e h = absurd h
+refused (Err x) e h = rw h
 
 -- ---- the first of two
-pub go : (f g : Fault) → is_sound f ≡ true → f ▹ g ≡ g
-unfolding is_sound ◌▹◌
-go Sound g e = refl
-go (At r b) g e = cc
+pub go : (f g : Checked) → is_sound f ≡ true → f ▹ g ≡ g
+unfolding is_sound first
+go (Ok t) g h = refl
+go (Err e) g h = cc
 
-pub stop : (f g : Fault) → is_sound f ≡ false → f ▹ g ≡ f
-unfolding is_sound ◌▹◌
-stop Sound g e = cc
-stop (At r b) g e = refl
+pub stop : (f g : Checked) → is_sound f ≡ false → f ▹ g ≡ f
+unfolding is_sound first
+stop (Ok t) g h = cc
+stop (Err e) g h = refl
 
-pub regroup : (f g h : Fault) → (f ▹ g) ▹ h ≡ f ▹ (g ▹ h)
-unfolding ◌▹◌
-regroup Sound g h = refl
-regroup (At r b) g h = refl
+pub regroup : (f g h : Checked) → (f ▹ g) ▹ h ≡ f ▹ (g ▹ h)
+unfolding first
+regroup (Ok t) g h = refl
+regroup (Err e) g h = refl
 
-pub nothing : (f : Fault) → f ▹ Sound ≡ f
-unfolding ◌▹◌
-nothing Sound = refl
-nothing (At r b) = refl
+pub nothing : (f : Checked) → f ▹ Ok tt ≡ f
+unfolding first
+nothing (Ok t) = refl
+nothing (Err e) = refl
 
 -- a sound whole has sound parts
-pub both : (f g : Fault) → is_sound (f ▹ g) ≡ true → (is_sound f ≡ true) × (is_sound g ≡ true)
-unfolding is_sound ◌▹◌
-both Sound g e = (refl, e)
-both (At r b) g e = (cc, cc)
+pub both : (f g : Checked) → is_sound (f ▹ g) ≡ true → (is_sound f ≡ true) × (is_sound g ≡ true)
+unfolding is_sound first
+both (Ok t) g h = (refl, h)
+both (Err e) g h = (cc, cc)
 
 pub demanded : (t : Bool) (r b : ℕ) → is_sound (demand t r b) ≡ true → t ≡ true
 unfolding demand is_sound
@@ -87,41 +83,23 @@ row_reached s p h = pair_reached s p 3 (both _ _ h).0
 turn : (n k : ℕ) → k < n → n - k ≡ suc (n - (k + 1))
 turn n k l = omega arith
 
-pub blocks_on : (s : List ℕ) (p n k : ℕ) → k < n → is_sound (pair_fault s p 5) ≡ true → blocks_fault s p (n - k) ≡ blocks_fault s (p + 2) (n - (k + 1))
-unfolding blocks_fault
-blocks_on s p n k l h = rw (turn n k l) (go _ _ h)
+pub blocks_on : (s : List ℕ) (p n k : ℕ) (t : ⊤) → k < n → pair_fault s (p + 2 * k) 5 ≡ Ok t → blocks_fault s (p + 2 * (k + 1)) (n - (k + 1)) ≡ blocks_fault s (p + 2 * k) (n - k)
+unfolding blocks_fault first
+blocks_on s p n k t l h =
+    let e : p + 2 * (k + 1) ≡ p + 2 * k + 2 = omega arith in
+    rw (turn n k l, h, e)
 
-pub blocks_off : (s : List ℕ) (p n k : ℕ) → k < n → is_sound (pair_fault s p 5) ≡ false → blocks_fault s p (n - k) ≡ pair_fault s p 5
-unfolding blocks_fault
-blocks_off s p n k l h = rw (turn n k l) (stop _ _ h)
+pub entries_on : (s : List ℕ) (p n k : ℕ) (t : ⊤) → k < n → entry_fault s (p + 10 * k) ≡ Ok t → entries_fault s (p + 10 * (k + 1)) (n - (k + 1)) ≡ entries_fault s (p + 10 * k) (n - k)
+unfolding entries_fault first
+entries_on s p n k t l h =
+    let e : p + 10 * (k + 1) ≡ p + 10 * k + 10 = omega arith in
+    rw (turn n k l, h, e)
 
-pub blocks_end : (s : List ℕ) (p n k : ℕ) → n ≤ k → blocks_fault s p (n - k) ≡ Sound
-unfolding blocks_fault
-blocks_end s p n k l = let e : n - k ≡ 0 = omega arith in rw e
-
-pub entries_on : (s : List ℕ) (p n k : ℕ) → k < n → is_sound (entry_fault s p) ≡ true → entries_fault s p (n - k) ≡ entries_fault s (p + 10) (n - (k + 1))
-unfolding entries_fault
-entries_on s p n k l h = rw (turn n k l) (go _ _ h)
-
-pub entries_off : (s : List ℕ) (p n k : ℕ) → k < n → is_sound (entry_fault s p) ≡ false → entries_fault s p (n - k) ≡ entry_fault s p
-unfolding entries_fault
-entries_off s p n k l h = rw (turn n k l) (stop _ _ h)
-
-pub entries_end : (s : List ℕ) (p n k : ℕ) → n ≤ k → entries_fault s p (n - k) ≡ Sound
-unfolding entries_fault
-entries_end s p n k l = let e : n - k ≡ 0 = omega arith in rw e
-
-pub rows_on : (s : List ℕ) (p n k : ℕ) → k < n → is_sound (row_fault s p) ≡ true → rows_fault s p (n - k) ≡ rows_fault s (after_row s p) (n - (k + 1))
-unfolding rows_fault
-rows_on s p n k l h = rw (turn n k l) (go _ _ h)
-
-pub rows_off : (s : List ℕ) (p n k : ℕ) → k < n → is_sound (row_fault s p) ≡ false → rows_fault s p (n - k) ≡ row_fault s p
-unfolding rows_fault
-rows_off s p n k l h = rw (turn n k l) (stop _ _ h)
-
-pub rows_end : (s : List ℕ) (p n k : ℕ) → n ≤ k → rows_fault s p (n - k) ≡ demand (leb (length s) p) 23 p
-unfolding rows_fault
-rows_end s p n k l = let e : n - k ≡ 0 = omega arith in rw e
+pub rows_on : (s : List ℕ) (p n k c : ℕ) (t : ⊤) → k < n → row_fault s p ≡ Ok t → c ≡ short s p → rows_fault s (p + (2 + 10 * c)) (n - (k + 1)) ≡ rows_fault s p (n - k)
+unfolding rows_fault first
+rows_on s p n k c t l h e =
+    let f : after_row s p ≡ p + (2 + 10 * short s p) = omega arith in
+    rw (turn n k l, h, f, e)
 
 -- ---- what a sound part shows
 -- n sound blocks from p on are there
@@ -159,10 +137,6 @@ headed s h =
       limited = demanded _ 24 4 f.1;
       second = w.1;
     }
-
--- the version as the header tells it
-pub known_by : (s : List ℕ) (h : Head) (r b : Bool) → h ≡ head_of s → r ≡ eqb h.version 1 || eqb h.version 2 → r ≡ b → eqb (version s) 1 || is_second s ≡ b
-known_by s h r b eh er e = sym (er ∙ ap (λ (x : Head). eqb x.version 1 || eqb x.version 2) eh) ∙ e
 
 -- a version that is not 2 is 1
 left_or : (a : Bool) → a || false ≡ true → a ≡ true

@@ -1,23 +1,22 @@
 -- The numbers of a job's refusals: 20 to 25, and 1 of its sizes. Document 01, "The job and the program". Assumes nothing.
+use Rattle.std.specs.Prelude.{Ok, Err}
 use mathlib.Core.Path.{◌≡◌, refl}
 use mathlib.Core.Bool.{Bool, true, false}
 use mathlib.Core.List.{List}
 use Prim.Native.Nat.{ℕ, zero, suc, ◌+◌}
-use Rattle.job.specs.declared.faults.Fault.{Fault}
-use Rattle.job.specs.declared.faults.Fault.TheVariants.{Sound, At}
 use Rattle.job.specs.Format.{is_second, after_row, blocks, blocks_at, z_at, rows_in, short}
-use Rattle.job.specs.Faults.{demand, ◌▹◌, reaches, spare, pair_fault, blocks_fault, entry_fault, entries_fault, row_fault, rows_fault, common_fault, second_fault, head_fault, numbers_fault, body_fault, fault_of}
+use Rattle.job.specs.Faults.{Checked, demand, first, ◌▹◌, reaches, spare, pair_fault, blocks_fault, entry_fault, entries_fault, row_fault, rows_fault, common_fault, second_fault, head_fault, numbers_fault, body_fault, fault_of}
 
 -- P holds of the fault's number, if there is a fault
-abbrev pub Numbered : (ℕ → Type 0) → Fault → Type 0
-Numbered P Sound = Unit {0}
-Numbered P (At r b) = P r
+abbrev pub Numbered : (ℕ → Type 0) → Checked → Type 0
+Numbered P (Ok t) = Unit {0}
+Numbered P (Err e) = P e.number
 
 module _ (P : ℕ → Type 0) where
-  either : (f g : Fault) → Numbered P f → Numbered P g → Numbered P (f ▹ g)
-  unfolding ◌▹◌
-  either Sound g a b = b
-  either (At r c) g a b = a
+  either : (f g : Checked) → Numbered P f → Numbered P g → Numbered P (f ▹ g)
+  unfolding first
+  either (Ok t) g a b = b
+  either (Err e) g a b = a
 
   demanded : (t : Bool) (r b : ℕ) → P r → Numbered P (demand t r b)
   unfolding demand

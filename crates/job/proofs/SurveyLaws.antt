@@ -1,6 +1,8 @@
 -- What is found of a job, put together of its parts: the blocks that are kept, the sizes, and the faults from left to right. Assumes nothing.
+use Prim.{tt}
+use Rattle.std.specs.Prelude.{Result, Ok, Err, ⊤}
 use mathlib.Core.Path.{◌≡◌, refl, sym, ap, ◌∙◌}
-use mathlib.Core.Bool.{Bool, true, false, cond}
+use mathlib.Core.Bool.{Bool, true, false}
 use mathlib.Core.List.{List}
 use Prim.Native.Nat.{ℕ, ◌+◌, ◌*◌, ◌≤◌, ◌<◌}
 use lib.Dec.{leb}
@@ -10,7 +12,6 @@ use Rattle.bits.proofs.BitLaws.{bits_below}
 use Rattle.model.specs.Shape.{good_shape}
 use Rattle.model.specs.declared.sizes.Shape.{Shape}
 use Rattle.job.specs.declared.faults.Fault.{Fault}
-use Rattle.job.specs.declared.faults.Fault.TheVariants.{At}
 use Rattle.job.specs.declared.head.Head.{Head}
 use Rattle.job.specs.declared.sizes.Counts.{Counts}
 use Rattle.job.specs.declared.sizes.Places.{Places}
@@ -19,9 +20,9 @@ use Rattle.job.specs.Lists.{counts, laid}
 use Rattle.job.specs.Format.{blocks, blocks_at, groups, effects_in, shape_of, sizes_fit, z_at, rows_in}
 use Rattle.job.specs.Heads.{head_of}
 use Rattle.job.specs.Places.{counts_of, places_of}
-use Rattle.job.specs.Faults.{demand, ◌▹◌, is_sound, reaches, head_fault, blocks_fault, rows_fault, numbers_fault, body_fault, fault_of}
-use Rattle.job.specs.Survey.{no_shape, shape_kept, fits_by, Ranged, counts_by, places_by, unread_of, read_off, survey_by, survey_of}
-use Rattle.job.proofs.FaultLaws.{go, stop, regroup}
+use Rattle.job.specs.Faults.{Checked, demand, ◌▹◌, first, is_sound, reaches, head_fault, blocks_fault, rows_fault, numbers_fault, body_fault, fault_of}
+use Rattle.job.specs.Survey.{no_shape, shape_kept, fits_by, Ranged, counts_by, places_by, read_off, survey_by, survey_of}
+use Rattle.job.proofs.FaultLaws.{regroup}
 use Rattle.job.proofs.SizeLaws.{too_many, sizes_small}
 
 -- ---- the blocks that are kept
@@ -57,57 +58,50 @@ ranged s e =
     let m = sizes_small s e in
     record { good = m.good; rows = m.rows; wide = m.wide; weighed = bits_below s 9 1; moved = bits_below s 10 1 }
 
--- ---- what is found where the fault is f
-survey_yes : (f : Fault) (s : List ℕ) → is_sound f ≡ true → survey_by f s ≡ read_off f s
-unfolding survey_by
-survey_yes f s h = rw h
-
-survey_no : (f : Fault) (s : List ℕ) → is_sound f ≡ false → survey_by f s ≡ unread_of f
-unfolding survey_by
-survey_no f s h = rw h
-
 -- ---- past the blocks
 -- what is looked at once the sizes fit
-abbrev pub back_fault : List ℕ → Fault
+abbrev pub back_fault : List ℕ → Checked
 back_fault s = reaches s (8 * z_at s) ▹ rows_fault s (z_at s) (rows_in s)
 
 numbers_on : (s : List ℕ) → sizes_fit s ≡ true → numbers_fault s ≡ back_fault s
-unfolding numbers_fault demand ◌▹◌
+unfolding numbers_fault demand first
 numbers_on s e = rw e
 
-pub back_unfit : (s : List ℕ) → sizes_fit s ≡ false → unread_of (At 1 0) ≡ survey_by (numbers_fault s) s
-unfolding numbers_fault demand ◌▹◌ survey_by is_sound
-back_unfit s e = rw e
+-- the first fault is found, and where there is none, what the job says
+pub back_unfit : (s : List ℕ) (t : Bool) (e : Fault) (r : Result Survey Fault) → sizes_fit s ≡ t → demand t 1 0 ≡ Err e → r ≡ Err e → r ≡ survey_by (numbers_fault s) s
+unfolding numbers_fault first survey_by
+back_unfit s t e r k h q = rw (k, h) q
 
-pub back_faulty : (s : List ℕ) (f : Fault) → sizes_fit s ≡ true → f ≡ back_fault s → is_sound f ≡ false → unread_of f ≡ survey_by (numbers_fault s) s
-back_faulty s f e h k = sym (survey_no f s k) ∙ ap (λ (g : Fault). survey_by g s) (h ∙ sym (numbers_on s e))
+pub back_faulty : (s : List ℕ) (f : Checked) (e : Fault) (r : Result Survey Fault) → sizes_fit s ≡ true → f ≡ back_fault s → f ≡ Err e → r ≡ Err e → r ≡ survey_by (numbers_fault s) s
+unfolding survey_by
+back_faulty s f e r k h d q = rw (numbers_on s k, ← h, d) q
 
-pub back_sound : (s : List ℕ) (f : Fault) (h : Head) (b : Shape) (c : Counts) (p : Places) → sizes_fit s ≡ true → f ≡ back_fault s → is_sound f ≡ true
+pub back_sound : (s : List ℕ) (f : Checked) (t : ⊤) (h : Head) (b : Shape) (c : Counts) (p : Places) → sizes_fit s ≡ true → f ≡ back_fault s → f ≡ Ok t
     → h ≡ head_of s → b ≡ shape_of s → c ≡ counts_of s → p ≡ places_of s
-    → ◌≡◌ {A = Survey} (record { fault = f; head = h; shape = b; counts = c; places = p }) (survey_by (numbers_fault s) s)
-back_sound s f h b c p e g k eh eb ec ep =
-    (λ i. record { fault = f; head = eh i; shape = eb i; counts = ec i; places = ep i }) ∙ (sym (survey_yes f s k) ∙ ap (λ (x : Fault). survey_by x s) (g ∙ sym (numbers_on s e)))
+    → ◌≡◌ {A = Result Survey Fault} (Ok (record { head = h; shape = b; counts = c; places = p })) (survey_by (numbers_fault s) s)
+unfolding survey_by
+back_sound s f t h b c p k e d eh eb ec ep = rw (numbers_on s k, ← e, d) (λ i. Ok (record { head = eh i; shape = eb i; counts = ec i; places = ep i }))
 
 -- ---- the whole
 -- the header and the blocks
-abbrev pub front_fault : List ℕ → Fault
+abbrev pub front_fault : List ℕ → Checked
 front_fault s = head_fault s ▹ blocks_fault s (blocks_at s) (blocks s)
 
 whole_on : (s : List ℕ) → length s ≤ 65536 → fault_of s ≡ front_fault s ▹ numbers_fault s
-unfolding fault_of body_fault demand ◌▹◌
+unfolding fault_of body_fault demand first
 whole_on s l = rw (le-leb (length s) 65536 l) (sym (regroup (head_fault s) (blocks_fault s (blocks_at s) (blocks s)) (numbers_fault s)))
 
-pub whole_long : (s : List ℕ) → 65536 < length s → unread_of (At 25 65536) ≡ survey_of s
-unfolding fault_of demand ◌▹◌ survey_by is_sound
-whole_long s l = rw (lt-leb (length s) 65536 l)
+pub whole_long : (s : List ℕ) (t : Bool) (e : Fault) (r : Result Survey Fault) → leb (length s) 65536 ≡ t → demand t 25 65536 ≡ Err e → r ≡ Err e → r ≡ survey_of s
+unfolding fault_of first survey_by
+whole_long s t e r k h q = rw (k, h) q
 
-pub whole_faulty : (s : List ℕ) (f : Fault) → length s ≤ 65536 → f ≡ front_fault s → is_sound f ≡ false → unread_of f ≡ survey_of s
-whole_faulty s f l e k =
-    sym (survey_no f s k) ∙ ap (λ (g : Fault). survey_by g s) (sym (whole_on s l ∙ (ap (λ (g : Fault). g ▹ numbers_fault s) (sym e) ∙ stop f (numbers_fault s) k)))
+pub whole_faulty : (s : List ℕ) (f : Checked) (e : Fault) (r : Result Survey Fault) → length s ≤ 65536 → f ≡ front_fault s → f ≡ Err e → r ≡ Err e → r ≡ survey_of s
+unfolding survey_by first
+whole_faulty s f e r l h d q = rw (whole_on s l, ← h, d) q
 
-pub whole_back : (s : List ℕ) (f : Fault) → length s ≤ 65536 → f ≡ front_fault s → is_sound f ≡ true → survey_by (numbers_fault s) s ≡ survey_of s
-whole_back s f l e k =
-    ap (λ (g : Fault). survey_by g s) (sym (whole_on s l ∙ (ap (λ (g : Fault). g ▹ numbers_fault s) (sym e) ∙ go f (numbers_fault s) k)))
+pub whole_back : (s : List ℕ) (f : Checked) (t : ⊤) → length s ≤ 65536 → f ≡ front_fault s → f ≡ Ok t → survey_by (numbers_fault s) s ≡ survey_of s
+unfolding first
+whole_back s f t l h d = rw (whole_on s l, ← h, d)
 
 -- ---- what the functions answer, handed from one to the next
 pub fits_by_lem : (s : List ℕ) (h : Head) (b : Shape) (t : Bool) → h ≡ head_of s → b ≡ shape_kept s → fits_by h b ≡ t → sizes_fit s ≡ t
@@ -127,17 +121,27 @@ counts_by_lem s h b c e eh eb ec = ec ∙ (λ i. counts_by (eh i) (shape_by s b 
 pub places_by_lem : (s : List ℕ) (first : ℕ) (h : Head) (c : Counts) (p : Places) → first ≡ blocks_at s → h ≡ head_of s → c ≡ counts_of s → p ≡ places_by (first + 2 * h.blocks) c → p ≡ places_of s
 places_by_lem s first h c p ef eh ec ep = ep ∙ (λ i. places_by (ef i + 2 * (eh i).blocks) (ec i))
 
-pub back_by : (s : List ℕ) (f : Fault) (c : Counts) (p : Places) → c ≡ counts_of s → p ≡ places_of s → f ≡ reaches s (8 * p.z) ▹ rows_fault s p.z c.q → f ≡ back_fault s
+pub back_by : (s : List ℕ) (f : Checked) (c : Counts) (p : Places) → c ≡ counts_of s → p ≡ places_of s → f ≡ reaches s (8 * p.z) ▹ rows_fault s p.z c.q → f ≡ back_fault s
 back_by s f c p ec ep e = e ∙ (λ i. reaches s (8 * (ep i).z) ▹ rows_fault s (ep i).z (ec i).q)
 
 -- ---- what a caller knows of what is found
-one_fault : (f : Fault) (s : List ℕ) (t : Bool) → ◌≡◌ {A = Fault} (cond t (read_off f s) (unread_of f)).fault f
-one_fault f s true = refl
-one_fault f s false = refl
+-- the fault beside it, or none
+abbrev pub fault_in : Result Survey Fault → Checked
+fault_in (Ok v) = Ok tt
+fault_in (Err e) = Err e
 
-pub survey_fault : (s : List ℕ) (v : Survey) → v ≡ survey_of s → v.fault ≡ fault_of s
+one_fault : (f : Checked) (s : List ℕ) → fault_in (survey_by f s) ≡ f
 unfolding survey_by
-survey_fault s v e = ap (λ (x : Survey). x.fault) e ∙ one_fault (fault_of s) s (is_sound (fault_of s))
+one_fault (Ok t) s = refl
+one_fault (Err e) s = refl
 
-pub survey_sound : (s : List ℕ) (v : Survey) → v ≡ survey_of s → is_sound (fault_of s) ≡ true → v ≡ read_off (fault_of s) s
-survey_sound s v e h = e ∙ survey_yes (fault_of s) s h
+pub survey_fault : (s : List ℕ) (v : Result Survey Fault) → v ≡ survey_of s → fault_in v ≡ fault_of s
+survey_fault s v e = ap fault_in e ∙ one_fault (fault_of s) s
+
+pub survey_sound : (s : List ℕ) (v : Result Survey Fault) → v ≡ survey_of s → is_sound (fault_of s) ≡ true → v ≡ Ok (read_off s)
+unfolding survey_by is_sound
+survey_sound s v e h = e ∙ by (fault_of s) h
+  where
+    by : (f : Checked) → is_sound f ≡ true → survey_by f s ≡ Ok (read_off s)
+    by (Ok t) k = refl
+    by (Err x) k = cc

@@ -1,4 +1,5 @@
 -- The bytes of a sound job without NaN are `job_bytes` of its version and of what was read: part by part, each part of the file is written from the numbers that stand in it. Assumes nothing.
+use Rattle.std.specs.Prelude.{Some, None}
 use mathlib.Core.Path.{◌≡◌, refl, sym, ◌∙◌}
 use mathlib.Core.Bool.{Bool, true, false, not, cond}
 use mathlib.Core.List.{List, [], ◌∷◌, ◌++◌, append-nil}
@@ -16,7 +17,6 @@ use Rattle.base.proofs.Fills.{build_length, build_at}
 use Rattle.bits.specs.Bits.{bits_of, double_of}
 use Rattle.bits.proofs.BitLaws.{bits_below}
 use Rattle.model.specs.Names.{family_code, family_coded, link_code, link_coded, start_code, start_coded}
-use Rattle.model.specs.declared.names.Limit.TheVariants.{Given, NotGiven}
 use Rattle.model.specs.declared.names.Start.TheVariants.{Usual}
 use Rattle.job.specs.Lists.{join_to}
 use Rattle.job.specs.Format.{version, family_field, link_field, limit_field, is_second, start_field, blocks, blocks_at, block_at, groups, effects_in, shape_of, number, short, entry_at, column_read, value_read, row_at, start_of, rows_in, obs, cols, weighted, shifted, thetas, theta_at, y_at, weights_at, offset_at, x_at, z_at, sizes_fit}
@@ -54,7 +54,7 @@ pub limit_back : (l : ℕ) → limit_code (limit_from l) ≡ l
 unfolding limit_from limit_code
 limit_back l = by (eqb l 1023) refl
   where
-    by : (b : Bool) → eqb l 1023 ≡ b → limit_code (cond b NotGiven (Given l)) ≡ l
+    by : (b : Bool) → eqb l 1023 ≡ b → limit_code (cond b None (Some l)) ≡ l
     by true e = sym (eqb-true l 1023 e)
     by false e = refl
 

@@ -1,48 +1,38 @@
 -- What a job says, as the fit is given it, and reading as one function of the bytes. Document 01, "The job and the program"; document 02, P10, for the start. Assumes nothing.
-use Rattle.std.specs.Prelude.{cond, List, ℕ, ◌+◌, ◌*◌, eqb, Float}
+use Rattle.std.specs.Prelude.{cond, List, ℕ, ◌+◌, ◌*◌, eqb, Float, Option, Some, None, Ok, Err}
 use Rattle.base.specs.List.{build}
 use Rattle.base.specs.Sparse.{Sparse}
 use Rattle.model.specs.Names.{family_coded, link_coded, start_coded}
 use Rattle.model.specs.declared.names.Family.{Family}
 use Rattle.model.specs.declared.names.Family.TheVariants.{Binomial}
-use Rattle.model.specs.declared.names.FamilyFound.{FamilyFound}
-use Rattle.model.specs.declared.names.FamilyFound.TheVariants as familyFound
 use Rattle.model.specs.declared.names.Link.{Link}
 use Rattle.model.specs.declared.names.Link.TheVariants.{Logit}
-use Rattle.model.specs.declared.names.LinkFound.{LinkFound}
-use Rattle.model.specs.declared.names.LinkFound.TheVariants as linkFound
-use Rattle.model.specs.declared.names.Limit.{Limit}
-use Rattle.model.specs.declared.names.Limit.TheVariants.{Given, NotGiven}
 use Rattle.model.specs.declared.names.Start.{Start}
 use Rattle.model.specs.declared.names.Start.TheVariants.{Usual}
-use Rattle.model.specs.declared.names.StartFound.{StartFound}
-use Rattle.model.specs.declared.names.StartFound.TheVariants as startFound
 use Rattle.model.specs.declared.sizes.Shape.{Shape}
 use Rattle.model.specs.declared.sizes.Settings.{Settings}
-use Rattle.job.specs.declared.faults.Fault.{Fault}
-use Rattle.job.specs.declared.faults.Fault.TheVariants.{Sound, At}
 use Rattle.job.specs.Lists.{counts, join_to}
 use Rattle.job.specs.Format.{family_field, link_field, weighted, shifted, wish, obs, cols, limit_field, is_second, start_field, shape_of, rows_in, thetas, theta_at, y_at, weights_at, offset_at, x_at, number, row_at, start_of, short, column_read, value_read}
-use Rattle.job.specs.Faults.{fault_of}
+use Rattle.job.specs.Faults.{Checked, fault_of}
 
 -- the family that was found; a code of two bits always names one
-unfoldable pub family_from : FamilyFound → Family
-family_from (familyFound.Found f) = f
-family_from familyFound.NoSuch = Binomial
+unfoldable pub family_from : Option Family → Family
+family_from (Some f) = f
+family_from None = Binomial
 
 -- the link that was found; the code of a sound job always names one
-unfoldable pub link_from : LinkFound → Link
-link_from (linkFound.Found l) = l
-link_from linkFound.NoSuch = Logit
+unfoldable pub link_from : Option Link → Link
+link_from (Some l) = l
+link_from None = Logit
 
 -- "1023 = not given"
-unfoldable pub limit_from : ℕ → Limit
-limit_from l = cond (eqb l 1023) NotGiven (Given l)
+unfoldable pub limit_from : ℕ → Option ℕ
+limit_from l = cond (eqb l 1023) None (Some l)
 
 -- the start that was found; a code of one bit always names one
-unfoldable pub start_from : StartFound → Start
-start_from (startFound.Found t) = t
-start_from startFound.NoSuch = Usual
+unfoldable pub start_from : Option Start → Start
+start_from (Some t) = t
+start_from None = Usual
 
 -- "0 for the old start and 1 for R's"; "version 1 keeps the old start"
 unfoldable pub start_in : List ℕ → Start
@@ -107,9 +97,9 @@ pub data Read : Type 0 where
   sound : Job → Read
 
 -- what a fault, or none, makes of a job
-unfoldable pub read_by : Fault → Job → Read
-read_by Sound j = sound j
-read_by (At r b) j = faulty r b
+unfoldable pub read_by : Checked → Job → Read
+read_by (Ok t) j = sound j
+read_by (Err e) j = faulty e.number e.byte
 
 -- reading
 unfoldable pub read_of : List ℕ → Read

@@ -1,5 +1,5 @@
--- What is found of a job in one walk over its bytes: its fault, and of a sound job the header, the blocks, the counts and the places. Assumes nothing.
-use Rattle.std.specs.Prelude.{Bool, true, cond, ◌&&◌, List, ℕ, ◌+◌, ◌*◌, ◌≤◌, ◌<◌, ◌≡◌, leb, replicate}
+-- What is found of a job in one walk over its bytes: its fault, or of a sound job the header, the blocks, the counts and the places. Assumes nothing.
+use Rattle.std.specs.Prelude.{Bool, true, cond, ◌&&◌, List, ℕ, ◌+◌, ◌*◌, ◌≤◌, ◌<◌, ◌≡◌, leb, replicate, Result, Ok, Err}
 use Rattle.model.specs.Shape.{within, effects_of, theta_length, good_shape}
 use Rattle.model.specs.declared.sizes.Shape.{Shape}
 use Rattle.job.specs.declared.faults.Fault.{Fault}
@@ -10,7 +10,7 @@ use Rattle.job.specs.declared.survey.Survey.{Survey}
 use Rattle.job.specs.Format.{blocks, shape_of}
 use Rattle.job.specs.Heads.{head_of}
 use Rattle.job.specs.Places.{counts_of, places_of}
-use Rattle.job.specs.Faults.{is_sound, fault_of}
+use Rattle.job.specs.Faults.{Checked, fault_of}
 
 -- no blocks
 abbrev pub no_shape : Shape
@@ -49,25 +49,15 @@ places_by a c =
       z = a + 8 * c.thetas + 8 * c.n + 8 * c.weights + 8 * c.offset + 8 * c.x;
     }
 
--- a fault, and nothing beside it
-abbrev pub unread_of : Fault → Survey
-unread_of f =
-    record {
-      fault = f;
-      head = record { version = 0; family = 0; link = 0; weighted = 0; shifted = 0; n_agq = 0; n = 0; p = 0; blocks = 0; limit = 0 };
-      shape = no_shape;
-      counts = record { n = 0; q = 0; thetas = 0; weights = 0; offset = 0; x = 0 };
-      places = record { theta = 0; y = 0; weights = 0; offset = 0; x = 0; z = 0 };
-    }
+-- what a job says
+abbrev pub read_off : List ℕ → Survey
+read_off s = record { head = head_of s; shape = shape_of s; counts = counts_of s; places = places_of s }
 
--- no fault, and what a job says
-abbrev pub read_off : Fault → List ℕ → Survey
-read_off f s = record { fault = f; head = head_of s; shape = shape_of s; counts = counts_of s; places = places_of s }
-
--- what is found where the fault is f
-unfoldable pub survey_by : Fault → List ℕ → Survey
-survey_by f s = cond (is_sound f) (read_off f s) (unread_of f)
+-- what is found where the look at the job found f
+unfoldable pub survey_by : Checked → List ℕ → Result Survey Fault
+survey_by (Ok t) s = Ok (read_off s)
+survey_by (Err e) s = Err e
 
 -- what is found
-abbrev pub survey_of : List ℕ → Survey
+abbrev pub survey_of : List ℕ → Result Survey Fault
 survey_of s = survey_by (fault_of s) s

@@ -1,12 +1,11 @@
 -- The format in the writing direction: the bytes of a job, in version 1 or 2. Document 01, "The job and the program", and document 02, P10; requests P4, P11 and P14 stand on it. Assumes nothing.
+use Rattle.std.specs.Prelude.{Option, Some, None}
 use Rattle.std.specs.Prelude.{cond, List, [], ◌∷◌, ◌++◌, ℕ, zero, suc, ◌+◌, ◌*◌, ◌-◌, ◌/◌, ◌%◌, ◌^◌, Float, length}
 use Rattle.std.specs.Float.Ieee.{to_bits}
 use Rattle.std.specs.Float.{binary64}
 use Rattle.base.specs.Sum.{◌!◌, ◌!!◌}
 use Rattle.base.specs.Sparse.{Sparse}
 use Rattle.model.specs.Names.{family_code, link_code, start_code}
-use Rattle.model.specs.declared.names.Limit.{Limit}
-use Rattle.model.specs.declared.names.Limit.TheVariants.{Given, NotGiven}
 use Rattle.model.specs.declared.names.Start.{Start}
 use Rattle.model.specs.declared.sizes.Shape.{Shape}
 use Rattle.job.specs.Lists.{join_to}
@@ -38,9 +37,9 @@ present [] = 0
 present (x ∷ xs) = 1
 
 -- "1023 = not given"
-unfoldable pub limit_code : Limit → ℕ
-limit_code (Given l) = l
-limit_code NotGiven = 1023
+unfoldable pub limit_code : Option ℕ → ℕ
+limit_code (Some l) = l
+limit_code None = 1023
 
 -- the two versions of the format
 pub data Version : Type 0 where

@@ -1,249 +1,181 @@
 // The faults of a job's parts, from left to right, in a walk over the bytes that writes nothing.
-ghost use Rattle.std.specs.Prelude.{◌||◌, ◌≡◌, ◌+◌, ◌*◌, ◌≤◌, ◌<◌, eqb, length};
+#![tactic(auto, unfolding(crate::specs::Faults::demand, crate::specs::Faults::first, crate::specs::Faults::is_sound, crate::specs::Faults::reaches, crate::specs::Faults::spare, crate::specs::Faults::common_fault, crate::specs::Faults::second_fault, crate::specs::Faults::head_fault, crate::specs::Faults::pair_fault, crate::specs::Faults::blocks_fault, crate::specs::Faults::entry_fault, crate::specs::Faults::entries_fault, crate::specs::Faults::row_fault, crate::specs::Faults::rows_fault))]
+
+ghost use Rattle.std.specs.Prelude.{◌||◌, ◌&&◌, ◌≡◌, ◌+◌, ◌*◌, ◌≤◌, ◌<◌, not, eqb, ltb, length};
 ghost use Rattle.job.specs.Format.{blocks, blocks_at};
 ghost use Rattle.job.specs.Heads.{head_of};
-ghost use Rattle.job.specs.Faults.{demand, ◌▹◌, is_sound, reaches, common_fault, second_fault, head_fault, pair_fault, blocks_fault, entry_fault, entries_fault, row_fault, rows_fault};
+ghost use Rattle.job.specs.Faults.{demand, ◌▹◌, is_sound, reaches, spare, common_fault, second_fault, head_fault, pair_fault, blocks_fault, entry_fault, entries_fault, row_fault, rows_fault};
 
-use crate::head::{Head, piece_in};
+use crate::head::Head;
 use crate::sizes::blocks_at;
 
-// What is wrong with a job: nothing, or a refusal's number and its byte.
-#[derive(Clone, Copy)]
-pub enum Fault {
-    Sound,
-    At(u64, usize),
+// What is wrong with a job: a refusal's number, under which document 01 has it printed, and its byte.
+#[derive(Clone, Copy, Debug, PartialEq, Eq)]
+pub struct Fault {
+    pub number: u64,
+    pub byte: usize,
 }
 
-// Whether the part that was looked at has no fault, so that the next may be.
-pub fn is_sound(f: Fault) -> bool
-    ensures { result ≡ is_sound f }
+// Whether the part that was looked at has no fault.
+pub fn is_sound(found: Result<(), Fault>) -> bool
+    ensures { result ≡ is_sound found }
 {
-    match f {
-        Fault::Sound => true,
-        Fault::At(_, _) => false,
+    found.is_ok()
+}
+
+// A refusal at a byte, unless the test holds.
+pub fn demand(holds: bool, number: u64, byte: usize) -> Result<(), Fault>
+    ensures { result ≡ demand holds number byte }
+{
+    if holds {
+        Ok(())
+    } else {
+        Err(Fault { number, byte })
     }
+}
+
+// The job goes on to bit `bits` at least.
+fn reaches(s: &[u8], bits: usize) -> Result<(), Fault>
+    requires { length s.now ≤ 65536 }
+    ensures { result ≡ reaches s.now bits }
+{
+    let end = s.len();
+    demand(bits <= end * 8, 20, end)
+}
+
+// The `width` bits from bit `at` on, which lie in one byte, are zero bits.
+fn spare(s: &[u8], at: usize, width: usize) -> Result<(), Fault>
+    requires { (at ≤ 40000000) × (width ≤ 16) }
+    ensures { result ≡ spare s.now at width }
+{
+    demand(bits::field_at(s, at, width) == 0, 22, at / 8)
 }
 
 // Whether a version is one that is read.
 fn known_version(version: usize) -> bool
     ensures { result ≡ eqb version 1 || eqb version 2 }
 {
-    if version == 1 {
-        return true;
-    }
-    version == 2
+    version == 1 || version == 2
+}
+
+// Whether a limit is one that may be given, or is not given.
+fn known_limit(limit: usize) -> bool
+    ensures { result ≡ not (ltb 1000 limit && ltb limit 1023) }
+{
+    limit <= 1000 || 1023 <= limit
 }
 
 // The header's 48 bits: version, link and limit, each once its bits are there.
-fn common_fault(s: &[u8], head: Head) -> Fault
+fn common_fault(s: &[u8], head: Head) -> Result<(), Fault>
     requires { (length s.now ≤ 65536) × (head ≡ head_of s.now) }
     ensures { result ≡ common_fault s.now }
 {
-    let end = s.len();
-    if end < 1 {
-        return Fault::At(20, end);
-    }
-    let known = known_version(head.version);
-    if !known {
-        return Fault::At(21, 0);
-    }
-    if end < 2 {
-        return Fault::At(20, end);
-    }
-    if 7 <= head.link {
-        return Fault::At(24, 0);
-    }
-    if end < 6 {
-        return Fault::At(20, end);
-    }
-    if 1000 < head.limit {
-        if head.limit < 1023 {
-            return Fault::At(24, 4);
-        }
-    }
-    Fault::Sound
-}
-
-// The bits behind a number, which are zero bits, stand in the byte behind p.
-fn spare_fault(zeros: usize, p: usize) -> Fault
-    requires { p ≤ 4000000 }
-    ensures { result ≡ demand (eqb zeros 0) 22 (p + 1) }
-{
-    if zeros != 0 {
-        return Fault::At(22, p + 1);
-    }
-    Fault::Sound
+    reaches(s, 4)?;
+    demand(known_version(head.version), 21, 0)?;
+    reaches(s, 9)?;
+    demand(head.link < 7, 24, 0)?;
+    reaches(s, 48)?;
+    demand(known_limit(head.limit), 24, 4)
 }
 
 // The byte behind them in version 2: the last seven bits are zero bits.
-fn second_fault(s: &[u8], head: Head) -> Fault
-    requires { head ≡ head_of s.now }
+fn second_fault(s: &[u8], head: Head) -> Result<(), Fault>
+    requires { (length s.now ≤ 65536) × (head ≡ head_of s.now) }
     ensures { result ≡ second_fault s.now }
 {
-    if head.version != 2 {
-        return Fault::Sound;
+    if head.version == 2 {
+        reaches(s, 56)?;
+        spare(s, 49, 7)
+    } else {
+        Ok(())
     }
-    let end = s.len();
-    if end < 7 {
-        return Fault::At(20, end);
-    }
-    let zeros = bits::field_at(s, 49, 7);
-    spare_fault(zeros, 5)
 }
 
 // The header.
-fn head_fault(s: &[u8], head: Head) -> Fault
+fn head_fault(s: &[u8], head: Head) -> Result<(), Fault>
     requires { (length s.now ≤ 65536) × (head ≡ head_of s.now) }
     ensures { result ≡ head_fault s.now }
 {
-    let f = common_fault(s, head);
-    let ok = is_sound(f);
-    if !ok {
-        return f;
-    }
+    common_fault(s, head)?;
     second_fault(s, head)
 }
 
-// Two bytes at p, the last three bits of which are zero bits.
-fn pair_fault(s: &[u8], p: usize) -> Fault
-    requires { (length s.now ≤ 65536) × (p ≤ 4000000) }
-    ensures { result ≡ pair_fault s.now p 3 }
+// Two bytes at p, the last `width` bits of which are zero bits: a block, a row's count, an entry's column.
+fn pair_fault(s: &[u8], p: usize, width: usize) -> Result<(), Fault>
+    requires { (length s.now ≤ 65536) × (p ≤ 4000000) × (width ≤ 16) }
+    ensures { result ≡ pair_fault s.now p width }
 {
-    let end = s.len();
-    if end < p + 2 {
-        return Fault::At(20, end);
-    }
-    let zeros = bits::field_at(s, 8 * p + 13, 3);
-    spare_fault(zeros, p)
-}
-
-// A block at byte p.
-fn block_fault(s: &[u8], p: usize) -> Fault
-    requires { (length s.now ≤ 65536) × (p ≤ 4000000) }
-    ensures { result ≡ pair_fault s.now p 5 }
-{
-    let end = s.len();
-    if end < p + 2 {
-        return Fault::At(20, end);
-    }
-    let piece = piece_in(s, 8 * p);
-    spare_fault(piece.zeros, p)
+    reaches(s, 8 * p + 16)?;
+    spare(s, 8 * p + (16 - width), width)
 }
 
 // n blocks from byte p on.
-fn blocks_fault(s: &[u8], p: usize, n: usize) -> Fault
+fn blocks_fault(s: &[u8], p: usize, n: usize) -> Result<(), Fault>
     requires { (length s.now ≤ 65536) × (p ≤ 65536) × (n ≤ 15) }
     ensures { result ≡ blocks_fault s.now p n }
 {
-    let mut at = p;
-    let mut i = 0;
-    while i < n {
-        let f = block_fault(s, at);
-        let ok = is_sound(f);
-        if !ok {
-            return f;
-        }
-        at += 2;
-        i += 1;
+    for i in 0..n {
+        pair_fault(s, p + 2 * i, 5)?;
     }
-    Fault::Sound
+    Ok(())
 }
 
 // An entry of Z' at byte p: a column and a double.
-fn entry_fault(s: &[u8], p: usize) -> Fault
+fn entry_fault(s: &[u8], p: usize) -> Result<(), Fault>
     requires { (length s.now ≤ 65536) × (p ≤ 4000000) }
     ensures { result ≡ entry_fault s.now p }
 {
-    let f = pair_fault(s, p);
-    let ok = is_sound(f);
-    if !ok {
-        return f;
-    }
-    let end = s.len();
-    if end < p + 10 {
-        return Fault::At(20, end);
-    }
-    Fault::Sound
+    pair_fault(s, p, 3)?;
+    reaches(s, 8 * p + 80)
 }
 
 // n entries from byte p on.
-fn entries_fault(s: &[u8], p: usize, n: usize) -> Fault
+fn entries_fault(s: &[u8], p: usize, n: usize) -> Result<(), Fault>
     requires { (length s.now ≤ 65536) × (p ≤ 3000010) × (n < 8192) }
     ensures { result ≡ entries_fault s.now p n }
 {
-    let mut at = p;
-    let mut i = 0;
-    while i < n {
-        let f = entry_fault(s, at);
-        let ok = is_sound(f);
-        if !ok {
-            return f;
-        }
-        at += 10;
-        i += 1;
+    for i in 0..n {
+        entry_fault(s, p + 10 * i)?;
     }
-    Fault::Sound
+    Ok(())
 }
 
 // The row of Z' at byte p.
-fn row_fault(s: &[u8], p: usize) -> Fault
+fn row_fault(s: &[u8], p: usize) -> Result<(), Fault>
     requires { (length s.now ≤ 65536) × (p < 3000000) }
     ensures { result ≡ row_fault s.now p }
 {
-    let f = pair_fault(s, p);
-    let ok = is_sound(f);
-    if !ok {
-        return f;
-    }
-    let count = bits::field_at(s, 8 * p, 13);
-    entries_fault(s, p + 2, count)
+    pair_fault(s, p, 3)?;
+    entries_fault(s, p + 2, bits::field_at(s, 8 * p, 13))
 }
 
 // n rows of Z' from byte p on, and then the end of the job.
-fn rows_fault(s: &[u8], p: usize, n: usize) -> Fault
+fn rows_fault(s: &[u8], p: usize, n: usize) -> Result<(), Fault>
     requires { (length s.now ≤ 65536) × (p ≤ 100000) × (n ≤ 32) }
     ensures { result ≡ rows_fault s.now p n }
 {
     let mut at = p;
-    let mut i = 0;
-    while i < n {
-        let f = row_fault(s, at);
-        let ok = is_sound(f);
-        if !ok {
-            return f;
-        }
-        let count = bits::field_at(s, 8 * at, 13);
-        at = at + 2 + 10 * count;
-        i += 1;
+    for i in 0..n {
+        row_fault(s, at)?;
+        at += 2 + 10 * bits::field_at(s, 8 * at, 13);
     }
-    if at < s.len() {
-        return Fault::At(23, at);
-    }
-    Fault::Sound
+    demand(s.len() <= at, 23, at)
 }
 
 // The header, and then its blocks.
-pub fn front_fault(s: &[u8], head: Head) -> Fault
+pub fn front_fault(s: &[u8], head: Head) -> Result<(), Fault>
     requires { (length s.now ≤ 65536) × (head ≡ head_of s.now) }
     ensures { result ≡ head_fault s.now ▹ blocks_fault s.now (blocks_at s.now) (blocks s.now) }
 {
-    let f = head_fault(s, head);
-    let ok = is_sound(f);
-    if !ok {
-        return f;
-    }
-    let first = blocks_at(s);
-    blocks_fault(s, first, head.blocks)
+    head_fault(s, head)?;
+    blocks_fault(s, blocks_at(s), head.blocks)
 }
 
 // The doubles up to byte z, and then the q rows of Z'.
-pub fn back_fault(s: &[u8], z: usize, q: usize) -> Fault
+pub fn back_fault(s: &[u8], z: usize, q: usize) -> Result<(), Fault>
     requires { (length s.now ≤ 65536) × (z ≤ 100000) × (q ≤ 32) }
     ensures { result ≡ reaches s.now (8 * z) ▹ rows_fault s.now z q }
 {
-    let end = s.len();
-    if end < z {
-        return Fault::At(20, end);
-    }
+    reaches(s, 8 * z)?;
     rows_fault(s, z, q)
 }

@@ -31,14 +31,11 @@ pub struct Places {
 }
 
 // The byte at which the blocks begin: the header of version 2 is a byte longer.
+#[tactic(auto, unfolding(crate::specs::Format::blocks_at))]
 pub fn blocks_at(s: &[u8]) -> usize
     ensures { result ≡ blocks_at s.now }
 {
-    let version = bits::field_at(s, 0, 4);
-    if version == 2 {
-        return 7;
-    }
-    6
+    if bits::field_at(s, 0, 4) == 2 { 7 } else { 6 }
 }
 
 // No blocks.
@@ -64,12 +61,10 @@ pub fn shape_in(s: &[u8], head: Head) -> Shape
     let first = blocks_at(s);
     let mut m = [0usize; 8];
     let mut k = [0usize; 8];
-    let mut i = 0;
-    while i < count {
+    for i in 0..count {
         let piece = piece_in(s, 8 * (first + 2 * i));
         m[i] = piece.m;
         k[i] = piece.k;
-        i += 1;
     }
     Shape { count, m, k }
 }
@@ -78,21 +73,7 @@ pub fn shape_in(s: &[u8], head: Head) -> Shape
 pub fn sizes_fit(head: Head, shape: Shape) -> bool
     ensures { result ≡ fits_by head shape }
 {
-    let n = head.n;
-    if n < 1 {
-        return false;
-    }
-    if 512 < n {
-        return false;
-    }
-    let p = head.p;
-    if p < 1 {
-        return false;
-    }
-    if 16 < p {
-        return false;
-    }
-    model::shape_ok(shape)
+    (1..=512).contains(&head.n) && (1..=16).contains(&head.p) && model::shape_ok(shape)
 }
 
 // Products of numbers in range are small.

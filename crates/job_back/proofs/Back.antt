@@ -1,4 +1,6 @@
 -- A job that is written is read as it was: its bytes have no fault, and what stands in them is what was written. Assumes nothing.
+use Prim.{tt}
+use Rattle.std.specs.Prelude.{Ok}
 use mathlib.Core.Path.{◌≡◌, refl, sym, ap, ◌∙◌}
 use mathlib.Core.Bool.{true}
 use mathlib.Core.List.{List}
@@ -13,10 +15,9 @@ use Rattle.model.specs.Names.{family_coded, link_coded}
 use Rattle.model.specs.Shape.{within, effects_of, theta_length, good_shape, InRange}
 use Rattle.model.proofs.Shapes.{in_range_lem}
 use Rattle.model.proofs.Tests.{joined, to_within}
-use Rattle.job.specs.declared.faults.Fault.TheVariants.{Sound}
 use Rattle.job.specs.Lists.{counts, join_to}
 use Rattle.job.specs.Format.{family_field, link_field, limit_field, weighted, shifted, obs, cols, blocks, blocks_at, shape_of, rows_in, thetas, sizes_fit, theta_at, y_at, weights_at, offset_at, x_at, z_at, row_at, start_of}
-use Rattle.job.specs.Faults.{demand, ◌▹◌, head_fault, blocks_fault, rows_fault, row_fault, numbers_fault, body_fault, fault_of}
+use Rattle.job.specs.Faults.{demand, first, head_fault, blocks_fault, rows_fault, row_fault, numbers_fault, body_fault, fault_of}
 use Rattle.job.specs.Job.{Job, family_from, link_from, limit_from, start_in, settings_of, columns_of, values_of, sparse_of, sound, job_of, read_by, read_of}
 use Rattle.job.specs.Write.{present, Version, version2, head_length, numbers_bytes, row_count, row_bytes, job_bytes}
 use Rattle.job.proofs.FaultLaws.{reach_yes}
@@ -138,17 +139,17 @@ module _ (v : Version) (j : Job) (q : Sayable v j) where
   zeros : v ≡ version2 → bits_of (job_bytes v j) 49 7 ≡ 0
   zeros = zeros_said v j (job_bytes v j) (job_bytes_lem v j) placed.has_head
 
-  head_ok : head_fault (job_bytes v j) ≡ Sound
+  head_ok : head_fault (job_bytes v j) ≡ Ok tt
   head_ok =
       head_sound v (job_bytes v j) (omega (arith, ends, z_at_lem)) said.versioned zeros (rw said.link (link_few j.settings.link))
       (limit_in j.settings.limit (limit_field (job_bytes v j)) q.settings.limit said.limit)
 
-  blocks_ok : (n : ℕ) → n ≡ j.shape.count → blocks_fault (job_bytes v j) (blocks_at (job_bytes v j)) n ≡ Sound
+  blocks_ok : (n : ℕ) → n ≡ j.shape.count → blocks_fault (job_bytes v j) (blocks_at (job_bytes v j)) n ≡ Ok tt
   blocks_ok n e =
       rw blocks_at_lem
       (blocks_sound (job_bytes v j) (head_length v) n (λ i l. pair_sound (job_bytes v j) (head_length v + 2 * i) 5 (omega (arith, ends, z_at_lem)) (block i (omega arith)).spare))
 
-  row_ok : (r : ℕ) → r < j.settings.rows → row_fault (job_bytes v j) (row_at (job_bytes v j) r) ≡ Sound
+  row_ok : (r : ℕ) → r < j.settings.rows → row_fault (job_bytes v j) (row_at (job_bytes v j) r) ≡ Ok tt
   row_ok r l =
       let next = start_few j.z j.settings.rows j.settings.entries q.z (r + 1) (omega arith) in
       let up = q.z.rising r l in
@@ -157,7 +158,7 @@ module _ (v : Version) (j : Job) (q : Sayable v j) where
       (row_sound (job_bytes v j) (z_at (job_bytes v j) + (2 * r + 10 * (j.z.starts !! r))) (row_count j.z r) (omega (arith, ends)) here.spare here.said
       (λ i m. entry_sound (job_bytes v j) (z_at (job_bytes v j) + (2 * r + 10 * (j.z.starts !! r)) + 2 + 10 * i) (omega (arith, ends)) (entry_said (job_bytes v j) (job_bytes_lem v j) j.z j.settings.rows j.settings.entries q.z few (z_at (job_bytes v j)) has_z r i l m).column.spare))
 
-  rows_ok : (n : ℕ) → n ≡ j.settings.rows → rows_fault (job_bytes v j) (row_at (job_bytes v j) 0) n ≡ Sound
+  rows_ok : (n : ℕ) → n ≡ j.settings.rows → rows_fault (job_bytes v j) (row_at (job_bytes v j) 0) n ≡ Ok tt
   rows_ok n e =
       rows_sound (job_bytes v j) 0 n (λ i l. rw (zero-add i) (row_ok i (omega arith)))
       (rw (zero-add n, e, (place j.settings.rows (omega arith)).0, q.z.last) (omega (arith, ends)))
@@ -170,8 +171,8 @@ module _ (v : Version) (j : Job) (q : Sayable v j) where
       let h : good_shape (shape_of (job_bytes v j)) ≡ true = ap good_shape shaped ∙ q.shape.good in
       joined n (joined p h)
 
-  no_fault : fault_of (job_bytes v j) ≡ Sound
-  unfolding fault_of body_fault numbers_fault demand ◌▹◌ row_at
+  no_fault : fault_of (job_bytes v j) ≡ Ok tt
+  unfolding fault_of body_fault numbers_fault demand first row_at
   no_fault =
       rw (
         le-leb (length (job_bytes v j)) 65536 q.short,

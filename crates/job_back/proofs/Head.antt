@@ -1,4 +1,5 @@
 -- The header of a written job says what was written. Assumes nothing.
+use Rattle.std.specs.Prelude.{Option, Some, None}
 use mathlib.Core.Path.{◌≡◌, refl, sym, ◌∙◌}
 use mathlib.Core.Bool.{true}
 use mathlib.Core.List.{List, [], ◌∷◌}
@@ -14,8 +15,6 @@ use Rattle.model.specs.declared.names.Family.{Family}
 use Rattle.model.specs.declared.names.Family.TheVariants.{Binomial, Poisson, Gaussian, Gamma}
 use Rattle.model.specs.declared.names.Link.{Link}
 use Rattle.model.specs.declared.names.Link.TheVariants.{Logit, Probit, Cloglog, Log, Identity, Inverse, Sqrt}
-use Rattle.model.specs.declared.names.Limit.{Limit}
-use Rattle.model.specs.declared.names.Limit.TheVariants.{Given, NotGiven}
 use Rattle.model.specs.declared.names.Start.{Start}
 use Rattle.model.specs.declared.names.Start.TheVariants.{Usual, Trials}
 use Rattle.bits.specs.Bits.{bits_of}
@@ -52,10 +51,10 @@ present_few [] = omega arith
 present_few (x ∷ xs) = omega arith
 
 -- a limit is at most 1000, or 1023 for 'not given'
-pub limit_code_lem : (l : Limit) → good_limit l ≡ true → limit_code l < 1024
+pub limit_code_lem : (l : Option ℕ) → good_limit l ≡ true → limit_code l < 1024
 unfolding good_limit limit_code
-limit_code_lem (Given k) e = omega (arith, leb-true k 1000 e)
-limit_code_lem NotGiven e = omega arith
+limit_code_lem (Some k) e = omega (arith, leb-true k 1000 e)
+limit_code_lem None e = omega arith
 
 pub family_again : (f : Family) → family_from (family_coded (family_code f)) ≡ f
 unfolding family_from
@@ -69,10 +68,10 @@ pub start_again : (t : Start) → start_from (start_coded (start_code t)) ≡ t
 unfolding start_from
 start_again t = rw (start_of_code t)
 
-pub limit_again : (l : Limit) → good_limit l ≡ true → limit_from (limit_code l) ≡ l
+pub limit_again : (l : Option ℕ) → good_limit l ≡ true → limit_from (limit_code l) ≡ l
 unfolding good_limit limit_code limit_from
-limit_again (Given k) e = rw (ne_eqb k 1023 (λ q. omega (arith, leb-true k 1000 e)))
-limit_again NotGiven e = refl
+limit_again (Some k) e = rw (ne_eqb k 1023 (λ q. omega (arith, leb-true k 1000 e)))
+limit_again None e = refl
 
 -- ---- the fields
 pub record HeadSaid (v : Version) (j : Job) (s : List ℕ) : Type 0 where

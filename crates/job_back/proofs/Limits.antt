@@ -1,12 +1,12 @@
 -- A sound job with another limit in the limit's field is read as the call that it was, with that limit. Document 02, P13. Assumes nothing.
+use Prim.{tt}
+use Rattle.std.specs.Prelude.{Some, Ok}
 use mathlib.Core.Path.{◌≡◌, refl}
 use mathlib.Core.List.{List}
 use Prim.Native.Nat.{ℕ, ◌≤◌}
 use native.Mathlib.Omega.{arith}
 use borrow.Author.Tests.{le-leb}
 use Rattle.model.specs.Settings.{good_limit}
-use Rattle.model.specs.declared.names.Limit.TheVariants.{Given}
-use Rattle.job.specs.declared.faults.Fault.TheVariants.{Sound}
 use Rattle.job.specs.Faults.{is_sound, fault_of}
 use Rattle.job.specs.Job.{Job, job_of, sound, read_of}
 use Rattle.job.specs.Write.{Version, version_of, job_bytes}
@@ -20,7 +20,7 @@ abbrev pub limited_job : ℕ → Job → Job
 limited_job M j =
     let t = j.settings in
     record {
-      settings = record { family = t.family; link = t.link; n_agq = t.n_agq; limit = Given M; n = t.n; p = t.p; rows = t.rows; entries = t.entries; start = t.start };
+      settings = record { family = t.family; link = t.link; n_agq = t.n_agq; limit = Some M; n = t.n; p = t.p; rows = t.rows; entries = t.entries; start = t.start };
       shape = j.shape;
       theta = j.theta;
       y = j.y;
@@ -57,6 +57,6 @@ limited_sayable v M j m q =
       short = omega (arith, q.short, job_length v (limited_job M j), job_length v j);
     }
 
-pub limited_read : (s : List ℕ) (M : ℕ) → fault_of s ≡ Sound → M ≤ 1000 → read_of (limited_bytes M s) ≡ sound (limited_job M (job_of s))
+pub limited_read : (s : List ℕ) (M : ℕ) → fault_of s ≡ Ok tt → M ≤ 1000 → read_of (limited_bytes M s) ≡ sound (limited_job M (job_of s))
 unfolding is_sound
 limited_read s M e m = read_back (version_of s) (limited_job M (job_of s)) (limited_sayable (version_of s) M (job_of s) m (read_sayable s (rw e refl)))

@@ -1,4 +1,6 @@
 -- A higher limit changes nothing of what a call of a job tells and leaves where the number told is not 13, and no count of its work shrinks. Document 02, P13. Assumes nothing.
+use Prim.{tt}
+use Rattle.std.specs.Prelude.{Ok}
 use mathlib.Core.Path.{◌≡◌, refl, ap}
 use mathlib.Core.Bool.{Bool, true, false}
 use mathlib.Core.List.{List}
@@ -14,7 +16,6 @@ use Rattle.model.specs.Names.{limit_of}
 use Rattle.model.specs.declared.ends.Answer.{Answer}
 use Rattle.model.specs.declared.sizes.Shape.{Shape}
 use Rattle.model.specs.declared.sizes.Settings.{Settings}
-use Rattle.job.specs.declared.faults.Fault.TheVariants.{Sound}
 use Rattle.job.specs.Faults.{fault_of}
 use Rattle.job.specs.Lists.{laid}
 use Rattle.job.specs.Job.{Job, sound, job_of, read_by, read_of}
@@ -87,7 +88,7 @@ module _ (j : Job) (B : Buffers) (M : ℕ) (higher : limit_of j.settings.limit j
       by false e = rw e (as_before B.counts)
 
 -- ---- the bytes of a sound job, and a limit from its own to 1000; one that is not given counts as 100, with the inverse link as 1000
-module _ (s : List ℕ) (e : fault_of s ≡ Sound) (B : Buffers) (M : ℕ) (higher : limit_of (job_of s).settings.limit (job_of s).settings.link ≤ M) (few : M ≤ 1000) where
+module _ (s : List ℕ) (e : fault_of s ≡ Ok tt) (B : Buffers) (M : ℕ) (higher : limit_of (job_of s).settings.limit (job_of s).settings.link ≤ M) (few : M ≤ 1000) where
   sound_read : read_of s ≡ sound (job_of s)
   unfolding read_of read_by
   sound_read = rw e refl

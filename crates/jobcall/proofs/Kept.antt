@@ -1,4 +1,5 @@
 -- A call that returns another number than 0 leaves all buffers but the counts as they were lent. Assumes nothing.
+use Rattle.std.specs.Prelude.{Ok, Err, Result}
 use mathlib.Core.Path.{◌≡◌, refl}
 use mathlib.Core.Bool.{Bool, true, false}
 use mathlib.Core.List.{List}
@@ -17,11 +18,9 @@ use Rattle.model.specs.declared.sizes.Settings.{Settings}
 use Rattle.job.specs.Job.{Read, faulty, sound, read_of}
 use Rattle.model.specs.Inputs.{Inputs}
 use Rattle.table.specs.Table.{table_of}
-use Rattle.table.specs.declared.verdicts.Verdict.{Verdict}
-use Rattle.table.specs.declared.verdicts.Verdict.TheVariants.{Accepted, Refused}
 use Rattle.family.specs.declared.carried.CarriedFamily.{CarriedFamily}
 use Rattle.family.specs.declared.carried.CarriedLink.{CarriedLink}
-use Rattle.dispersion.specs.Rounds.{Result, result, no_result, Dispersed}
+use Rattle.dispersion.specs.Rounds.{Result as FitResult, result, no_result, Dispersed}
 use Rattle.call.specs.Fit.{Fitted}
 use Rattle.call.specs.Call.{Lent, lengths_of, call_of}
 use Rattle.call.proofs.Leaves.{refused_left, asked_fit, unfitted_answer_lem, fitted_number}
@@ -53,15 +52,15 @@ module _ (t : Settings) (s : Shape) (I : Inputs) (rows matrices terms results : 
   given = lent_for t rows matrices terms results
 
   -- an accepted call returns 0, whatever it came to
-  accepted_returned : (f : CarriedFamily) (l : CarriedLink) → table_of 1 t s I (lengths_of given) ≡ Accepted f l → returned_by (done_for t s I rows matrices terms results).answer.number ≡ 0
+  accepted_returned : (f : CarriedFamily) (l : CarriedLink) → table_of 1 t s I (lengths_of given) ≡ Ok (f, l) → returned_by (done_for t s I rows matrices terms results).answer.number ≡ 0
   unfolding done_for done_of
   accepted_returned f l e = by (asked_fit f l t s I).outcome refl
     where
-      by : (x : Result (Dispersed Fitted)) → (asked_fit f l t s I).outcome ≡ x → returned_by (call_of t s I given).answer.number ≡ 0
+      by : (x : FitResult (Dispersed Fitted)) → (asked_fit f l t s I).outcome ≡ x → returned_by (call_of t s I given).answer.number ≡ 0
       by (no_result end) q = rw (unfitted_answer_lem t s I given f l e end q) (end_returned end)
       by (result d) q = rw (fitted_number t s I given f l e d q) fitted_returned
 
-  refused_done : (r : Refusal) → table_of 1 t s I (lengths_of given) ≡ Refused r → done_for t s I rows matrices terms results ≡ done (blank_answer (refusal_number r) no_counts) rows matrices terms results
+  refused_done : (r : Refusal) → table_of 1 t s I (lengths_of given) ≡ Err r → done_for t s I rows matrices terms results ≡ done (blank_answer (refusal_number r) no_counts) rows matrices terms results
   unfolding done_for done_of results_by lent_for
   refused_done r e = rw (refused_left t s I given r e, ne_eqb (refusal_number r) 0 (refusal_some r)) refl
 
@@ -70,9 +69,9 @@ module _ (t : Settings) (s : Shape) (I : Inputs) (rows matrices terms results : 
   unfolding told_by
   call_kept counts h = by (table_of 1 t s I (lengths_of given)) refl
     where
-      by : (x : Verdict) → table_of 1 t s I (lengths_of given) ≡ x → AsLent (record { rows = rows; matrices = matrices; terms = terms; results = results; counts = counts }) (told_by (done_for t s I rows matrices terms results) counts).after
-      by (Accepted f l) e = absurd (h (accepted_returned f l e))
-      by (Refused r) e = rw (refused_done r e) (record { rows = refl; matrices = refl; terms = refl; results = refl })
+      by : (x : Result (CarriedFamily × CarriedLink) Refusal) → table_of 1 t s I (lengths_of given) ≡ x → AsLent (record { rows = rows; matrices = matrices; terms = terms; results = results; counts = counts }) (told_by (done_for t s I rows matrices terms results) counts).after
+      by (Ok (f, l)) e = absurd (h (accepted_returned f l e))
+      by (Err r) e = rw (refused_done r e) (record { rows = refl; matrices = refl; terms = refl; results = refl })
 
 -- ---- by the reading, and by the room for the counts
 answered_kept : (r : Read) (B : Buffers) → ((answered r B).returned ≡ 0 → ⊥) → AsLent B (answered r B).after

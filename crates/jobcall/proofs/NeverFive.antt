@@ -1,4 +1,5 @@
 -- No call with a job returns 5: the table has no such number, and neither has the reader. Document 02, P8. Assumes nothing.
+use Rattle.std.specs.Prelude.{Ok, Err}
 use mathlib.Core.Path.{◌≡◌, refl}
 use mathlib.Core.Bool.{Bool, true, false}
 use mathlib.Core.List.{List}
@@ -11,9 +12,7 @@ use Rattle.model.specs.Answer.{is_end}
 use Rattle.model.specs.Inputs.{Inputs}
 use Rattle.model.specs.declared.sizes.Shape.{Shape}
 use Rattle.model.specs.declared.sizes.Settings.{Settings}
-use Rattle.job.specs.declared.faults.Fault.{Fault}
-use Rattle.job.specs.declared.faults.Fault.TheVariants.{Sound, At}
-use Rattle.job.specs.Faults.{fault_of}
+use Rattle.job.specs.Faults.{Checked, fault_of}
 use Rattle.job.specs.Job.{Read, faulty, sound, read_by, read_of}
 use Rattle.job.proofs.FaultNumbers.{fault_numbers}
 use Rattle.call.proofs.When.{never_five}
@@ -54,9 +53,9 @@ read_other : (s : List ℕ) → OtherFault (read_of s)
 unfolding read_of read_by
 read_other s = by (fault_of s) refl
   where
-    by : (f : Fault) → fault_of s ≡ f → OtherFault (read_of s)
-    by Sound e = rw e tt
-    by (At r b) e =
+    by : (f : Checked) → fault_of s ≡ f → OtherFault (read_of s)
+    by (Ok t) e = rw e tt
+    by (Err x) e =
         rw e (rw e at (fault_numbers (λ k. k ≡ 5 → ⊥) (λ n. omega arith) (λ n. omega arith) (λ n. omega arith) (λ n. omega arith) (λ n. omega arith) (λ n. omega arith) (λ n. omega arith) s))
 
 theta_other : (theta : List Float) (r : Read) → OtherFault r → OtherFault (with_theta theta r)

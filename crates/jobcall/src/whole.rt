@@ -2,28 +2,21 @@
 ghost use Rattle.std.specs.Prelude.{◌≡◌, true, cond, ◌≤◌, length, take};
 ghost use Rattle.job.specs.Job.{read_of};
 ghost use Rattle.reader.specs.Reading.{roomy};
-ghost use Rattle.model.specs.Inputs.{inputs};
+ghost use Rattle.model.specs.Inputs.{inputs, inputs_in};
 ghost use Rattle.jobfit.specs.Done.{done_for};
 ghost use Rattle.jobfit.specs.Room.{Fronts, fronts_of};
 ghost use Rattle.jobcall.specs.Told.{buffers, told, counts_length, told_by, answered, counted, theta_by, fit_job_of, fit_job_theta_of};
 
 use crate::counts::{put_counts, put_refusal, returned};
 use jobfit::fit_fronts;
-use model::Shape;
-use reader::{Header, Reading};
+use model::{Inputs, Shape};
+use reader::Header;
 
 // The fit of a job that has been read, and its counts.
 fn fit_read(
     header: Header,
     shape: Shape,
-    theta: &[f64],
-    y: &[f64],
-    weights: &[f64],
-    offset: &[f64],
-    x: &[f64],
-    starts: &[usize],
-    columns: &[usize],
-    values: &[f64],
+    lists: &Inputs<'_>,
     rows: &mut [f64],
     matrices: &mut [f64],
     terms: &mut [f64],
@@ -31,18 +24,15 @@ fn fit_read(
     counts: &mut [u64],
 ) -> u64
     requires { (counts_length ≤ length counts.old)
-        × Fronts header (inputs theta.now y.now weights.now offset.now x.now starts.now columns.now values.now) }
+        × Fronts header (inputs_in lists.now) }
     ensures { told result (buffers rows.new matrices.new terms.new results.new counts.new)
         ≡ told_by
         (done_for header.settings shape
-        (fronts_of header (inputs theta.now y.now weights.now offset.now x.now starts.now columns.now values.now))
+        (fronts_of header (inputs_in lists.now))
         rows.old matrices.old terms.old results.old)
         counts.old }
 {
-    let answer = fit_fronts(
-        header, shape, theta, y, weights, offset, x, starts, columns, values, rows, matrices,
-        terms, results,
-    );
+    let answer = fit_fronts(header, shape, lists, rows, matrices, terms, results);
     put_counts(answer, 0, counts);
     returned(answer.number)
 }
@@ -83,20 +73,33 @@ fn call_read(
         ≡ answered (theta_by own given.now (read_of job.now))
         (buffers rows.old matrices.old terms.old results.old counts.old) }
 {
-    let found = reader::read_job(job, theta, y, weights, offset, x, starts, columns, values);
-    let shape = found.shape;
-    let reading = found.reading;
-    match reading {
-        Reading::Refused(number, byte) => {
-            put_refusal(number, byte, counts);
-            number
+    match reader::read_job(job, theta, y, weights, offset, x, starts, columns, values) {
+        Err(fault) => {
+            put_refusal(fault.number, fault.byte, counts);
+            fault.number
         }
-        Reading::Accepted(header) => {
+        Ok(found) => {
+            let header = found.header;
             let thetas = header.thetas;
             let chosen = theta_of(own, theta, thetas, given);
             fit_read(
-                header, shape, chosen, y, weights, offset, x, starts, columns, values, rows,
-                matrices, terms, results, counts,
+                header,
+                found.shape,
+                &Inputs {
+                    theta: chosen,
+                    y,
+                    weights,
+                    offset,
+                    x,
+                    starts,
+                    columns,
+                    values,
+                },
+                rows,
+                matrices,
+                terms,
+                results,
+                counts,
             )
         }
     }

@@ -1,4 +1,6 @@
 -- The results of a fitted call are as long as the sizes ask: every list is made with its length, in the solve, in the tries and of the last mode. Assumes nothing.
+use Rattle.model.specs.declared.ends.Refusal.{Refusal}
+use Rattle.std.specs.Prelude.{Option, Some, None, Ok, Err, ⊤, Result}
 use Prim.{Unit, tt}
 use mathlib.Core.Path.{◌≡◌, refl, ◌∙◌}
 use mathlib.Core.Bool.{Bool, true, false}
@@ -25,8 +27,6 @@ use Rattle.family.specs.declared.carried.CarriedFamily.{CarriedFamily}
 use Rattle.family.specs.declared.carried.CarriedLink.{CarriedLink}
 use Rattle.factor.specs.Factor.{ldl_end, cholesky_of, cholesky_end}
 use Rattle.factor.specs.Substitution.{forward, backward, cholesky_solve}
-use Rattle.factor.specs.declared.pivots.Factored.{Factored}
-use Rattle.factor.specs.declared.pivots.Factored.TheVariants.{Done, Bad}
 use Rattle.rule.specs.Given.{Design, Given, q_of, n_of}
 use Rattle.rule.specs.Working.{working_weights, working_responses}
 use Rattle.rule.specs.Solve.{Solved, Solve, solved, unsolved, Reduced, system_of, factor_of, normal_of, normal_side, beta_of, effects_after, found_with, found_beta, found, after_root, solve_root, solve_normal, solve_reduced, after_factor, solve_factor, solve_system, solve_working, solve_of}
@@ -36,14 +36,10 @@ use Rattle.rule.specs.Run.{Ending, stopped, failed, Outcome, State, items_before
 use Rattle.rule.specs.Results.{v_from, se_of, z_values, residuals_of}
 use Rattle.agq_rule.specs.Inner.{with_points, after_run, inner_with, inner_of}
 use Rattle.dispersion.specs.Phi.{effective_n, round_of}
-use Rattle.dispersion.specs.Rounds.{Result, result, no_result, Total, Dispersed, total_before, with_flag, last_fit, after_round, after_fit, dispersion_from, dispersion_of, fixed_of}
-use Rattle.dispersion.specs.declared.round.Round.{Round}
-use Rattle.dispersion.specs.declared.round.Round.TheVariants.{Settled, Next}
+use Rattle.dispersion.specs.Rounds.{Result as FitResult, result, no_result, Total, Dispersed, total_before, with_flag, last_fit, after_round, after_fit, dispersion_from, dispersion_of, fixed_of}
 use Rattle.results.specs.Nine.{Results, results_from, results_of}
 use Rattle.model.specs.Inputs.{Inputs}
 use Rattle.table.specs.Table.{table_of}
-use Rattle.table.specs.declared.verdicts.Verdict.{Verdict}
-use Rattle.table.specs.declared.verdicts.Verdict.TheVariants.{Accepted, Refused}
 use Rattle.table.proofs.Accepting.{accepted_sound}
 use Rattle.call.specs.Fit.{Fitted, sum_of, result_by, total_of, inner_at, fit_by, fit_of}
 use Rattle.call.specs.Call.{Lent, lengths_of, call_given, call_means, call_of}
@@ -110,19 +106,19 @@ module _ (D : Design) where
   unfolding found found_beta found_with beta_of cholesky_solve forward backward normal_side effects_after
   found_fits r C = (length_down _ _ _ _ ∙ length_by _ _ _ ∙ build_length _ _, build_length _ _)
 
-  root_fits : (x : Factored) (r : Reduced) (C : List Float) → SolveFits D (after_root x D r C)
+  root_fits : (x : Result ⊤ ℕ) (r : Reduced) (C : List Float) → SolveFits D (after_root x D r C)
   unfolding after_root
-  root_fits (Bad i) r C = tt
-  root_fits Done r C = found_fits r C
+  root_fits (Err i) r C = tt
+  root_fits (Ok tt) r C = found_fits r C
 
   reduced_fits : (r : Reduced) → SolveFits D (solve_reduced D r)
   unfolding solve_reduced solve_normal solve_root
   reduced_fits r = let N = normal_of D r.w r.W in root_fits (cholesky_end D.p N (cholesky_of D.p N)) r (cholesky_of D.p N)
 
-  factor_fits : (x : Factored) (w z A F : List Float) → SolveFits D (after_factor x D w z A F)
+  factor_fits : (x : Result ⊤ ℕ) (w z A F : List Float) → SolveFits D (after_factor x D w z A F)
   unfolding after_factor
-  factor_fits (Bad i) w z A F = tt
-  factor_fits Done w z A F = reduced_fits _
+  factor_fits (Err i) w z A F = tt
+  factor_fits (Ok tt) w z A F = reduced_fits _
 
 solve_fits : (G : Given) (phi : Float) (eta mu : List Float) → SolveFits G.design (solve_of G phi eta mu)
 unfolding solve_of solve_working solve_system solve_factor
@@ -143,7 +139,7 @@ abbrev EndingFits : Given → Ending → Type 0
 EndingFits G (stopped M) = ModeFits G M
 EndingFits G (failed e) = Unit {0}
 
-abbrev ResultFits : Given → Result Fitted → Type 0
+abbrev ResultFits : Given → FitResult Fitted → Type 0
 ResultFits G (result f) = ModeFits G f.mode
 ResultFits G (no_result e) = Unit {0}
 
@@ -185,22 +181,22 @@ module _ (G : Given) (phi : Float) where
   at_fits mu wish L = inner_fits (run_from G phi L (start_at G mu)).ending wish _ (run_fits L (start_at G mu))
 
 -- ---- the last of a fit
-abbrev LastFits : Given → Result (Dispersed Fitted) → Type 0
+abbrev LastFits : Given → FitResult (Dispersed Fitted) → Type 0
 LastFits G (result d) = ModeFits G d.last.mode
 LastFits G (no_result e) = Unit {0}
 
 module _ (G : Given) (count : Float) (inner : Float → Total Fitted) (fits : (phi : Float) → ResultFits G (inner phi).outcome) where
-  flag_fits : (flag : Bool) (phi : Float) (x : Result Fitted) → ResultFits G x → LastFits G (with_flag flag phi x)
+  flag_fits : (flag : Bool) (phi : Float) (x : FitResult Fitted) → ResultFits G x → LastFits G (with_flag flag phi x)
   unfolding with_flag
   flag_fits flag phi (result f) k = k
   flag_fits flag phi (no_result e) k = tt
 
-  round_fits : (r : Round) (f : Fitted) (phi : Float) (is : List Item) (rest : Float → Total (Dispersed Fitted)) → ModeFits G f.mode → ((next : Float) → LastFits G (rest next).outcome) → LastFits G (after_round r f phi is rest).outcome
+  round_fits : (r : Option Float) (f : Fitted) (phi : Float) (is : List Item) (rest : Float → Total (Dispersed Fitted)) → ModeFits G f.mode → ((next : Float) → LastFits G (rest next).outcome) → LastFits G (after_round r f phi is rest).outcome
   unfolding after_round total_before
-  round_fits Settled f phi is rest k all = k
-  round_fits (Next next) f phi is rest k all = all next
+  round_fits None f phi is rest k all = k
+  round_fits (Some next) f phi is rest k all = all next
 
-  after_fit_lem : (x : Result Fitted) (phi : Float) (is : List Item) (rest : Float → Total (Dispersed Fitted)) → ResultFits G x → ((next : Float) → LastFits G (rest next).outcome) → LastFits G (after_fit count sum_of phi x is rest).outcome
+  after_fit_lem : (x : FitResult Fitted) (phi : Float) (is : List Item) (rest : Float → Total (Dispersed Fitted)) → ResultFits G x → ((next : Float) → LastFits G (rest next).outcome) → LastFits G (after_fit count sum_of phi x is rest).outcome
   unfolding after_fit
   after_fit_lem (no_result e) phi is rest k all = tt
   after_fit_lem (result f) phi is rest k all = round_fits (round_of count phi (sum_of f)) f phi is rest k all
@@ -249,13 +245,13 @@ end_some NoStep e = absurd (omega arith)
 end_some NoStop e = absurd (omega arith)
 
 module _ (t : Settings) (s : Shape) (I : Inputs) (L : Lent) (z : (call_of t s I L).answer.number ≡ 0) where
-  accepted_fits : (f : CarriedFamily) (l : CarriedLink) → table_of 1 t s I (lengths_of L) ≡ Accepted f l → ResultsFit t.n t.p t.rows (call_of t s I L).lent.results
+  accepted_fits : (f : CarriedFamily) (l : CarriedLink) → table_of 1 t s I (lengths_of L) ≡ Ok (f, l) → ResultsFit t.n t.p t.rows (call_of t s I L).lent.results
   unfolding fit_of call_given
   accepted_fits f l e =
       by (asked_fit f l t s I).outcome refl
       (by_fits (uses_dispersion (call_given f l t s I).family) (call_given f l t s I) (call_means f l t s I) t.n_agq (limit_of t.limit t.link))
     where
-      by : (x : Result (Dispersed Fitted)) → (asked_fit f l t s I).outcome ≡ x → LastFits (call_given f l t s I) x → ResultsFit t.n t.p t.rows (call_of t s I L).lent.results
+      by : (x : FitResult (Dispersed Fitted)) → (asked_fit f l t s I).outcome ≡ x → LastFits (call_given f l t s I) x → ResultsFit t.n t.p t.rows (call_of t s I L).lent.results
       by (no_result end) q k = absurd (end_some end (rw (unfitted_answer_lem t s I L f l e end q) at z))
       by (result d) q k =
           rw (fitted_results t s I L f l e d q, ← (accepted_sound 1 t s I (lengths_of L) f l e).sized.effects) (of_mode (call_given f l t s I) d.last.mode k)
@@ -264,6 +260,6 @@ module _ (t : Settings) (s : Shape) (I : Inputs) (L : Lent) (z : (call_of t s I 
   pub results_fit : ResultsFit t.n t.p t.rows (call_of t s I L).lent.results
   results_fit = by (table_of 1 t s I (lengths_of L)) refl
     where
-      by : (x : Verdict) → table_of 1 t s I (lengths_of L) ≡ x → ResultsFit t.n t.p t.rows (call_of t s I L).lent.results
-      by (Refused r) e = absurd (refusal_some r (rw (refused_left t s I L r e) at z))
-      by (Accepted f l) e = accepted_fits f l e
+      by : (x : Result (CarriedFamily × CarriedLink) Refusal) → table_of 1 t s I (lengths_of L) ≡ x → ResultsFit t.n t.p t.rows (call_of t s I L).lent.results
+      by (Err r) e = absurd (refusal_some r (rw (refused_left t s I L r e) at z))
+      by (Ok (f, l)) e = accepted_fits f l e

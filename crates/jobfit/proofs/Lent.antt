@@ -1,4 +1,7 @@
 -- What is lent to the fit: the parts of arrays that are +0.0, and no beta where the results have no room; such a call is refused, so what is fitted has room. Assumes nothing.
+use Rattle.family.specs.declared.carried.CarriedFamily.{CarriedFamily}
+use Rattle.family.specs.declared.carried.CarriedLink.{CarriedLink}
+use Rattle.std.specs.Prelude.{Result, Ok, Err}
 use mathlib.Core.Path.{◌≡◌, refl, sym, ap, ◌∙◌}
 use mathlib.Core.Bool.{Bool, true, false, cond}
 use mathlib.Core.List.{List, ◌∷◌}
@@ -20,8 +23,6 @@ use Rattle.job.specs.Lists.{laid}
 use Rattle.model.specs.Inputs.{Inputs, inputs}
 use Rattle.table.specs.Table.{table_of}
 use Rattle.table.specs.Facts.{Sound}
-use Rattle.table.specs.declared.verdicts.Verdict.{Verdict}
-use Rattle.table.specs.declared.verdicts.Verdict.TheVariants.{Accepted, Refused}
 use Rattle.table.proofs.Accepting.{accepted_sound}
 use Rattle.reader.specs.declared.whole.Header.{Header}
 use Rattle.call.specs.Call.{Lent, lent, Left, left, lengths_of, call_of}
@@ -122,9 +123,9 @@ pub fitted_beta : (t : Settings) (s : Shape) (I : Inputs) (L : Lent) → (call_o
 unfolding lengths_of
 fitted_beta t s I L z = by (table_of 1 t s I (lengths_of L)) refl
   where
-    by : (x : Verdict) → table_of 1 t s I (lengths_of L) ≡ x → 1 ≤ length L.results.beta
-    by (Refused r) e = absurd (refusal_some r (rw (refused_left t s I L r e) at z))
-    by (Accepted f l) e =
+    by : (x : Result (CarriedFamily × CarriedLink) Refusal) → table_of 1 t s I (lengths_of L) ≡ x → 1 ≤ length L.results.beta
+    by (Err r) e = absurd (refusal_some r (rw (refused_left t s I L r e) at z))
+    by (Ok (f, l)) e =
         let a : Sound 1 t s I (lengths_of L) f l = accepted_sound 1 t s I (lengths_of L) f l e in
         omega (arith, a.results_fit.beta, a.sized.sizes.p_some)
 

@@ -1,4 +1,6 @@
 -- What reading leaves in the fronts of the slices is the job, so that a call of those fronts is a call of the job. Assumes nothing.
+use Prim.{tt}
+use Rattle.std.specs.Prelude.{Result, Ok, Err}
 use mathlib.Core.Path.{◌≡◌, refl, sym, ap, ◌∙◌}
 use mathlib.Core.Bool.{true}
 use mathlib.Core.List.{List}
@@ -10,50 +12,45 @@ use lib.Seq.{take_at}
 use Rattle.base.specs.Number.{zero_f}
 use Rattle.base.proofs.Fills.{build_length}
 use Rattle.job.specs.declared.faults.Fault.{Fault}
-use Rattle.job.specs.declared.faults.Fault.TheVariants.{Sound, At}
 use Rattle.job.specs.Lists.{laid}
 use Rattle.job.specs.Format.{obs, cols, rows_in, start_of}
-use Rattle.job.specs.Faults.{fault_of}
+use Rattle.job.specs.Faults.{Checked, fault_of}
 use Rattle.job.specs.Job.{settings_of, sparse_of, job_of, faulty, sound, read_by, read_of}
 use Rattle.job.proofs.ListLaws.{counts_length_lem, laid_length}
 use Rattle.job.proofs.RowLaws.{Fits, sound_fits, row_starts, columns_before, values_before}
 use Rattle.reader.specs.declared.whole.Header.{Header}
 use Rattle.reader.specs.declared.whole.Found.{Found}
-use Rattle.reader.specs.declared.whole.Reading.TheVariants.{Refused, Accepted}
-use Rattle.reader.specs.Reading.{roomy, header_of, refused_at, found_by, filled, left_by, ReadDone}
+use Rattle.reader.specs.Reading.{roomy, header_of, found_by, filled, left_by, ReadDone}
 use Rattle.model.specs.Inputs.{Inputs, inputs}
 use Rattle.reader.proofs.Rooms.{Room, room_of, with_room, sound_is}
 use Rattle.jobfit.specs.Done.{inputs_at}
 use Rattle.jobfit.specs.Room.{Fronts, fronts_of}
 
 -- a job that was refused, with room for any, had that fault
-refused_fault : (s : List ℕ) (b a : Inputs) (r c : ℕ) (g : Found) → roomy b ≡ true → g.reading ≡ Refused r c → ReadDone s b g a → fault_of s ≡ At r c
-unfolding found_by refused_at
-refused_fault s b a r c g room t d = by (fault_of s) refl (sym t ∙ ap (λ (x : Found). x.reading) (rw (with_room s b room) at d.says))
+refused_fault : (s : List ℕ) (b a : Inputs) (e : Fault) (r : Result Found Fault) → roomy b ≡ true → r ≡ Err e → ReadDone s b r a → fault_of s ≡ Err e
+unfolding found_by
+refused_fault s b a e r room t d = by (fault_of s) refl (sym t ∙ (rw (with_room s b room) at d.says))
   where
-    by : (f : Fault) → fault_of s ≡ f → Refused r c ≡ (found_by f (job_of s)).reading → fault_of s ≡ At r c
-    by Sound e p = let z : ◌≡◌ {A = ℕ} 0 1 = cc in absurd (omega arith)
-    by (At v k) e p = cc
+    by : (f : Checked) → fault_of s ≡ f → Err e ≡ found_by f (job_of s) → fault_of s ≡ Err e
+    by (Ok u) q p = let z : ◌≡◌ {A = ℕ} 0 1 = cc in absurd (omega arith)
+    by (Err x) q p = cc
 
 -- a job that was accepted is sound, and was told and laid
 record ReadSound (s : List ℕ) (b : Inputs) (h : Header) (g : Found) (a : Inputs) : Type 0 where
-  fault : fault_of s ≡ Sound
+  fault : fault_of s ≡ Ok tt
   header : h ≡ header_of (job_of s)
   shape : g.shape ≡ (job_of s).shape
   lists : a ≡ filled (job_of s) b
 
-accepted_sound : (s : List ℕ) (b a : Inputs) (h : Header) (g : Found) → roomy b ≡ true → g.reading ≡ Accepted h → ReadDone s b g a → ReadSound s b h g a
-unfolding found_by refused_at left_by
-accepted_sound s b a h g room t d = by (fault_of s) refl (rw (with_room s b room) at d.says) (rw (with_room s b room) at d.leaves)
+accepted_sound : (s : List ℕ) (b a : Inputs) (g : Found) (r : Result Found Fault) → roomy b ≡ true → r ≡ Ok g → ReadDone s b r a → ReadSound s b g.header g a
+unfolding found_by left_by
+accepted_sound s b a g r room t d = by (fault_of s) refl (sym t ∙ (rw (with_room s b room) at d.says)) (rw (with_room s b room) at d.leaves)
   where
-    by : (f : Fault) → fault_of s ≡ f → g ≡ found_by f (job_of s) → a ≡ left_by f (job_of s) b → ReadSound s b h g a
-    by Sound e p q =
-        let told : Accepted h ≡ Accepted (header_of (job_of s)) = sym t ∙ ap (λ (x : Found). x.reading) p in
-        record { fault = e; header = cc; shape = ap (λ (x : Found). x.shape) p; lists = q }
-    by (At v k) e p q =
-        let told : Accepted h ≡ Refused v k = sym t ∙ ap (λ (x : Found). x.reading) p in
-        let z : ◌≡◌ {A = ℕ} 0 1 = cc in
-        absurd (omega arith)
+    by : (f : Checked) → fault_of s ≡ f → Ok g ≡ found_by f (job_of s) → a ≡ left_by f (job_of s) b → ReadSound s b g.header g a
+    by (Ok u) e p q =
+        let found : g ≡ record { header = header_of (job_of s); shape = (job_of s).shape } = cc in
+        record { fault = e; header = ap (λ (x : Found). x.header) found; shape = ap (λ (x : Found). x.shape) found; lists = q }
+    by (Err x) e p q = let z : ◌≡◌ {A = ℕ} 0 1 = cc in absurd (omega arith)
 
 -- the front of a list that was laid
 laid_front : {A : Type 0} (n : ℕ) (xs b : List A) → length xs ≡ n → take n (laid xs b) ≡ xs
@@ -132,33 +129,33 @@ pub record ReadJob (s : List ℕ) (h : Header) (g : Found) (a : Inputs) : Type 0
   pub own : take h.thetas a.theta ≡ (job_of s).theta
   pub at : (theta : List Float) → fronts_of h (beside theta a) ≡ inputs_at theta (job_of s)
 
-read_sound : (s : List ℕ) → fault_of s ≡ Sound → read_of s ≡ sound (job_of s)
+read_sound : (s : List ℕ) → fault_of s ≡ Ok tt → read_of s ≡ sound (job_of s)
 unfolding read_of read_by
 read_sound s e = rw e refl
 
-read_faulty : (s : List ℕ) (r c : ℕ) → fault_of s ≡ At r c → read_of s ≡ faulty r c
+read_faulty : (s : List ℕ) (x : Fault) → fault_of s ≡ Err x → read_of s ≡ faulty x.number x.byte
 unfolding read_of read_by
-read_faulty s r c e = rw e refl
+read_faulty s x e = rw e refl
 
 header_settings : (s : List ℕ) → (header_of (job_of s)).settings ≡ (job_of s).settings
 unfolding header_of
 header_settings s = refl
 
-module _ (s : List ℕ) (b a : Inputs) (g : Found) (room : roomy b ≡ true) (d : ReadDone s b g a) where
-  pub read_refused : (r c : ℕ) → g.reading ≡ Refused r c → read_of s ≡ faulty r c
-  read_refused r c t = read_faulty s r c (refused_fault s b a r c g room t d)
+module _ (s : List ℕ) (b a : Inputs) (r : Result Found Fault) (room : roomy b ≡ true) (d : ReadDone s b r a) where
+  pub read_refused : (e : Fault) → r ≡ Err e → read_of s ≡ faulty e.number e.byte
+  read_refused e t = read_faulty s e (refused_fault s b a e r room t d)
 
-  module _ (h : Header) (t : g.reading ≡ Accepted h) where
-    accepted : ReadSound s b h g a
-    accepted = accepted_sound s b a h g room t d
+  module _ (g : Found) (t : r ≡ Ok g) where
+    accepted : ReadSound s b g.header g a
+    accepted = accepted_sound s b a g r room t d
 
-    pub fronts_fit : (theta : List Float) → Fronts h (beside theta a)
+    pub fronts_fit : (theta : List Float) → Fronts g.header (beside theta a)
     fronts_fit theta = rw (accepted.header, accepted.lists) (fronts_there s b theta (room_of b room) (sound_fits s (sound_is _ accepted.fault)))
 
-    pub theta_fits : h.thetas ≤ length a.theta
+    pub theta_fits : g.header.thetas ≤ length a.theta
     theta_fits = rw (accepted.header, accepted.lists) (theta_there s b (room_of b room) (sound_fits s (sound_is _ accepted.fault)))
 
-    pub read_job : ReadJob s h g a
+    pub read_job : ReadJob s g.header g a
     read_job =
         record {
           read = read_sound s accepted.fault;

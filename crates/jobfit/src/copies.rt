@@ -13,10 +13,8 @@ fn copy_behind(list: &[f64], at: usize, out: &mut [f64]) -> usize
     ensures { Copied list.now at out.old result out.new }
 {
     let n = list.len();
-    let mut i = 0;
-    while i < n {
+    for i in 0..n {
         out[at + i] = list[i];
-        i += 1;
     }
     at + n
 }

@@ -1,14 +1,14 @@
 // The call of the fit for a job that has been read; what it fits is written into the lent buffer.
 ghost use Rattle.std.specs.Prelude.{◌≡◌, ◌≤◌};
 ghost use Rattle.results.specs.Nine.{nine};
-ghost use Rattle.model.specs.Inputs.{inputs};
+ghost use Rattle.model.specs.Inputs.{inputs_in};
 ghost use Rattle.call.specs.Call.{lent, call_of};
 ghost use Rattle.jobfit.specs.Done.{results_length, beta_length, done, done_of, done_for};
 ghost use Rattle.jobfit.specs.Room.{SizesFew, Fronts, fronts_of, RoomFor};
 
 use crate::copies::put_numbers;
 use glmm::fit;
-use model::{Answer, Settings, Shape};
+use model::{Answer, Inputs, Settings, Shape};
 use reader::Header;
 
 // How many numbers a fitted call writes.
@@ -36,14 +36,7 @@ fn beta_length(settings: Settings, room: usize) -> usize
 fn fit_written(
     settings: Settings,
     shape: Shape,
-    theta: &[f64],
-    y: &[f64],
-    weights: &[f64],
-    offset: &[f64],
-    x: &[f64],
-    starts: &[usize],
-    columns: &[usize],
-    values: &[f64],
+    lists: &Inputs<'_>,
     beta: &mut [f64],
     se: &mut [f64],
     z: &mut [f64],
@@ -62,14 +55,12 @@ fn fit_written(
     ensures { done result rows.new matrices.new terms.new results.new
         ≡ done_of
         (call_of settings shape
-        (inputs theta.now y.now weights.now offset.now x.now starts.now
-        columns.now values.now)
+        (inputs_in lists.now)
         (lent beta.old se.old z.old u.old b.old mu.old eta.old
         residual.old v.old rows.old matrices.old terms.old)) results.old }
 {
     let answer = fit(
-        settings, shape, theta, y, weights, offset, x, starts, columns, values, beta, se, z, u, b,
-        mu, eta, residual, v, rows, matrices, terms,
+        settings, shape, lists, beta, se, z, u, b, mu, eta, residual, v, rows, matrices, terms,
     );
     if answer.number != 0 {
         return answer;
@@ -82,14 +73,7 @@ fn fit_written(
 fn fit_results(
     settings: Settings,
     shape: Shape,
-    theta: &[f64],
-    y: &[f64],
-    weights: &[f64],
-    offset: &[f64],
-    x: &[f64],
-    starts: &[usize],
-    columns: &[usize],
-    values: &[f64],
+    lists: &Inputs<'_>,
     rows: &mut [f64],
     matrices: &mut [f64],
     terms: &mut [f64],
@@ -98,8 +82,7 @@ fn fit_results(
     requires { SizesFew settings }
     ensures { done result rows.new matrices.new terms.new results.new
         ≡ done_for settings shape
-        (inputs theta.now y.now weights.now offset.now x.now starts.now columns.now
-        values.now) rows.old matrices.old terms.old results.old }
+        (inputs_in lists.now) rows.old matrices.old terms.old results.old }
 {
     let n = settings.n;
     let p = settings.p;
@@ -119,14 +102,7 @@ fn fit_results(
     fit_written(
         settings,
         shape,
-        theta,
-        y,
-        weights,
-        offset,
-        x,
-        starts,
-        columns,
-        values,
+        lists,
         &mut beta[0..width],
         &mut se[0..p],
         &mut z[0..p],
@@ -147,25 +123,17 @@ fn fit_results(
 pub fn fit_fronts(
     header: Header,
     shape: Shape,
-    theta: &[f64],
-    y: &[f64],
-    weights: &[f64],
-    offset: &[f64],
-    x: &[f64],
-    starts: &[usize],
-    columns: &[usize],
-    values: &[f64],
+    lists: &Inputs<'_>,
     rows: &mut [f64],
     matrices: &mut [f64],
     terms: &mut [f64],
     results: &mut [f64],
 ) -> Answer
-    requires { Fronts header (inputs theta.now y.now weights.now offset.now x.now starts.now columns.now values.now) }
+    requires { Fronts header (inputs_in lists.now) }
     ensures { done result rows.new matrices.new terms.new results.new
         ≡ done_for header.settings shape
         (fronts_of header
-        (inputs theta.now y.now weights.now offset.now x.now starts.now
-        columns.now values.now)) rows.old matrices.old terms.old results.old }
+        (inputs_in lists.now)) rows.old matrices.old terms.old results.old }
 {
     let settings = header.settings;
     let weighted = header.weights;
@@ -178,14 +146,16 @@ pub fn fit_fronts(
     fit_results(
         settings,
         shape,
-        theta,
-        &y[0..n],
-        &weights[0..weighted],
-        &offset[0..shifted],
-        &x[0..cells],
-        &starts[0..marks],
-        &columns[0..entries],
-        &values[0..entries],
+        &Inputs {
+            theta: lists.theta,
+            y: &lists.y[0..n],
+            weights: &lists.weights[0..weighted],
+            offset: &lists.offset[0..shifted],
+            x: &lists.x[0..cells],
+            starts: &lists.starts[0..marks],
+            columns: &lists.columns[0..entries],
+            values: &lists.values[0..entries],
+        },
         rows,
         matrices,
         terms,

@@ -1,4 +1,6 @@
 -- The log terms of the joint rule, as they stand at the front of the terms, are the rule's, and so is what it answers. Assumes nothing.
+use Rattle.std.specs.Prelude.{Result, Ok, Err, ⊤}
+use Prim.{tt}
 use mathlib.Core.Path.{◌≡◌, refl, ap, ◌∙◌}
 use mathlib.Core.List.{List}
 use Prim.Native.Nat.{ℕ, ◌+◌, ◌*◌, ◌^◌, ◌≤◌}
@@ -27,21 +29,16 @@ use Rattle.agq_rule.specs.Point.{LogRow}
 use Rattle.agq_rule.specs.Scale.{block_scale}
 use Rattle.agq_rule.specs.Term.{inverse_phi, joint_term}
 use Rattle.agq_rule.specs.Steps.{answers, points_before, joint_total, after_joint}
-use Rattle.agq_rule.specs.declared.answers.Integral.TheVariants.{Declined}
 use Rattle.points.specs.Gain.{one_at}
 use Rattle.scale.specs.Tells.{tell_scale, ScaleLeaves}
-use Rattle.scale.specs.declared.scales.Scaling.{Scaling}
-use Rattle.scale.specs.declared.scales.Scaling.TheVariants.{Scaled, Unscaled}
 use Rattle.scale.proofs.ScaleFound.{joint_scale}
 use Rattle.agq.specs.Gained.{gain_in}
 use Rattle.several.specs.Several.{joint_term_in, TermsIn}
 use Rattle.several.proofs.SeveralRuled.{joint_ruled}
 use Rattle.sums.specs.Stands.{Stands, given_with}
 use Rattle.sums.specs.Summed.{carry, group_sum_of, integrated_of, StepFrame, SumLeft, StepLeft}
-use Rattle.sums.specs.declared.answers.Summed.TheVariants.{NoSum, LogSum}
 use Rattle.sums.specs.declared.answers.GroupSum.{GroupSum}
 use Rattle.sums.specs.declared.answers.Quadrature.{Quadrature}
-use Rattle.sums.specs.declared.answers.Summed.{Summed}
 use Rattle.sums.proofs.Framed.{frame_scaled, frame_trans, frame_terms, square_in, stands_kept}
 use Rattle.sums.proofs.Fronts.{marked_row, marked_fixed, marked_devs, sum_made}
 use Rattle.sums.proofs.Told.{terms_told, no_points, step_told}
@@ -49,17 +46,17 @@ use Rattle.joint.specs.Joint.{joint_by, joint_answer, joint_terms, joint_rule}
 
 -- ---- what the scale of all effects tells
 
-joint_carried : (s : Summed) (i : ℕ) (o : Order) (M : Mode) → points_before i (carry s (joint_total M o)) ≡ integrated_of (record { answer = joint_by s o M.fit; points = i })
+joint_carried : (s : Result Float Decline) (i : ℕ) (o : Order) (M : Mode) → points_before i (carry s (joint_total M o)) ≡ integrated_of (record { answer = joint_by s o M.fit; points = i })
 unfolding carry joint_total joint_by
-joint_carried (LogSum v) i o M = step_told i _
-joint_carried (NoSum d) i o M = step_told i _
+joint_carried (Ok v) i o M = step_told i _
+joint_carried (Err d) i o M = step_told i _
 
-module _ (G : Given) (M : Mode) (phi fit : Float) (o : Order) (c : Scaling) (L : List Float) (e : tell_scale c L ≡ block_scale (q_of G.design) M.system) (ef : M.fit ≡ fit) where
-  pub joint_declined : (d : Decline) → c ≡ Unscaled d → after_joint (block_scale (q_of G.design) M.system) G M phi o ≡ integrated_of (record { answer = Declined d; points = 0 })
+module _ (G : Given) (M : Mode) (phi fit : Float) (o : Order) (c : Result ⊤ Decline) (L : List Float) (e : tell_scale c L ≡ block_scale (q_of G.design) M.system) (ef : M.fit ≡ fit) where
+  pub joint_declined : (d : Decline) → c ≡ Err d → after_joint (block_scale (q_of G.design) M.system) G M phi o ≡ integrated_of (record { answer = Err d; points = 0 })
   unfolding after_joint tell_scale
-  joint_declined d f = rw (← e, f) (no_points (answers (Declined d)) ∙ step_told 0 (Declined d))
+  joint_declined d f = rw (← e, f) (no_points (answers (Err d)) ∙ step_told 0 (Err d))
 
-  pub joint_told : (A : GroupSum) → c ≡ Scaled → A ≡ group_sum_of (build (joint_term G M phi o L) (size_of o ^ q_of G.design))
+  pub joint_told : (A : GroupSum) → c ≡ (Ok tt) → A ≡ group_sum_of (build (joint_term G M phi o L) (size_of o ^ q_of G.design))
       → after_joint (block_scale (q_of G.design) M.system) G M phi o ≡ integrated_of (joint_answer A o fit)
   unfolding after_joint tell_scale joint_answer
   joint_told A f h =
@@ -109,17 +106,17 @@ module _ (family : CarriedFamily) (link : CarriedLink) (shape : Shape) (theta : 
         (frame_terms n p q mark xbeta trial count _ r r1 r2 m m m2 t t' em ex et few wrote.only made.in_r (only_none trial (q + q + q) m) made.in_m made.terms)
 
   -- ---- all effects, from the scale of A
-  module _ (fit : Float) (r m m1 t t1 : List Float) (c : Scaling) (eq : q ≡ effects_of shape) (lent : WorkRoom n p q r m t) (scale : ScaleLeaves q 0 q m m1 t t1 c) where
+  module _ (fit : Float) (r m m1 t t1 : List Float) (c : Result ⊤ Decline) (eq : q ≡ effects_of shape) (lent : WorkRoom n p q r m t) (scale : ScaleLeaves q 0 q m m1 t t1 c) where
     all_scale : (x : List Float) (M : Mode) → Stands (G x) M r m → tell_scale c (row (inverse_place q) (q * q) m1) ≡ block_scale (effects_of shape) M.system
     all_scale x M st = joint_scale q m m1 t t1 c (square_in lent) scale ∙ rw (eq, st.system) refl
 
     all_frame : StepFrame n p q r r m m1 t t1
     all_frame = frame_scaled n p q 0 q r m m1 t t1 c lent.sizes (omega arith) scale
 
-    pub joint_unscaled : (d : Decline) → c ≡ Unscaled d → StepLeft G (joint_rule phi o) n p q fit r r m m1 t t1 (record { answer = Declined d; points = 0 })
+    pub joint_unscaled : (d : Decline) → c ≡ Err d → StepLeft G (joint_rule phi o) n p q fit r r m m1 t t1 (record { answer = Err d; points = 0 })
     joint_unscaled d e = record { told = λ x M st f. joint_declined (G x) M phi fit o c (row (inverse_place q) (q * q) m1) (all_scale x M st) f d e; few = omega arith; frame = all_frame }
 
-    pub joint_scaled : (r2 m2 t2 : List Float) (a : GroupSum) (b : Quadrature) → size_of o ^ q ≤ 7000 → c ≡ Scaled → SumLeft G (joint_terms phi o (row (inverse_place q) (q * q) m1)) n p q (size_of o ^ q) r r2 m1 m2 t1 t2 a → b ≡ joint_answer a o fit
+    pub joint_scaled : (r2 m2 t2 : List Float) (a : GroupSum) (b : Quadrature) → size_of o ^ q ≤ 7000 → c ≡ (Ok tt) → SumLeft G (joint_terms phi o (row (inverse_place q) (q * q) m1)) n p q (size_of o ^ q) r r2 m1 m2 t1 t2 a → b ≡ joint_answer a o fit
         → StepLeft G (joint_rule phi o) n p q fit r r2 m m2 t t2 b
     unfolding joint_answer
     joint_scaled r2 m2 t2 a b few e left eb =

@@ -1,4 +1,6 @@
 -- What the joint rule follows, as what is given and a mode make it, and its answer from the log sum. Assumes nothing.
+use Rattle.quadrature.specs.declared.orders.Decline.{Decline}
+use Rattle.std.specs.Prelude.{Result, Ok, Err}
 use Rattle.std.specs.Prelude.{List, ℕ, Float}
 use Rattle.std.specs.Float.Ieee.{neg}
 use Rattle.base.specs.Number.{◌⊕◌, ◌⊗◌, two_f}
@@ -8,10 +10,6 @@ use Rattle.rule.specs.Stop.{Mode}
 use Rattle.agq_rule.specs.Scale.{block_scale}
 use Rattle.agq_rule.specs.Term.{joint_term}
 use Rattle.agq_rule.specs.Steps.{Integrated, after_joint}
-use Rattle.agq_rule.specs.declared.answers.Integral.{Integral}
-use Rattle.agq_rule.specs.declared.answers.Integral.TheVariants.{Deviance, Declined}
-use Rattle.sums.specs.declared.answers.Summed.{Summed}
-use Rattle.sums.specs.declared.answers.Summed.TheVariants.{LogSum, NoSum}
 use Rattle.sums.specs.declared.answers.GroupSum.{GroupSum}
 use Rattle.sums.specs.declared.answers.Quadrature.{Quadrature}
 
@@ -24,9 +22,9 @@ abbrev pub joint_rule : Float → Order → Given → Mode → Integrated
 joint_rule phi o G M = after_joint (block_scale (q_of G.design) M.system) G M phi o
 
 -- by the log sum over all effects: fit term + total
-unfoldable pub joint_by : Summed → Order → Float → Integral
-joint_by (NoSum d) o fit = Declined d
-joint_by (LogSum s) o fit = Deviance (fit ⊕ (neg two_f ⊗ s)) o
+unfoldable pub joint_by : Result Float Decline → Order → Float → Result (Float × Order) Decline
+joint_by (Err d) o fit = Err d
+joint_by (Ok s) o fit = Ok ((fit ⊕ (neg two_f ⊗ s)), o)
 
 -- what the joint rule answers, from that sum
 unfoldable pub joint_answer : GroupSum → Order → Float → Quadrature

@@ -2,56 +2,42 @@
 ghost use Rattle.std.specs.Prelude.{◌≡◌, ◌*◌, ◌^◌, ◌≤◌};
 ghost use Rattle.base.specs.Rows.{row};
 ghost use Rattle.layout.specs.WorkMatrices.{inverse_place};
-ghost use Rattle.stored.specs.Stored.{sparse};
 ghost use Rattle.quadrature.specs.Orders.{size_of};
-ghost use Rattle.sums.specs.Stands.{Roomy, given_with};
+ghost use Rattle.sums.specs.Stands.{RoomyFor};
 ghost use Rattle.sums.specs.Summed.{SumLeft, StepLeft};
 ghost use Rattle.joint.specs.Joint.{joint_terms, joint_rule, joint_answer};
+ghost use Rattle.rule.specs.Lent.{given_at};
 
-use agq_rule::Integral;
-use family::{CarriedFamily, CarriedLink};
 use layout::{inverse_at, mark_row, trial_u_at, u_at, xbeta_row};
-use model::Shape;
 use points::{log_weights, mark_all};
 use quadrature::{Order, gh_rule};
-use scale::{Scaling, block_scale};
+use rule::Given;
+use scale::block_scale;
 use several::joint_terms;
-use sums::{GroupSum, Quadrature, Summed, inverse_phi, log_sum, power};
+use sums::{GroupSum, Quadrature, inverse_phi, log_sum, power};
 
 // The log sum over all effects, L standing at the place of the inverse: every observation enters.
 fn joint_sums(
-    family: CarriedFamily,
-    link: CarriedLink,
-    shape: Shape,
-    theta: &[f64],
-    starts: &[usize],
-    columns: &[usize],
-    values: &[f64],
-    y: &[f64],
-    weights: &[f64],
-    offset: &[f64],
-    n: usize,
-    p: usize,
-    q: usize,
+    given: &Given<'_>,
     order: Order,
     phi: f64,
     r: &mut [f64],
     m: &mut [f64],
     t: &mut [f64],
 ) -> GroupSum
-    requires roomy { Roomy n p q shape theta.now starts.now columns.now values.now offset.now y.now r.old m.old t.old }
-    requires q_bound { size_of order ^ q ≤ 7000 }
+    requires roomy { RoomyFor given.now r.old m.old t.old }
+    requires q_bound { size_of order ^ given.now.design.q ≤ 7000 }
     ensures { SumLeft
-        (given_with family link shape theta.now (sparse starts.now columns.now values.now) y.now
-        weights.now offset.now n p) (joint_terms phi order (row (inverse_place q) (q * q) m.old)) n p q (size_of order ^ q)
+        (given_at given.now) (joint_terms phi order (row (inverse_place given.now.design.q) (given.now.design.q * given.now.design.q) m.old)) given.now.design.n given.now.design.p given.now.design.q (size_of order ^ given.now.design.q)
         r.old r.new m.old m.new t.old t.new result }
 {
-    let mark = mark_row(n);
-    mark_all(n, mark, r);
-    let u = u_at(p, q);
-    let trial = trial_u_at(p, q);
-    let l = inverse_at(q);
-    let xbeta = xbeta_row(n);
+    let design = &given.design;
+    let mark = mark_row(design.n);
+    mark_all(design.n, mark, r);
+    let u = u_at(design.p, design.q);
+    let trial = trial_u_at(design.p, design.q);
+    let l = inverse_at(design.q);
+    let xbeta = xbeta_row(design.n);
     let inv = inverse_phi(phi);
     let rule = gh_rule(order);
     let size = rule.size;
@@ -59,10 +45,9 @@ fn joint_sums(
     let node_weights = rule.weights;
     let mut node_logs = [0.0; 11];
     log_weights(&node_weights, size, &mut node_logs);
-    let count = power(size, q);
+    let count = power(size, design.q);
     joint_terms(
-        family, link, shape, theta, starts, columns, values, y, weights, offset, n, q, xbeta, r,
-        &nodes, &node_logs, size, count, inv, l, u, trial, m, t,
+        given, xbeta, r, &nodes, &node_logs, size, count, inv, l, u, trial, m, t,
     );
     log_sum(t, count)
 }
@@ -73,12 +58,12 @@ fn joint_answer(a: GroupSum, order: Order, fit: f64) -> Quadrature
 {
     let sum = a.sum;
     match sum {
-        Summed::NoSum(d) => Quadrature {
-            answer: Integral::Declined(d),
+        Err(d) => Quadrature {
+            answer: Err(d),
             points: a.points,
         },
-        Summed::LogSum(s) => Quadrature {
-            answer: Integral::Deviance(fit + -2.0 * s, order),
+        Ok(s) => Quadrature {
+            answer: Ok((fit + -2.0 * s, order)),
             points: a.points,
         },
     }
@@ -86,19 +71,7 @@ fn joint_answer(a: GroupSum, order: Order, fit: f64) -> Quadrature
 
 // All effects at once: the fit term with -2·log sum added, or why there is none.
 pub fn joint_step(
-    family: CarriedFamily,
-    link: CarriedLink,
-    shape: Shape,
-    theta: &[f64],
-    starts: &[usize],
-    columns: &[usize],
-    values: &[f64],
-    y: &[f64],
-    weights: &[f64],
-    offset: &[f64],
-    n: usize,
-    p: usize,
-    q: usize,
+    given: &Given<'_>,
     order: Order,
     phi: f64,
     fit: f64,
@@ -106,23 +79,20 @@ pub fn joint_step(
     m: &mut [f64],
     t: &mut [f64],
 ) -> Quadrature
-    requires roomy { Roomy n p q shape theta.now starts.now columns.now values.now offset.now y.now r.old m.old t.old }
-    requires q_bound { size_of order ^ q ≤ 7000 }
+    requires roomy { RoomyFor given.now r.old m.old t.old }
+    requires q_bound { size_of order ^ given.now.design.q ≤ 7000 }
     ensures { StepLeft
-        (given_with family link shape theta.now (sparse starts.now columns.now values.now) y.now
-        weights.now offset.now n p) (joint_rule phi order) n p q fit r.old r.new m.old m.new
+        (given_at given.now) (joint_rule phi order) given.now.design.n given.now.design.p given.now.design.q fit r.old r.new m.old m.new
         t.old t.new result }
 {
-    match block_scale(q, 0, q, m, t) {
-        Scaling::Unscaled(d) => Quadrature {
-            answer: Integral::Declined(d),
+    let design = &given.design;
+    match block_scale(design.q, 0, design.q, m, t) {
+        Err(d) => Quadrature {
+            answer: Err(d),
             points: 0,
         },
-        Scaling::Scaled => {
-            let a = joint_sums(
-                family, link, shape, theta, starts, columns, values, y, weights, offset, n, p, q,
-                order, phi, r, m, t,
-            );
+        Ok(()) => {
+            let a = joint_sums(given, order, phi, r, m, t);
             joint_answer(a, order, fit)
         }
     }

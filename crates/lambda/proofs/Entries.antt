@@ -12,7 +12,7 @@ use lib.ListN.{length, set, take, drop}
 use lib.Ieee.{Float}
 use Rattle.base.specs.Number.{◌⊕◌, ◌⊗◌, zero_f, one_f}
 use Rattle.base.specs.Sum.{◌!◌, ◌!!◌, sum_to, add_where, sum_where, product_from}
-use Rattle.base.specs.List.{zero_at, at, fill_to, fill_at}
+use Rattle.base.specs.List.{zero_at, at, fill_to, fill_at, entry_of}
 use Rattle.base.proofs.Sums.{lt_or_ge, sum_cong, where_take, where_skip, where_stretch}
 use Rattle.base.proofs.Rows.{part_at}
 use Rattle.base.proofs.Fills.{fillat_cong, fillat_step, length_fillat, fillat_below, fillat_above, fillat_in, length_fill, fill_step, fill_past, fill_in, fill_is, fill_over}
@@ -234,16 +234,23 @@ scaled_step x v j X e =
     let old : X ! j ≡ v ! j = rw e (fill_past j (scaled_at x v) v j (le_refl j)) in
     rw old (fill_step (scaled_at x v) v j X e)
 
-pub into_step : (x : Float) (u b : List Float) (j : ℕ) (X : List Float) → X ≡ fill_to j (scaled_at x u) b → set X j (zero_f ⊕ (x ⊗ (u ! j))) ≡ fill_to (j + 1) (scaled_at x u) b
-unfolding scaled_at
-into_step x u b j X e = fill_step (scaled_at x u) b j X e
-
 -- ---- the whole list, where Λ is one number times the unit matrix
 fill_same : (q : ℕ) (f g : ℕ → Float) (b X : List Float) → q ≤ length b → ((i : ℕ) → i < q → f i ≡ g i) → X ≡ fill_to q f b → X ≡ fill_to q g b
 fill_same q f g b X h p e =
     fill_is q g b X h (ap length e ∙ length_fill q f b)
     (λ i l. ap (λ (y : List Float). y ! i) e ∙ fill_in q f b h i l ∙ p i l)
     (λ i l. ap (λ (y : List Float). y ! i) e ∙ fill_past q f b i l)
+
+-- a copy of u, multiplied in place
+pub scaled_copy : (x : Float) (q : ℕ) (u b w X : List Float) → q ≤ length b → w ≡ fill_to q (entry_of u) b → X ≡ fill_to q (scaled_at x w) w → X ≡ fill_to q (scaled_at x u) b
+unfolding scaled_at
+scaled_copy x q u b w X h c e =
+    fill_is q (scaled_at x u) b X h (ap length e ∙ length_fill q (scaled_at x w) w ∙ long)
+    (λ i l. ap (λ (y : List Float). y ! i) e ∙ fill_in q (scaled_at x w) w (omega (arith, long)) i l ∙ ap (λ (y : Float). zero_f ⊕ (x ⊗ y)) (ap (λ (y : List Float). y ! i) c ∙ fill_in q (entry_of u) b h i l))
+    (λ i l. ap (λ (y : List Float). y ! i) e ∙ fill_past q (scaled_at x w) w i l ∙ ap (λ (y : List Float). y ! i) c ∙ fill_past q (entry_of u) b i l)
+  where
+    long : length w ≡ length b
+    long = ap length c ∙ length_fill q (entry_of u) b
 
 module _ (s : Shape) (theta : List Float) (q : ℕ) (r : InRange s) (one : is_single s ≡ true) (e : q ≡ effects_of s) where
   pub transposed_single : (v X : List Float) → q ≤ length v → X ≡ fill_to q (scaled_at (theta ! 0) v) v → X ≡ fill_to q (lambda_transposed_at s theta v) v

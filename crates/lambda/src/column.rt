@@ -18,10 +18,8 @@ fn column_start(k: usize, c: usize) -> usize
     ensures { result ≡ column_start k c }
 {
     let mut start = 0;
-    let mut i = 0;
-    while i < c {
+    for i in 0..c {
         start += k - i;
-        i += 1;
     }
     start
 }
@@ -36,6 +34,7 @@ pub fn column_of(shape: Shape, j: usize) -> Column
     let mut left = j;
     let mut first = 0;
     let mut i = 0;
+    // `while`: the block of effect j is found before the blocks end; a `for` over them would need an answer behind its last turn.
     while effects <= left {
         left -= effects;
         first += k * (k + 1) / 2;

@@ -12,10 +12,7 @@ use model::Shape;
 fn is_single(shape: Shape) -> bool
     ensures { result ≡ is_single shape }
 {
-    if shape.count == 1 {
-        return shape.k[0] == 1;
-    }
-    false
+    shape.count == 1 && shape.k[0] == 1
 }
 
 // x times each of the first q numbers of v, in place: Λ'v where Λ is x times the unit matrix.
@@ -23,22 +20,8 @@ fn scale(x: f64, q: usize, v: &mut [f64])
     requires { q ≤ length v.old }
     ensures { v.new ≡ fill_to q (scaled_at x v.old) v.old }
 {
-    let mut j = 0;
-    while j < q {
+    for j in 0..q {
         v[j] = 0.0 + x * v[j];
-        j += 1;
-    }
-}
-
-// The same into out.
-fn scale_into(x: f64, q: usize, u: &[f64], out: &mut [f64])
-    requires { (q ≤ length u.now) × (q ≤ length out.old) }
-    ensures { out.new ≡ fill_to q (scaled_at x u.now) out.old }
-{
-    let mut j = 0;
-    while j < q {
-        out[j] = 0.0 + x * u[j];
-        j += 1;
     }
 }
 
@@ -48,12 +31,10 @@ fn columns_transposed(shape: Shape, theta: &[f64], q: usize, v: &mut [f64])
     requires shape_in_bounds { (theta_length shape ≤ length theta.now) × (q ≤ length v.old) }
     ensures { v.new ≡ fill_to q (lambda_transposed_at shape theta.now v.old) v.old }
 {
-    let mut j = 0;
-    while j < q {
+    for j in 0..q {
         let c = column_of(shape, j);
         let sum = base::dot_from(theta, c.first, &v[j..], c.count);
         v[j] = sum;
-        j += 1;
     }
 }
 
@@ -62,10 +43,8 @@ pub fn add_column(theta: &[f64], first: usize, count: usize, x: f64, j: usize, o
     requires { (first + count ≤ length theta.now) × (j + count ≤ length out.old) }
     ensures { out.new ≡ fill_at j count (column_added_at theta.now first x out.old j) out.old }
 {
-    let mut t = 0;
-    while t < count {
+    for t in 0..count {
         out[j + t] = out[j + t] + theta[first + t] * x;
-        t += 1;
     }
 }
 
@@ -76,12 +55,10 @@ fn columns_times(shape: Shape, theta: &[f64], q: usize, u: &[f64], out: &mut [f6
     ensures { out.new ≡ fill_to q (lambda_times_at shape theta.now u.now) out.old }
 {
     base::wipe(out, q);
-    let mut j = 0;
-    while j < q {
+    for j in 0..q {
         let c = column_of(shape, j);
         let x = u[j];
         add_column(theta, c.first, c.count, x, j, out);
-        j += 1;
     }
 }
 
@@ -107,7 +84,8 @@ pub fn lambda_times(shape: Shape, theta: &[f64], q: usize, u: &[f64], out: &mut 
 {
     if is_single(shape) {
         let x = theta[0];
-        scale_into(x, q, u, out);
+        base::copy(u, out, q);
+        scale(x, q, out);
         return;
     }
     columns_times(shape, theta, q, u, out);

@@ -15,11 +15,9 @@ fn right_single(x: f64, q: usize, s: &[f64], c: usize, o: usize, out: &mut [f64]
     requires { (c < q) × (q * q ≤ length s.now) × (o + q ≤ length out.old) }
     ensures { out.new ≡ fill_at o q (right_one x q s.now c) out.old }
 {
-    let mut a = 0;
-    while a < q {
+    for a in 0..q {
         let i = base::offset(a, q, q);
         out[o + a] = 0.0 + s[i + c] * x;
-        a += 1;
     }
 }
 
@@ -37,11 +35,9 @@ fn right_several(
     requires { (first + count ≤ length theta.now) × (c + count ≤ q) × (c < q) × (q * q ≤ length s.now) × (o + q ≤ length out.old) }
     ensures { out.new ≡ fill_at o q (right_by first count theta.now q s.now c) out.old }
 {
-    let mut a = 0;
-    while a < q {
+    for a in 0..q {
         let i = base::offset(a, q, q);
         out[o + a] = base::dot_from(s, i + c, &theta[first..], count);
-        a += 1;
     }
 }
 
@@ -68,12 +64,13 @@ pub fn right_columns(shape: Shape, theta: &[f64], q: usize, s: &[f64], out: &mut
     requires shape_in_bounds { (theta_length shape ≤ length theta.now) × (q * q ≤ length s.now) × (q * q ≤ length out.old) }
     ensures { out.new ≡ grid_to q q (right_column_at shape theta.now s.now) out.old }
 {
-    let mut c = 0;
-    while c < q {
+    for c in 0..q {
         right_column(shape, theta, q, s, c, out);
-        c += 1;
     }
 }
+
+// Beside each function above stands one for A: the factors of its products stand the other way round, and the unit matrix is added, so one function for both
+// would be told the product and the end of each entry, and be longer than the two.
 
 // One more on the diagonal.
 fn plus_unit(x: f64, a: usize, c: usize) -> f64
@@ -87,12 +84,10 @@ fn system_single(x: f64, q: usize, k: &[f64], a: usize, o: usize, out: &mut [f64
     requires { (a < q) × (q * q ≤ length k.now) × (o + q ≤ length out.old) }
     ensures { out.new ≡ fill_at o q (system_one x q k.now a) out.old }
 {
-    let mut c = 0;
-    while c < q {
+    for c in 0..q {
         let i = base::offset(c, q, q);
         let sum = 0.0 + x * k[i + a];
         out[o + c] = plus_unit(sum, a, c);
-        c += 1;
     }
 }
 
@@ -110,12 +105,10 @@ fn system_several(
     requires { (first + count ≤ length theta.now) × (a + count ≤ q) × (a < q) × (q * q ≤ length k.now) × (o + q ≤ length out.old) }
     ensures { out.new ≡ fill_at o q (system_by first count theta.now q k.now a) out.old }
 {
-    let mut c = 0;
-    while c < q {
+    for c in 0..q {
         let i = base::offset(c, q, q) + a;
         let sum = base::dot_from(theta, first, &k[i..], count);
         out[o + c] = plus_unit(sum, a, c);
-        c += 1;
     }
 }
 
@@ -142,9 +135,7 @@ pub fn system(shape: Shape, theta: &[f64], q: usize, k: &[f64], out: &mut [f64])
     requires shape_in_bounds { (theta_length shape ≤ length theta.now) × (q * q ≤ length k.now) × (q * q ≤ length out.old) }
     ensures { out.new ≡ grid_to q q (system_at shape theta.now k.now) out.old }
 {
-    let mut a = 0;
-    while a < q {
+    for a in 0..q {
         system_row(shape, theta, q, k, a, out);
-        a += 1;
     }
 }

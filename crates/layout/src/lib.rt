@@ -5,6 +5,9 @@
 // `matrices`: S holds A to the quadrature's end; I belongs to the quadrature; W to one iteration; P, u and β live to the results.
 // `terms`: the pieces named here live until the first log term is formed. Two parts of one slice cannot be lent at once,
 // so what is read and what is written stand in different slices wherever both are large.
+//
+// Places that differ in a constant stay functions of their own: each has its name, its contract and its line in the table of the
+// slices, and a const parameter would hide the name.
 #![tactic(auto)]
 
 mod matrices;

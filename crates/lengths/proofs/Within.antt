@@ -1,18 +1,12 @@
 -- A length that is asked for, by whether the sizes are in range. Assumes nothing.
 use mathlib.Core.Path.{◌≡◌, refl, sym, ◌∙◌}
 use mathlib.Core.Bool.{Bool, true, false}
-use Prim.Native.Nat.{ℕ, ◌≤◌, ◌<◌}
-use borrow.Author.Tests.{leb-true, lt-leb, le-leb}
+use Prim.Native.Nat.{ℕ, ◌≤◌}
+use borrow.Author.Tests.{leb-true}
 use lib.Dec.{leb}
 use Rattle.model.specs.Shape.{within}
 use Rattle.model.proofs.Tests.{both}
 use Rattle.lengths.specs.Asked.{when_in}
-
-pub below_one : (most k : ℕ) → k < 1 → false ≡ within 1 most k
-below_one most k l = rw (lt-leb 1 k l) refl
-
-pub from_one : (most k : ℕ) → 1 ≤ k → leb k most ≡ within 1 most k
-from_one most k l = rw (le-leb 1 k l) refl
 
 -- by what was found of k
 module _ (most k : ℕ) (b : Bool) (e : b ≡ within 1 most k) where

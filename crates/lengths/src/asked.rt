@@ -7,29 +7,27 @@ ghost use Rattle.lengths.specs.Asked.{rows_asked, matrices_asked};
 pub fn in_range(most: usize, k: usize) -> bool
     ensures { result ≡ within 1 most k }
 {
-    if k < 1 {
-        return false;
-    }
-    k <= most
+    (1..=most).contains(&k)
 }
 
+#[tactic(auto, unfolding(crate::specs::Asked::when_in))]
 pub fn rows_asked(n: usize) -> usize
     ensures { result ≡ rows_asked n }
 {
     if in_range(512, n) {
-        return layout::rows_length(n);
+        layout::rows_length(n)
+    } else {
+        0
     }
-    0
 }
 
+#[tactic(auto, unfolding(crate::specs::Asked::when_in))]
 pub fn matrices_asked(p: usize, q: usize) -> usize
     ensures { result ≡ matrices_asked p q }
 {
-    if in_range(16, p) {
-        if in_range(32, q) {
-            return layout::matrices_length(p, q);
-        }
-        return 0;
+    if in_range(16, p) && in_range(32, q) {
+        layout::matrices_length(p, q)
+    } else {
+        0
     }
-    0
 }

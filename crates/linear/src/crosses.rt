@@ -10,10 +10,8 @@ fn add_products(v: f64, x: &[f64], o: usize, count: usize, sums: &mut [f64])
     requires { (o + count ≤ length x.now) × (count ≤ length sums.old) }
     ensures { sums.new ≡ fill_to count (added_at v x.now o sums.old) sums.old }
 {
-    let mut k = 0;
-    while k < count {
+    for k in 0..count {
         sums[k] = sums[k] + v * x[o + k];
-        k += 1;
     }
 }
 
@@ -31,54 +29,30 @@ fn crosses(
     requires { (n * p ≤ length x.now) × (n ≤ length w.now) × (a < p) × (b + count ≤ p) × (sums.old ≡ build zero_at count) }
     ensures { sums.new ≡ build (cross_from x.now p n w.now a b) count }
 {
-    let mut i = 0;
-    while i < n {
+    for i in 0..n {
         let o = base::offset(i, n, p);
         let v = x[o + a] * w[i];
         let c = o + b;
         add_products(v, x, c, count, sums);
-        i += 1;
     }
 }
 
-// Twelve columns of row a from b on, into out.
-fn twelve(x: &[f64], w: &[f64], n: usize, p: usize, a: usize, b: usize, out: &mut [f64])
-    requires { (n * p ≤ length x.now) × (n ≤ length w.now) × (a < p) × (b + 12 ≤ p) × (12 ≤ length out.old) }
-    ensures { out.new ≡ fill_to 12 (cross_from x.now p n w.now a b) out.old }
+// N columns of row a from b on, into the front of out. Each width that is called is a function of its own, so the count of its sums is a constant.
+fn some_columns<const N: usize>(
+    x: &[f64],
+    w: &[f64],
+    n: usize,
+    p: usize,
+    a: usize,
+    b: usize,
+    out: &mut [f64],
+)
+    requires { (n * p ≤ length x.now) × (n ≤ length w.now) × (a < p) × (b + N ≤ p) × (N ≤ length out.old) }
+    ensures { out.new ≡ fill_to N (cross_from x.now p n w.now a b) out.old }
 {
-    let mut sums = [0.0; 12];
-    crosses(x, w, n, p, a, b, 12, &mut sums);
-    base::copy(&sums, out, 12);
-}
-
-// Six of them.
-fn six(x: &[f64], w: &[f64], n: usize, p: usize, a: usize, b: usize, out: &mut [f64])
-    requires { (n * p ≤ length x.now) × (n ≤ length w.now) × (a < p) × (b + 6 ≤ p) × (6 ≤ length out.old) }
-    ensures { out.new ≡ fill_to 6 (cross_from x.now p n w.now a b) out.old }
-{
-    let mut sums = [0.0; 6];
-    crosses(x, w, n, p, a, b, 6, &mut sums);
-    base::copy(&sums, out, 6);
-}
-
-// Two of them.
-fn two(x: &[f64], w: &[f64], n: usize, p: usize, a: usize, b: usize, out: &mut [f64])
-    requires { (n * p ≤ length x.now) × (n ≤ length w.now) × (a < p) × (b + 2 ≤ p) × (2 ≤ length out.old) }
-    ensures { out.new ≡ fill_to 2 (cross_from x.now p n w.now a b) out.old }
-{
-    let mut sums = [0.0; 2];
-    crosses(x, w, n, p, a, b, 2, &mut sums);
-    base::copy(&sums, out, 2);
-}
-
-// One of them.
-fn one(x: &[f64], w: &[f64], n: usize, p: usize, a: usize, b: usize, out: &mut [f64])
-    requires { (n * p ≤ length x.now) × (n ≤ length w.now) × (a < p) × (b + 1 ≤ p) × (1 ≤ length out.old) }
-    ensures { out.new ≡ fill_to 1 (cross_from x.now p n w.now a b) out.old }
-{
-    let mut sums = [0.0; 1];
-    crosses(x, w, n, p, a, b, 1, &mut sums);
-    base::copy(&sums, out, 1);
+    let mut sums = [0.0; N];
+    crosses(x, w, n, p, a, b, N, &mut sums);
+    base::copy(&sums, out, N);
 }
 
 // Where `count` columns that are to begin at b begin, so that they end within p: at b, or before it, and then some are summed once more.
@@ -86,10 +60,7 @@ pub fn begin_at(b: usize, p: usize, count: usize) -> usize
     requires { count ≤ p }
     ensures { result ≡ begin_at b p count }
 {
-    if b < p - count {
-        return b;
-    }
-    p - count
+    b.min(p - count)
 }
 
 // Some columns of row a from b on into out, which has a place for each column; returns the column behind them. Those behind the diagonal may be among them.
@@ -107,25 +78,23 @@ fn cross_from(
 {
     if p < 2 {
         let e = b + 1;
-        one(x, w, n, p, a, b, &mut out[b..e]);
+        some_columns::<1>(x, w, n, p, a, b, &mut out[b..e]);
         return e;
     }
     if p < 6 {
         let o = begin_at(b, p, 2);
         let e = o + 2;
-        two(x, w, n, p, a, o, &mut out[o..e]);
+        some_columns::<2>(x, w, n, p, a, o, &mut out[o..e]);
         return e;
     }
-    if b + 6 <= a {
+    if b + 6 <= a && b + 12 <= p {
         let e = b + 12;
-        if e <= p {
-            twelve(x, w, n, p, a, b, &mut out[b..e]);
-            return e;
-        }
+        some_columns::<12>(x, w, n, p, a, b, &mut out[b..e]);
+        return e;
     }
     let o = begin_at(b, p, 6);
     let e = o + 6;
-    six(x, w, n, p, a, o, &mut out[o..e]);
+    some_columns::<6>(x, w, n, p, a, o, &mut out[o..e]);
     e
 }
 
@@ -135,6 +104,7 @@ fn cross_row(x: &[f64], w: &[f64], n: usize, p: usize, a: usize, out: &mut [f64]
     ensures { RowLeft a (cross_at x.now p n w.now a) out.old out.new }
 {
     let mut b = 0;
+    // `while`: how far a turn comes is the width that it takes, and 12 columns, 6 and less take turns in one row.
     while b <= a {
         b = cross_from(x, w, n, p, a, b, out);
     }
@@ -145,11 +115,9 @@ pub fn cross_rows(x: &[f64], w: &[f64], n: usize, p: usize, out: &mut [f64])
     requires { (n * p ≤ length x.now) × (n ≤ length w.now) × (length out.old ≡ p * p) }
     ensures { CrossLeft p (cross_at x.now p n w.now) out.old out.new }
 {
-    let mut a = 0;
-    while a < p {
+    for a in 0..p {
         let o = base::offset(a, p, p);
         let e = o + p;
         cross_row(x, w, n, p, a, &mut out[o..e]);
-        a += 1;
     }
 }

@@ -9,11 +9,9 @@ pub fn x_beta(x: &[f64], beta: &[f64], n: usize, p: usize, out: &mut [f64])
     requires { (n * p ≤ length x.now) × (p ≤ length beta.now) × (n ≤ length out.old) }
     ensures { out.new ≡ fill_to n (x_beta_at x.now p beta.now) out.old }
 {
-    let mut i = 0;
-    while i < n {
+    for i in 0..n {
         let o = base::offset(i, n, p);
         out[i] = base::dot_from(x, o, beta, p);
-        i += 1;
     }
 }
 
@@ -22,10 +20,8 @@ pub fn products(a: &[f64], b: &[f64], n: usize, out: &mut [f64])
     requires { (n ≤ length a.now) × (n ≤ length b.now) × (n ≤ length out.old) }
     ensures { out.new ≡ fill_to n (product_at a.now b.now) out.old }
 {
-    let mut i = 0;
-    while i < n {
+    for i in 0..n {
         out[i] = a[i] * b[i];
-        i += 1;
     }
 }
 
@@ -35,11 +31,9 @@ fn column_dot(v: &[f64], x: &[f64], n: usize, p: usize, b: usize) -> f64
     ensures { result ≡ column_dot x.now p n v.now b }
 {
     let mut sum = 0.0;
-    let mut i = 0;
-    while i < n {
+    for i in 0..n {
         let o = base::offset(i, n, p);
         sum = sum + v[i] * x[o + b];
-        i += 1;
     }
     sum
 }
@@ -49,10 +43,8 @@ pub fn effects_less(wy: &[f64], solved: &[f64], beta: &[f64], q: usize, p: usize
     requires { (q ≤ length wy.now) × (p * q ≤ length solved.now) × (p ≤ length beta.now) × (q ≤ length out.old) }
     ensures { out.new ≡ fill_to q (effect_at wy.now solved.now q p beta.now) out.old }
 {
-    let mut i = 0;
-    while i < q {
+    for i in 0..q {
         let sum = column_dot(beta, solved, p, q, i);
         out[i] = wy[i] - sum;
-        i += 1;
     }
 }

@@ -1,31 +1,26 @@
 -- Pieces appended one behind another make one piece, and those from the front on make the line. Assumes nothing.
 use mathlib.Core.Path.{◌≡◌, refl, sym, ◌∙◌}
-use mathlib.Core.List.{List, [], ◌∷◌, ◌++◌, append_assoc}
-use Prim.Native.Nat.{ℕ, ◌+◌, ◌≤◌, ◌<◌}
-use native.Mathlib.Numerals.{add-one}
+use Rattle.std.specs.Prelude.{Bool, true, false}
+use mir.Val.{bool_byte}
+use mathlib.Core.List.{List, ◌∷◌, ◌++◌, append_assoc}
+use Prim.Native.Nat.{ℕ, ◌+◌, ◌-◌, ◌≤◌}
 use native.Mathlib.Omega.{arith}
-use lib.ListN.{length, set, take, length-append}
-use lib.Seq.{length-take-le, take-suc, take-length}
-use Rattle.base.specs.Sum.{◌!!◌}
+use borrow.Rule.Slice.PartMut.{put_mid}
+use lib.ListN.{length, take, drop, length-append}
+use lib.Seq.{length-take-le, drop-drop}
 use Rattle.job.specs.Lists.{laid}
-use Rattle.job.proofs.ListLaws.{laid_more, laid_on}
+use Rattle.job.proofs.ListLaws.{laid_on}
 use Rattle.lines.specs.Decimals.{decimal_of}
-use Rattle.lines.specs.Lines.{pair_text, Appended, Paired, Written}
+use Rattle.lines.specs.Lines.{pair_text, flag_of, Appended, Paired, Written}
 use Rattle.lines.proofs.DigitLaws.{decimal_few}
 
--- one more byte
-pub byte_on : (bytes b w : List ℕ) (at i x : ℕ) → x ≡ bytes !! i → i < length bytes → at + i < length b → w ≡ laid (take at b ++ take i bytes) b → set w (at + i) x ≡ laid (take at b ++ take (i + 1) bytes) b
-byte_on bytes b w at i x h l m e =
-    let long : length (take at b ++ take i bytes) ≡ at + i = length-append (take at b) (take i bytes) ∙ rw (length-take-le at b (omega arith), length-take-le i bytes (omega arith)) refl in
-    let more : (take at b ++ take i bytes) ++ ((bytes !! i) ∷ []) ≡ take at b ++ take (i + 1) bytes = append_assoc (take at b) (take i bytes) ((bytes !! i) ∷ []) ∙ rw (add-one, take-suc bytes i 0 l) refl in
-    rw (e, h, laid_more (take at b ++ take i bytes) b (at + i) (bytes !! i) long m, more)
-
--- all of them
-pub bytes_done : (bytes b w : List ℕ) (at i n r : ℕ) → n ≡ length bytes → i ≡ n → r ≡ at + n → w ≡ laid (take at b ++ take i bytes) b → Appended bytes at b r w
-bytes_done bytes b w at i n r h q k e =
-    let whole : take (length bytes) bytes ≡ bytes = take-length bytes in
-    let g : w ≡ laid (take at b ++ take (length bytes) bytes) b = rw (← h, ← q) e in
-    record { ends = rw (← h) k; text = rw whole at g }
+-- bytes copied into the place behind the first `at`
+pub copied : (bytes b y : List ℕ) (at : ℕ) → at + length bytes ≤ length b → y ≡ bytes → Appended bytes at b (at + length bytes) (put_mid at (at + length bytes - at) b y)
+unfolding laid
+copied bytes b y at l e =
+    let n : at + length bytes - at ≡ length bytes = omega arith in
+    let long : length (take at b ++ bytes) ≡ at + length bytes = length-append (take at b) bytes ∙ rw (length-take-le at b (omega arith)) refl in
+    record { ends = refl; text = rw (e, n, long, drop-drop (length bytes) at b) (sym (append_assoc (take at b) bytes (drop (at + length bytes) b))) }
 
 -- ---- two pieces
 pub appended_both : {p q : List ℕ} {at m r : ℕ} {b w v : List ℕ} → Appended p at b m w → Appended q m w r v → at + length p ≤ length b → Appended (p ++ q) at b r v
@@ -51,3 +46,9 @@ paired w n at r b v x = record { piece = x; few = omega (arith, x.ends, pair_few
 -- a pair and what follows it
 pub pair_and : {w q : List ℕ} {n at m r : ℕ} {b u v : List ℕ} → Paired w n at b m u → Appended q m u r v → at + length w + 21 ≤ length b → Appended (pair_text w n ++ q) at b r v
 pair_and {w} {q} {n} x y l = appended_both x.piece y (omega (arith, pair_few w n))
+
+-- a test as a number
+pub told_flag : (t : Bool) (n : ℕ) → n ≡ bool_byte t → n ≡ flag_of t
+unfolding flag_of
+told_flag true n e = e
+told_flag false n e = e

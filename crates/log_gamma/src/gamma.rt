@@ -4,17 +4,12 @@ ghost use Rattle.log_gamma.specs.LogGamma.{next_of, below_two, product_of, below
 
 use crate::near::{about_least, about_one, about_two, below_three};
 use base::{double, infinity, is_nan, pattern};
-use elementary::ln;
+use elementary::{LN2_HI, LN2_LO, ln};
 
 // Where ln gamma is least, and that less 1.
 const TC: f64 = 1.46163214496836224576e+00;
 
 const TC1: f64 = 0.46163214496836224576;
-
-// ln 2 in two parts, those of ln_1p and exp_m1.
-const LN2_HI: f64 = 6.93147180369123816490e-01;
-
-const LN2_LO: f64 = 1.90821492927058770002e-10;
 
 // W, from 8 on.
 const W0: f64 = 4.18938533204672725052e-01;
@@ -32,6 +27,7 @@ const W5: f64 = 8.36339918996282139126e-04;
 const W6: f64 = -1.63092934096575273989e-03;
 
 // ln gamma(1 + x), for x from 0 to 0.9.
+#[tactic(auto, unfolding(crate::specs::LogGamma::next_of))]
 fn next(x: f64) -> f64
     ensures { result ≡ next_of x }
 {
@@ -45,6 +41,7 @@ fn next(x: f64) -> f64
 }
 
 // ln gamma(x), for x from 0.9 to 2, but for the sign of its zero at 1.
+#[tactic(auto, unfolding(crate::specs::LogGamma::below_two))]
 fn below_two(x: f64) -> f64
     ensures { result ≡ below_two x }
 {
@@ -58,6 +55,7 @@ fn below_two(x: f64) -> f64
 }
 
 // ln(z gamma(v)), for v from 2 to 3.
+#[tactic(auto, unfolding(crate::specs::LogGamma::product_of))]
 fn product(v: f64, z: f64) -> f64
     ensures { result ≡ product_of v z }
 {
@@ -65,24 +63,24 @@ fn product(v: f64, z: f64) -> f64
 }
 
 // ln gamma(x), for x from 2 to 8: gamma(v) is (v - 1) gamma(v - 1), down to a v below 3. The differences are exact.
+#[tactic(auto, using(crate::proofs::Lowered::lowered_on, crate::proofs::Lowered::lowered_off, crate::proofs::Lowered::lowered_end), unfolding(crate::specs::LogGamma::below_eight))]
 fn below_eight(x: f64) -> f64
     ensures { result ≡ below_eight x }
 {
     let mut v = x;
     let mut z = 1.0;
-    let mut i: u64 = 0;
-    while i < 5 {
+    for i in 0u64..5 {
         if v < 3.0 {
             return product(v, z);
         }
         v = v - 1.0;
         z = z * v;
-        i += 1;
     }
     product(v, z)
 }
 
 // ln sqrt(2 pi) - 1/2 and the series in 1/x.
+#[tactic(auto, unfolding(crate::specs::LogGamma::series_of))]
 fn series(x: f64) -> f64
     ensures { result ≡ series_of x }
 {
@@ -92,6 +90,7 @@ fn series(x: f64) -> f64
 }
 
 // From 8 on: (x - 1/2)(ln x - 1) and the series, where x is 2^k m and ln x is k ln 2 + ln m.
+#[tactic(auto, unfolding(crate::specs::LogGamma::stirling_of, crate::specs::LogGamma::stirling_by))]
 fn stirling(x: f64) -> f64
     ensures { result ≡ stirling_of x }
 {
@@ -103,6 +102,7 @@ fn stirling(x: f64) -> f64
 }
 
 // The logarithm of gamma(x), for x from 0 on; below zero NaN.
+#[tactic(auto, using(base::proofs::Doubles::no_quotient), unfolding(crate::specs::LogGamma::ln_gamma_of))]
 pub fn ln_gamma(x: f64) -> f64
     ensures { result ≡ ln_gamma_of x }
 {

@@ -114,6 +114,7 @@ const R5: f64 = 7.77942496381893596434e-04;
 const R6: f64 = 7.32668430744625636189e-06;
 
 // ln gamma(2 - y), for y from 0 to 0.27.
+#[tactic(auto, unfolding(crate::specs::Near::about_two))]
 pub fn about_two(y: f64) -> f64
     ensures { result ≡ about_two y }
 {
@@ -124,6 +125,7 @@ pub fn about_two(y: f64) -> f64
 }
 
 // ln gamma(TC + y), for y from -0.23 to 0.27; it is least at TC.
+#[tactic(auto, unfolding(crate::specs::Near::about_least))]
 pub fn about_least(y: f64) -> f64
     ensures { result ≡ about_least y }
 {
@@ -136,6 +138,7 @@ pub fn about_least(y: f64) -> f64
 }
 
 // ln gamma(1 + y), for y from -0.1 to 0.2316.
+#[tactic(auto, unfolding(crate::specs::Near::about_one))]
 pub fn about_one(y: f64) -> f64
     ensures { result ≡ about_one y }
 {
@@ -145,6 +148,7 @@ pub fn about_one(y: f64) -> f64
 }
 
 // ln gamma(v), for v from 2 to 3.
+#[tactic(auto, unfolding(crate::specs::Near::below_three))]
 pub fn below_three(v: f64) -> f64
     ensures { result ≡ below_three v }
 {

@@ -1,4 +1,5 @@
 -- What the table is told and asked: the products are formed of 64 responses at most, and where there are more the table refuses before it looks at a length. Assumes nothing.
+use Rattle.std.specs.Prelude.{Ok}
 use mathlib.Core.Path.{◌≡◌, refl, sym, ◌∙◌}
 use mathlib.Core.Bool.{Bool, true, false, cond}
 use mathlib.Core.List.{List}
@@ -16,7 +17,6 @@ use Rattle.model.proofs.Tests.{false_unless}
 use Rattle.table.specs.Tests.{good_count}
 use Rattle.table.specs.Table.{table_of}
 use Rattle.table.specs.declared.verdicts.LentLengths.{LentLengths}
-use Rattle.table.specs.declared.verdicts.Verdict.TheVariants.{Accepted}
 use Rattle.table.proofs.Accepting.{line_1, line_8}
 use Rattle.table.proofs.Exactly.{count_exactly}
 use Rattle.family.specs.declared.carried.CarriedFamily.{CarriedFamily}
@@ -98,7 +98,7 @@ fronts_many h theta y weights offset x starts columns values =
     refl
 
 -- ---- an accepted call has room for all responses
-pub roomy_by : (r : ℕ) (h : Header) (s : Shape) (I : Inputs) (B : Buffers) (f : CarriedFamily) (l : CarriedLink) → verdict_for r h.settings s (many_fronts h I) B ≡ Accepted f l → DesignFronts h I
+pub roomy_by : (r : ℕ) (h : Header) (s : Shape) (I : Inputs) (B : Buffers) (f : CarriedFamily) (l : CarriedLink) → verdict_for r h.settings s (many_fronts h I) B ≡ Ok (f, l) → DesignFronts h I
     → Roomy r h I B.results B.counts
 roomy_by r h s I B f l e d =
     let a = all_sound r h.settings s (many_fronts h I) B f l e in

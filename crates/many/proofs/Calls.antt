@@ -1,4 +1,5 @@
 -- A call of many responses is the single calls one by one: what each response is told and given, what an accepted call leaves behind, and one response as `fit_job` fits it. Assumes nothing.
+use Rattle.std.specs.Prelude.{Ok}
 use mathlib.Core.Path.{◌≡◌, refl, ap, ◌∙◌}
 use mathlib.Core.List.{List}
 use Prim.Native.Nat.{ℕ, zero, suc, ◌*◌, ◌≤◌, ◌<◌}
@@ -18,7 +19,6 @@ use Rattle.layout.specs.WorkTerms.{terms_length}
 use Rattle.family.specs.declared.carried.CarriedFamily.{CarriedFamily}
 use Rattle.family.specs.declared.carried.CarriedLink.{CarriedLink}
 use Rattle.table.specs.Table.{table_of}
-use Rattle.table.specs.declared.verdicts.Verdict.TheVariants.{Accepted}
 use Rattle.call.specs.Call.{FitNumber, lengths_of}
 use Rattle.call.proofs.Capped.{call_capped}
 use Rattle.call.proofs.Parts.{call_parts, call_accepted}
@@ -51,7 +51,7 @@ pub record WorkWiped (t : Settings) (B A : Buffers) : Type 0 where
   pub terms : A.terms ≡ fill_to terms_length zero_at B.terms
 
 -- ---- a call that is accepted
-module _ (r : ℕ) (t : Settings) (s : Shape) (I : Inputs) (B : Buffers) (f : CarriedFamily) (l : CarriedLink) (e : verdict_for r t s I B ≡ Accepted f l) where
+module _ (r : ℕ) (t : Settings) (s : Shape) (I : Inputs) (B : Buffers) (f : CarriedFamily) (l : CarriedLink) (e : verdict_for r t s I B ≡ Ok (f, l)) where
   -- it is the single calls, in order
   pub many_accepted : many_of r t s I B ≡ told 0 (after_to t s I r B)
   unfolding many_of many_by
@@ -66,7 +66,7 @@ module _ (r : ℕ) (t : Settings) (s : Shape) (I : Inputs) (B : Buffers) (f : Ca
     block_long = part_length (i * block_length t) (block_length t) B.results (le_trans (block_fits i r (block_length t) h) room.results)
 
     -- its single call is accepted, with the buffers as they were lent
-    pub response_accepted : table_of 1 t s (lists_at t s I i) (lengths_of (lent_for t B.rows B.matrices B.terms (part_of (i * block_length t) (block_length t) B.results))) ≡ Accepted f l
+    pub response_accepted : table_of 1 t s (lists_at t s I i) (lengths_of (lent_for t B.rows B.matrices B.terms (part_of (i * block_length t) (block_length t) B.results))) ≡ Ok (f, l)
     response_accepted = each_accepted r t s I B f l e i h B.rows B.matrices B.terms (part_of (i * block_length t) (block_length t) B.results) refl refl refl block_long
 
     -- so its number is 0 or one of 10 to 13
@@ -105,7 +105,7 @@ module _ (r : ℕ) (t : Settings) (s : Shape) (I : Inputs) (B : Buffers) (f : Ca
     kept : SameLengths (after_to t s I j B) B
     kept = lengths_to t s I r B room j (le_of_suc-le h)
 
-    turn_accepted : table_of 1 t s (lists_at t s I j) (lengths_of (lent_for t (after_to t s I j B).rows (after_to t s I j B).matrices (after_to t s I j B).terms part_at)) ≡ Accepted f l
+    turn_accepted : table_of 1 t s (lists_at t s I j) (lengths_of (lent_for t (after_to t s I j B).rows (after_to t s I j B).matrices (after_to t s I j B).terms part_at)) ≡ Ok (f, l)
     turn_accepted =
         each_accepted r t s I B f l e j h (after_to t s I j B).rows (after_to t s I j B).matrices (after_to t s I j B).terms part_at kept.rows kept.matrices kept.terms
         (part_length (j * block_length t) (block_length t) (after_to t s I j B).results (rw kept.results (le_trans (block_fits j r (block_length t) h) room.results)))

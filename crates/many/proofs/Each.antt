@@ -1,4 +1,5 @@
 -- Each response of an accepted call is accepted alone: the tests of the design are passed, and what the table asks of all responses holds of each. Assumes nothing.
+use Rattle.std.specs.Prelude.{Ok}
 use mathlib.Core.Path.{◌≡◌, refl, sym, ap, ◌∙◌}
 use mathlib.Core.Bool.{Bool, true, false, cond, ◌&&◌}
 use mathlib.Core.List.{List}
@@ -25,7 +26,6 @@ use Rattle.table.specs.Tests.{good_count, good_inputs, good_results, good_work, 
 use Rattle.table.specs.Table.{table_of}
 use Rattle.table.specs.Facts.{ResultsFit, WorkFits, AllFinite, AllInRange, Sound}
 use Rattle.table.specs.declared.verdicts.LentLengths.{LentLengths}
-use Rattle.table.specs.declared.verdicts.Verdict.TheVariants.{Accepted}
 use Rattle.table.proofs.Accepting.{is_accepted, line_6, past_lines, accepted_sound}
 use Rattle.table.proofs.Exactly.{sizes_exactly, count_exactly, inputs_exactly, results_exactly, work_exactly, numbers_exactly, range_exactly, start_exactly}
 use Rattle.call.specs.Call.{lengths_of}
@@ -38,7 +38,7 @@ use Rattle.many.proofs.Single.{zeros_length}
 use Rattle.many.proofs.Alone.{RoomIn, lists_at}
 
 -- ---- the same design with one other response
-module _ (r : ℕ) (t : Settings) (s : Shape) (I : Inputs) (L : LentLengths) (f : CarriedFamily) (l : CarriedLink) (e : table_of r t s I L ≡ Accepted f l) where
+module _ (r : ℕ) (t : Settings) (s : Shape) (I : Inputs) (L : LentLengths) (f : CarriedFamily) (l : CarriedLink) (e : table_of r t s I L ≡ Ok (f, l)) where
   abbrev found : Sound r t s I L f l
   found = accepted_sound r t s I L f l e
 
@@ -67,7 +67,7 @@ module _ (r : ℕ) (t : Settings) (s : Shape) (I : Inputs) (L : LentLengths) (f 
   numbers_good : good_numbers I ≡ true
   numbers_good = (numbers_exactly I).1 found.numbers
 
-  pub one_accepted : (y : List Float) (M : LentLengths) → length y ≡ t.n → AllFinite y → AllInRange f y → ResultsFit 1 t M → WorkFits t M → table_of 1 t s (with_y y I) M ≡ Accepted f l
+  pub one_accepted : (y : List Float) (M : LentLengths) → length y ≡ t.n → AllFinite y → AllInRange f y → ResultsFit 1 t M → WorkFits t M → table_of 1 t s (with_y y I) M ≡ Ok (f, l)
   one_accepted y M long fin ranged results work =
       let g = found.inputs_fit in
       let n = found.numbers in
@@ -79,11 +79,11 @@ module _ (r : ℕ) (t : Settings) (s : Shape) (I : Inputs) (L : LentLengths) (f 
       ∙ rw (found.family, found.link) refl
 
 -- ---- a call of r responses that is accepted
-module _ (r : ℕ) (t : Settings) (s : Shape) (I : Inputs) (B : Buffers) (f : CarriedFamily) (l : CarriedLink) (e : verdict_for r t s I B ≡ Accepted f l) where
+module _ (r : ℕ) (t : Settings) (s : Shape) (I : Inputs) (B : Buffers) (f : CarriedFamily) (l : CarriedLink) (e : verdict_for r t s I B ≡ Ok (f, l)) where
   abbrev asked : LentLengths
   asked = lengths_for r t (length B.rows) (length B.matrices) (length B.terms) (length B.results) (length B.counts)
 
-  at_table : table_of r t s I asked ≡ Accepted f l
+  at_table : table_of r t s I asked ≡ Ok (f, l)
   unfolding verdict_for
   at_table = e
 
@@ -131,7 +131,7 @@ module _ (r : ℕ) (t : Settings) (s : Shape) (I : Inputs) (B : Buffers) (f : Ca
           let g = all_sound.work_fits in
           record { rows = rw k g.rows; matrices = rw m g.matrices; terms = rw w g.terms }
 
-      pub each_accepted : table_of 1 t s (lists_at t s I i) (lengths_of (lent_for t rows matrices terms block)) ≡ Accepted f l
+      pub each_accepted : table_of 1 t s (lists_at t s I i) (lengths_of (lent_for t rows matrices terms block)) ≡ Ok (f, l)
       each_accepted =
           one_accepted r t s I asked f l at_table (response_at t.n i I.y) (lengths_of (lent_for t rows matrices terms block))
           (part_length (i * t.n) t.n I.y inside)

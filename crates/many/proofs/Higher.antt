@@ -1,4 +1,8 @@
 -- A higher limit changes nothing of a response whose number is not 13, whatever the others came to, and shrinks no count of its work. Document 02, P13. Assumes nothing.
+use Prim.{tt}
+use Rattle.family.specs.declared.carried.CarriedFamily.{CarriedFamily}
+use Rattle.family.specs.declared.carried.CarriedLink.{CarriedLink}
+use Rattle.std.specs.Prelude.{Result, Ok, Err}
 use mathlib.Core.Path.{◌≡◌, refl, sym, ap, ◌∙◌}
 use mathlib.Core.Bool.{Bool, true, false}
 use mathlib.Core.List.{List}
@@ -14,9 +18,6 @@ use Rattle.model.specs.Names.{limit_of}
 use Rattle.model.specs.declared.ends.Refusal.{Refusal}
 use Rattle.model.specs.declared.sizes.Shape.{Shape}
 use Rattle.model.specs.declared.sizes.Settings.{Settings}
-use Rattle.table.specs.declared.verdicts.Verdict.{Verdict}
-use Rattle.table.specs.declared.verdicts.Verdict.TheVariants.{Accepted, Refused}
-use Rattle.job.specs.declared.faults.Fault.TheVariants.{Sound}
 use Rattle.job.specs.Faults.{fault_of}
 use Rattle.job.specs.Lists.{laid}
 use Rattle.job.specs.Job.{Job, sound, job_of, read_by, read_of}
@@ -95,7 +96,7 @@ module _ (t : Settings) (s : Shape) (I : Inputs) (r : ℕ) (B : Buffers) (M : �
   unfolding verdict_for lengths_for beta_for
   verdict_limited = limited_table r M t s I (lengths_for r t (length B.rows) (length B.matrices) (length B.terms) (length B.results) (length B.counts)) higher few
 
-  refused_limited : (x : Refusal) → verdict_for r t s I B ≡ Refused x → many_of r (limited M t) s I B ≡ many_of r t s I B
+  refused_limited : (x : Refusal) → verdict_for r t s I B ≡ Err x → many_of r (limited M t) s I B ≡ many_of r t s I B
   unfolding many_of many_by
   refused_limited x e = rw (verdict_limited, e) refl
 
@@ -103,9 +104,9 @@ module _ (t : Settings) (s : Shape) (I : Inputs) (r : ℕ) (B : Buffers) (M : �
   unfolding many_of many_by
   many_response i h n = by (verdict_for r t s I B) refl
     where
-      by : (x : Verdict) → verdict_for r t s I B ≡ x → SameFor t i (many_of r (limited M t) s I B) (many_of r t s I B)
-      by (Refused x) e = same_for t i _ _ (refused_limited x e)
-      by (Accepted f l) e =
+      by : (x : Result (CarriedFamily × CarriedLink) Refusal) → verdict_for r t s I B ≡ x → SameFor t i (many_of r (limited M t) s I B) (many_of r t s I B)
+      by (Err x) e = same_for t i _ _ (refused_limited x e)
+      by (Ok (f, l)) e =
           let room = room_in r t s I B f l e in
           let m : (done_at t s I i B).answer.number ≡ 13 → ⊥ = λ z. n (rw e (number_told room i h ∙ z)) in
           rw (verdict_limited, e) (record { block = block_limited room i h m; counts = counts_limited room i h m })
@@ -114,22 +115,22 @@ module _ (t : Settings) (s : Shape) (I : Inputs) (r : ℕ) (B : Buffers) (M : �
   unfolding many_of many_by
   many_more i h = by (verdict_for r t s I B) refl
     where
-      by : (x : Verdict) → verdict_for r t s I B ≡ x → NoLower (counts_in i (many_of r t s I B)) (counts_in i (many_of r (limited M t) s I B))
-      by (Refused x) e = rw (refused_limited x e) (as_before _)
-      by (Accepted f l) e = rw (verdict_limited, e) (counts_more (room_in r t s I B f l e) i h)
+      by : (x : Result (CarriedFamily × CarriedLink) Refusal) → verdict_for r t s I B ≡ x → NoLower (counts_in i (many_of r t s I B)) (counts_in i (many_of r (limited M t) s I B))
+      by (Err x) e = rw (refused_limited x e) (as_before _)
+      by (Ok (f, l)) e = rw (verdict_limited, e) (counts_more (room_in r t s I B f l e) i h)
 
   many_whole : ((i : ℕ) → i < r → number_at i (many_of r t s I B) ≡ 13 → ⊥) → many_of r (limited M t) s I B ≡ many_of r t s I B
   unfolding many_of many_by
   many_whole n = by (verdict_for r t s I B) refl
     where
-      by : (x : Verdict) → verdict_for r t s I B ≡ x → many_of r (limited M t) s I B ≡ many_of r t s I B
-      by (Refused x) e = refused_limited x e
-      by (Accepted f l) e =
+      by : (x : Result (CarriedFamily × CarriedLink) Refusal) → verdict_for r t s I B ≡ x → many_of r (limited M t) s I B ≡ many_of r t s I B
+      by (Err x) e = refused_limited x e
+      by (Ok (f, l)) e =
           let room = room_in r t s I B f l e in
           rw (verdict_limited, e) (ap (told 0) (to_limited room r (le_refl r) (λ i h z. n i h (rw e (number_told room i h ∙ z)))))
 
 -- ---- the bytes of a sound job with r responses beside it, and a limit from its own to 1000; one that is not given counts as 100, with the inverse link as 1000
-module _ (s : List ℕ) (e : fault_of s ≡ Sound) (ys : List Float) (r : ℕ) (B : Buffers) (M : ℕ) (higher : limit_of (job_of s).settings.limit (job_of s).settings.link ≤ M) (few : M ≤ 1000) where
+module _ (s : List ℕ) (e : fault_of s ≡ Ok tt) (ys : List Float) (r : ℕ) (B : Buffers) (M : ℕ) (higher : limit_of (job_of s).settings.limit (job_of s).settings.link ≤ M) (few : M ≤ 1000) where
   abbrev asked : Job
   asked = job_of s
 

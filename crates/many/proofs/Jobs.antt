@@ -1,4 +1,5 @@
 -- The call of a job with many responses: each of them is told and given what the single call of the job with this response in place of its own gives, with its own parts of the buffers. Assumes nothing.
+use Rattle.std.specs.Prelude.{Ok}
 use mathlib.Core.Path.{◌≡◌, refl, ◌∙◌}
 use mathlib.Core.Bool.{Bool, true, false}
 use mathlib.Core.List.{List}
@@ -11,7 +12,6 @@ use Rattle.model.specs.Inputs.{Inputs}
 use Rattle.family.specs.Carried.{carried_family, carried_link}
 use Rattle.family.specs.declared.carried.CarriedFamily.{CarriedFamily}
 use Rattle.family.specs.declared.carried.CarriedLink.{CarriedLink}
-use Rattle.table.specs.declared.verdicts.Verdict.TheVariants.{Accepted}
 use Rattle.table.proofs.When.{accepted_when}
 use Rattle.job.specs.Job.{Job, sound, read_of}
 use Rattle.jobfit.specs.Done.{inputs_of}
@@ -35,7 +35,7 @@ module _ (s : List ℕ) (ys : List Float) (r : ℕ) (B : Buffers) (j : Job) (rea
       by false e = let two : ◌≡◌ {A = ℕ} 2 0 = rw e at zero-told in absurd (omega (arith, two))
 
   -- the verdict on all of them
-  pub verdict : (f : CarriedFamily) × (l : CarriedLink) × (verdict_for r j.settings j.shape given B ≡ Accepted f l)
+  pub verdict : (f : CarriedFamily) × (l : CarriedLink) × (verdict_for r j.settings j.shape given B ≡ Ok (f, l))
   unfolding verdict_for
   verdict =
       let z : (many_of r j.settings j.shape given B).returned ≡ 0 = rw (← many_is) zero-told in

@@ -1,4 +1,5 @@
 -- A call of one response is the single call: `fit_many` with a job's own y gives what `fit_job` gives, in every buffer. Assumes nothing.
+use Rattle.std.specs.Prelude.{Result, Ok, Err}
 use mathlib.Core.Path.{◌≡◌, refl, sym, ap, ◌∙◌}
 use mathlib.Core.Bool.{Bool, true, false, cond, ◌&&◌}
 use mathlib.Core.List.{List, ◌++◌, append_assoc}
@@ -21,11 +22,7 @@ use Rattle.family.specs.declared.carried.CarriedFamily.{CarriedFamily}
 use Rattle.family.specs.declared.carried.CarriedLink.{CarriedLink}
 use Rattle.table.specs.Table.{table_of}
 use Rattle.table.proofs.When.{accepted_when}
-use Rattle.table.specs.declared.verdicts.Verdict.{Verdict}
-use Rattle.table.specs.declared.verdicts.Verdict.TheVariants.{Accepted, Refused}
-use Rattle.job.specs.declared.faults.Fault.{Fault}
-use Rattle.job.specs.declared.faults.Fault.TheVariants.{Sound, At}
-use Rattle.job.specs.Faults.{fault_of}
+use Rattle.job.specs.Faults.{Checked, fault_of}
 use Rattle.job.specs.Lists.{laid}
 use Rattle.job.specs.Job.{Job, sound, job_of, read_by, read_of}
 use Rattle.call.specs.Call.{FitNumber, lengths_of, call_of}
@@ -80,14 +77,14 @@ module _ (t : Settings) (s : Shape) (I : Inputs) (B : Buffers) (counts : counts_
       )
       refl
 
-  refused_one : (x : Refusal) → verdict_for 1 t s I B ≡ Refused x → many_of 1 t s I B ≡ single_of t s I B
+  refused_one : (x : Refusal) → verdict_for 1 t s I B ≡ Err x → many_of 1 t s I B ≡ single_of t s I B
   unfolding many_of many_by refused_with verdict_for told_by done_for done_of results_by lent_for returned_by
   refused_one x e =
-      let q : table_of 1 t s I (lengths_of (lent_for t B.rows B.matrices B.terms B.results)) ≡ Refused x = rw (← lengths_one) e in
+      let q : table_of 1 t s I (lengths_of (lent_for t B.rows B.matrices B.terms B.results)) ≡ Err x = rw (← lengths_one) e in
       rw (e, refused_left t s I (lent_for t B.rows B.matrices B.terms B.results) x q, ne_eqb (refusal_number x) 0 (refusal_some x), refusal_no_end x) refl
 
   -- ---- accepted
-  module _ (f : CarriedFamily) (l : CarriedLink) (e : verdict_for 1 t s I B ≡ Accepted f l) where
+  module _ (f : CarriedFamily) (l : CarriedLink) (e : verdict_for 1 t s I B ≡ Ok (f, l)) where
     abbrev block : List Float
     block = part_of 0 (block_length t) B.results
 
@@ -147,7 +144,7 @@ module _ (t : Settings) (s : Shape) (I : Inputs) (B : Buffers) (counts : counts_
     unfolding after_to after_one back_from told_by lent_to
     after_one_lem = placed_one (with_y (response_at t.n 0 I.y) I) (0 * block_length t) own_y (zero-mul (block_length t))
 
-    at_one : table_of 1 t s I (lengths_of (lent_for t B.rows B.matrices B.terms B.results)) ≡ Accepted f l
+    at_one : table_of 1 t s I (lengths_of (lent_for t B.rows B.matrices B.terms B.results)) ≡ Ok (f, l)
     unfolding verdict_for
     at_one = rw (← lengths_one) e
 
@@ -165,16 +162,16 @@ module _ (t : Settings) (s : Shape) (I : Inputs) (B : Buffers) (counts : counts_
   pub one_single : many_of 1 t s I B ≡ single_of t s I B
   one_single = by (verdict_for 1 t s I B) refl
     where
-      by : (v : Verdict) → verdict_for 1 t s I B ≡ v → many_of 1 t s I B ≡ single_of t s I B
-      by (Refused x) e = refused_one x e
-      by (Accepted f l) e = accepted_one f l e
+      by : (v : Result (CarriedFamily × CarriedLink) Refusal) → verdict_for 1 t s I B ≡ v → many_of 1 t s I B ≡ single_of t s I B
+      by (Err x) e = refused_one x e
+      by (Ok (f, l)) e = accepted_one f l e
 
 -- ---- a job
 module _ (B : Buffers) where
-  job_one : (f : Fault) (j : Job) → counts_length ≤ length B.counts → many_answered (read_by f j) 1 j.y B ≡ answered (read_by f j) B
+  job_one : (f : Checked) (j : Job) → counts_length ≤ length B.counts → many_answered (read_by f j) 1 j.y B ≡ answered (read_by f j) B
   unfolding many_answered answered read_by refused_with
-  job_one Sound j h = one_single j.settings j.shape (inputs_of j) B h
-  job_one (At k b) j h = refl
+  job_one (Ok t) j h = one_single j.settings j.shape (inputs_of j) B h
+  job_one (Err e) j h = refl
 
   pub one_by_one : (s : List ℕ) → fit_many_of s (job_of s).y 1 B ≡ fit_job_of s B
   unfolding fit_many_of fit_job_of counted read_of

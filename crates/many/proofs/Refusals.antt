@@ -1,4 +1,7 @@
 -- When a call of many responses is refused, and that it then leaves everything but its first counts as it was lent. Assumes nothing.
+use Rattle.family.specs.declared.carried.CarriedFamily.{CarriedFamily}
+use Rattle.family.specs.declared.carried.CarriedLink.{CarriedLink}
+use Rattle.std.specs.Prelude.{Result, Ok, Err}
 use mathlib.Core.Path.{◌≡◌, refl, sym, ap, ◌∙◌}
 use mathlib.Core.Bool.{Bool, true, false}
 use mathlib.Core.List.{List}
@@ -25,8 +28,6 @@ use Rattle.family.specs.Family.{in_range}
 use Rattle.table.specs.Table.{table_of}
 use Rattle.table.specs.When.{PastRows, PastLink, PastAll, GivenWhen}
 use Rattle.table.specs.declared.verdicts.LentLengths.{LentLengths}
-use Rattle.table.specs.declared.verdicts.Verdict.{Verdict}
-use Rattle.table.specs.declared.verdicts.Verdict.TheVariants.{Accepted, Refused}
 use Rattle.table.proofs.Exactly.{sizes_exactly, count_exactly, numbers_exactly, outside_exactly}
 use Rattle.table.proofs.When.{decided, refused_when, accepted_when}
 use Rattle.call.proofs.When.{same_refusal}
@@ -44,7 +45,7 @@ module _ (r : ℕ) (t : Settings) (s : Shape) (I : Inputs) (B : Buffers) where
   abbrev pub asked : LentLengths
   asked = lengths_for r t (length B.rows) (length B.matrices) (length B.terms) (length B.results) (length B.counts)
 
-  pub refused_many : (x : Refusal) → table_of r t s I asked ≡ Refused x → many_of r t s I B ≡ refused_with (refusal_number x) 0 B
+  pub refused_many : (x : Refusal) → table_of r t s I asked ≡ Err x → many_of r t s I B ≡ refused_with (refusal_number x) 0 B
   unfolding many_of many_by verdict_for
   refused_many x e = rw e refl
 
@@ -114,10 +115,10 @@ untouched number byte B =
       counts = behind_told (blank_answer number no_counts) byte B.counts;
     }
 
-by_verdict : (v : Verdict) (r : ℕ) (t : Settings) (s : Shape) (I : Inputs) (B : Buffers) → ((many_by v r t s I B).returned ≡ 0 → ⊥) → Untouched B (many_by v r t s I B).after
+by_verdict : (v : Result (CarriedFamily × CarriedLink) Refusal) (r : ℕ) (t : Settings) (s : Shape) (I : Inputs) (B : Buffers) → ((many_by v r t s I B).returned ≡ 0 → ⊥) → Untouched B (many_by v r t s I B).after
 unfolding many_by
-by_verdict (Refused x) r t s I B h = untouched (refusal_number x) 0 B
-by_verdict (Accepted f l) r t s I B h = absurd (h refl)
+by_verdict (Err x) r t s I B h = untouched (refusal_number x) 0 B
+by_verdict (Ok (f, l)) r t s I B h = absurd (h refl)
 
 by_reading : (x : Read) (r : ℕ) (ys : List Float) (B : Buffers) → ((many_answered x r ys B).returned ≡ 0 → ⊥) → Untouched B (many_answered x r ys B).after
 unfolding many_answered many_of

@@ -1,4 +1,6 @@
 -- A single call with its block: it keeps every length, what the work buffers hold does not matter to it, and without a fit its block is as lent. Assumes nothing.
+use Rattle.model.specs.declared.ends.Refusal.{Refusal}
+use Rattle.std.specs.Prelude.{Result, Ok, Err}
 use mathlib.Core.Path.{◌≡◌, refl, ◌∙◌}
 use mathlib.Core.Bool.{Bool, true, false}
 use mathlib.Core.List.{List, [], ◌∷◌, ◌++◌}
@@ -20,8 +22,6 @@ use Rattle.layout.specs.WorkTerms.{terms_length}
 use Rattle.family.specs.declared.carried.CarriedFamily.{CarriedFamily}
 use Rattle.family.specs.declared.carried.CarriedLink.{CarriedLink}
 use Rattle.table.specs.Table.{table_of}
-use Rattle.table.specs.declared.verdicts.Verdict.{Verdict}
-use Rattle.table.specs.declared.verdicts.Verdict.TheVariants.{Accepted, Refused}
 use Rattle.results.specs.Nine.{Results}
 use Rattle.job.proofs.ListLaws.{laid_length}
 use Rattle.call.specs.Call.{Lent, Left, lengths_of, fit_left, call_by, call_of}
@@ -83,7 +83,7 @@ module _ (t : Settings) (s : Shape) (I : Inputs) (rows matrices terms results : 
   done_unfitted h = rw (ne_eqb left.answer.number 0 h) refl
 
   -- ---- the work buffers: wiped by an accepted call
-  module _ (f : CarriedFamily) (l : CarriedLink) (e : table_of 1 t s I (lengths_of lent_of) ≡ Accepted f l) where
+  module _ (f : CarriedFamily) (l : CarriedLink) (e : table_of 1 t s I (lengths_of lent_of) ≡ Ok (f, l)) where
     pub done_rows : done_one.rows ≡ fill_to (rows_length t.n) zero_at rows
     unfolding done_for done_of lent_for
     done_rows = (accepted_work t s I lent_of f l e).rows
@@ -102,10 +102,10 @@ module _ (t : Settings) (s : Shape) (I : Inputs) (rows matrices terms results : 
     pub matrices' : length d.matrices ≡ length matrices
     pub terms' : length d.terms ≡ length terms
 
-  by_lengths : (v : Verdict) → WorkLengths (done_of (call_by v t s I lent_of) results)
+  by_lengths : (v : Result (CarriedFamily × CarriedLink) Refusal) → WorkLengths (done_of (call_by v t s I lent_of) results)
   unfolding done_of call_by fit_left lent_for
-  by_lengths (Refused x) = record { rows' = refl; matrices' = refl; terms' = refl }
-  by_lengths (Accepted f l) = record { rows' = length_fill _ _ rows; matrices' = length_fill _ _ matrices; terms' = length_fill _ _ terms }
+  by_lengths (Err x) = record { rows' = refl; matrices' = refl; terms' = refl }
+  by_lengths (Ok (f, l)) = record { rows' = length_fill _ _ rows; matrices' = length_fill _ _ matrices; terms' = length_fill _ _ terms }
 
   pub work_lengths : WorkLengths done_one
   unfolding done_for call_of
@@ -113,10 +113,10 @@ module _ (t : Settings) (s : Shape) (I : Inputs) (rows matrices terms results : 
 
 -- ---- what the work buffers hold does not matter
 module _ (t : Settings) (s : Shape) (I : Inputs) (rows matrices terms rows' matrices' terms' results : List Float) where
-  by_free : (v : Verdict) → let a = done_of (call_by v t s I (lent_for t rows matrices terms results)) results in let b = done_of (call_by v t s I (lent_for t rows' matrices' terms' results)) results in (b.answer ≡ a.answer) × (b.results ≡ a.results)
+  by_free : (v : Result (CarriedFamily × CarriedLink) Refusal) → let a = done_of (call_by v t s I (lent_for t rows matrices terms results)) results in let b = done_of (call_by v t s I (lent_for t rows' matrices' terms' results)) results in (b.answer ≡ a.answer) × (b.results ≡ a.results)
   unfolding done_of call_by fit_left results_by lent_for
-  by_free (Refused x) = (refl, refl)
-  by_free (Accepted f l) = (refl, refl)
+  by_free (Err x) = (refl, refl)
+  by_free (Ok (f, l)) = (refl, refl)
 
   module _ (e : length rows' ≡ length rows) (m : length matrices' ≡ length matrices) (k : length terms' ≡ length terms) where
     same_lengths : lengths_of (lent_for t rows' matrices' terms' results) ≡ lengths_of (lent_for t rows matrices terms results)

@@ -1,4 +1,5 @@
 -- What is told of a call of many responses: by the verdict, by the job's reading, and by the room for the counts. Assumes nothing.
+use Rattle.std.specs.Prelude.{Result, Ok, Err}
 use mathlib.Core.Path.{◌≡◌, refl, sym, ap, ◌∙◌}
 use mathlib.Core.List.{List}
 use Prim.Native.Nat.{ℕ, ◌-◌, ◌≤◌, ◌<◌}
@@ -13,8 +14,6 @@ use Rattle.model.specs.declared.sizes.Shape.{Shape}
 use Rattle.model.specs.declared.sizes.Settings.{Settings}
 use Rattle.table.specs.Table.{table_of}
 use Rattle.table.specs.declared.verdicts.LentLengths.{LentLengths}
-use Rattle.table.specs.declared.verdicts.Verdict.{Verdict}
-use Rattle.table.specs.declared.verdicts.Verdict.TheVariants.{Accepted, Refused}
 use Rattle.family.specs.declared.carried.CarriedFamily.{CarriedFamily}
 use Rattle.family.specs.declared.carried.CarriedLink.{CarriedLink}
 use Rattle.job.specs.Lists.{laid}
@@ -31,22 +30,22 @@ use Rattle.many.specs.Room.{few_of, DesignFronts, many_fronts}
 use Rattle.many.proofs.Asked.{few_verdict}
 
 -- ---- by the verdict, which is asked with products of 64 responses at most
-module _ (r : ℕ) (t : Settings) (s : Shape) (I : Inputs) (rows matrices terms results : List Float) (counts : List ℕ) (few : ℕ) (lent : LentLengths) (v : Verdict)
+module _ (r : ℕ) (t : Settings) (s : Shape) (I : Inputs) (rows matrices terms results : List Float) (counts : List ℕ) (few : ℕ) (lent : LentLengths) (v : Result (CarriedFamily × CarriedLink) Refusal)
     (most : few ≡ few_of r) (asked : lent ≡ lengths_for few t (length rows) (length matrices) (length terms) (length results) (length counts)) (said : v ≡ table_of r t s I lent) where
-  pub verdict_is : (w : Verdict) → v ≡ w → verdict_for r t s I (buffers rows matrices terms results counts) ≡ w
+  pub verdict_is : (w : Result (CarriedFamily × CarriedLink) Refusal) → v ≡ w → verdict_for r t s I (buffers rows matrices terms results counts) ≡ w
   unfolding verdict_for
   verdict_is w e =
       sym (few_verdict r t s I (length rows) (length matrices) (length terms) (length results) (length counts)) ∙ rw (← most, ← asked) (sym said ∙ e)
 
-  pub refused_told : (x : Refusal) (number : ℕ) (after : List ℕ) → v ≡ Refused x → number ≡ refusal_number x → after ≡ laid (counts_of (blank_answer number no_counts) 0) counts
+  pub refused_told : (x : Refusal) (number : ℕ) (after : List ℕ) → v ≡ Err x → number ≡ refusal_number x → after ≡ laid (counts_of (blank_answer number no_counts) 0) counts
       → told number (buffers rows matrices terms results after) ≡ many_of r t s I (buffers rows matrices terms results counts)
   unfolding many_of many_by refused_with
-  refused_told x number after e k q = rw (verdict_is (Refused x) e, q, k) refl
+  refused_told x number after e k q = rw (verdict_is (Err x) e, q, k) refl
 
-  pub fitted_told : (f : CarriedFamily) (l : CarriedLink) (after : Buffers) → v ≡ Accepted f l → after ≡ after_to t s I r (buffers rows matrices terms results counts)
+  pub fitted_told : (f : CarriedFamily) (l : CarriedLink) (after : Buffers) → v ≡ Ok (f, l) → after ≡ after_to t s I r (buffers rows matrices terms results counts)
       → told 0 after ≡ many_of r t s I (buffers rows matrices terms results counts)
   unfolding many_of many_by
-  fitted_told f l after e q = rw (verdict_is (Accepted f l) e, q) refl
+  fitted_told f l after e q = rw (verdict_is (Ok (f, l)) e, q) refl
 
 -- ---- by the reading
 pub faulty_told : (s : List ℕ) (r : ℕ) (ys rows matrices terms results : List Float) (counts after : List ℕ) (k b : ℕ) → read_of s ≡ faulty k b

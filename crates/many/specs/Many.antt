@@ -1,4 +1,8 @@
 -- Many responses on one design: what a call with the bytes of a job and 1 to 64 responses returns, and what it leaves in every lent buffer. Document 02, P1. Assumes nothing.
+use Rattle.family.specs.declared.carried.CarriedFamily.{CarriedFamily}
+use Rattle.family.specs.declared.carried.CarriedLink.{CarriedLink}
+use Rattle.model.specs.declared.ends.Refusal.{Refusal}
+use Rattle.std.specs.Prelude.{Result, Ok, Err}
 use Rattle.std.specs.Prelude.{cond, ◌&&◌, List, ◌++◌, ℕ, zero, suc, ◌*◌, leb, Float, length, take, drop}
 use Rattle.model.specs.Account.{no_counts}
 use Rattle.model.specs.Answer.{refusal_number, blank_answer}
@@ -7,8 +11,6 @@ use Rattle.model.specs.declared.sizes.Shape.{Shape}
 use Rattle.model.specs.declared.sizes.Settings.{Settings}
 use Rattle.table.specs.Table.{table_of}
 use Rattle.table.specs.declared.verdicts.LentLengths.{LentLengths}
-use Rattle.table.specs.declared.verdicts.Verdict.{Verdict}
-use Rattle.table.specs.declared.verdicts.Verdict.TheVariants.{Accepted, Refused}
 use Rattle.job.specs.Lists.{laid}
 use Rattle.job.specs.Job.{Job, Read, faulty, sound, read_of}
 use Rattle.jobfit.specs.Done.{inputs_of, results_length, done_for}
@@ -87,7 +89,7 @@ lengths_for r t rows matrices terms results counts =
     }
 
 -- the table's verdict on r responses, which stand one behind another in y
-unfoldable pub verdict_for : ℕ → Settings → Shape → Inputs → Buffers → Verdict
+unfoldable pub verdict_for : ℕ → Settings → Shape → Inputs → Buffers → Result (CarriedFamily × CarriedLink) Refusal
 verdict_for r t s I B =
     table_of r t s I (lengths_for r t (length B.rows) (length B.matrices) (length B.terms) (length B.results) (length B.counts))
 
@@ -99,9 +101,9 @@ refused_with number byte B =
     told number (buffers B.rows B.matrices B.terms B.results (laid (counts_of (blank_answer number no_counts) byte) B.counts))
 
 -- by the verdict: refused as a whole, or the single calls one by one
-unfoldable pub many_by : Verdict → ℕ → Settings → Shape → Inputs → Buffers → Told
-many_by (Refused x) r t s I B = refused_with (refusal_number x) 0 B
-many_by (Accepted f l) r t s I B = told 0 (after_to t s I r B)
+unfoldable pub many_by : Result (CarriedFamily × CarriedLink) Refusal → ℕ → Settings → Shape → Inputs → Buffers → Told
+many_by (Err x) r t s I B = refused_with (refusal_number x) 0 B
+many_by (Ok (f, l)) r t s I B = told 0 (after_to t s I r B)
 
 -- the call of r responses on one design
 unfoldable pub many_of : ℕ → Settings → Shape → Inputs → Buffers → Told

@@ -1,15 +1,16 @@
 // What the table is told and asked of a call of many responses.
 ghost use Rattle.std.specs.Prelude.{◌≡◌, ◌≤◌};
-ghost use Rattle.model.specs.Inputs.{inputs};
+ghost use Rattle.model.specs.Inputs.{inputs_in};
 ghost use Rattle.table.specs.Table.{table_of};
 ghost use Rattle.jobfit.specs.Room.{SizesFew};
 ghost use Rattle.many.specs.Many.{beta_for, lengths_for};
 ghost use Rattle.many.specs.Room.{DesignFronts, many_fronts};
 
+use family::{CarriedFamily, CarriedLink};
 use jobfit::results_length;
-use model::{Settings, Shape};
+use model::{Inputs, Refusal, Settings, Shape};
 use reader::Header;
-use table::{LentLengths, Verdict};
+use table::LentLengths;
 
 // How much of beta the table is told of: none where the results or the counts have no room for all responses.
 fn beta_for(responses: usize, settings: Settings, results: usize, counts: usize) -> usize
@@ -67,22 +68,14 @@ pub fn verdict_fronts(
     responses: usize,
     header: Header,
     shape: Shape,
-    theta: &[f64],
-    y: &[f64],
-    weights: &[f64],
-    offset: &[f64],
-    x: &[f64],
-    starts: &[usize],
-    columns: &[usize],
-    values: &[f64],
+    lists: &Inputs<'_>,
     lent: LentLengths,
-) -> Verdict
-    requires { DesignFronts header (inputs theta.now y.now weights.now offset.now x.now starts.now columns.now values.now) }
+) -> Result<(CarriedFamily, CarriedLink), Refusal>
+    requires { DesignFronts header (inputs_in lists.now) }
     ensures { result
         ≡ table_of responses header.settings shape
         (many_fronts header
-        (inputs theta.now y.now weights.now offset.now x.now starts.now columns.now
-        values.now)) lent }
+        (inputs_in lists.now)) lent }
 {
     let settings = header.settings;
     let weighted = header.weights;
@@ -94,14 +87,16 @@ pub fn verdict_fronts(
         responses,
         settings,
         shape,
-        theta,
-        y,
-        &weights[0..weighted],
-        &offset[0..shifted],
-        &x[0..cells],
-        &starts[0..marks],
-        &columns[0..entries],
-        &values[0..entries],
+        &Inputs {
+            theta: lists.theta,
+            y: lists.y,
+            weights: &lists.weights[0..weighted],
+            offset: &lists.offset[0..shifted],
+            x: &lists.x[0..cells],
+            starts: &lists.starts[0..marks],
+            columns: &lists.columns[0..entries],
+            values: &lists.values[0..entries],
+        },
         lent,
     )
 }

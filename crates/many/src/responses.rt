@@ -1,13 +1,13 @@
 // The single calls, one by one.
 ghost use Rattle.std.specs.Prelude.{◌≡◌, ◌<◌};
-ghost use Rattle.model.specs.Inputs.{inputs};
+ghost use Rattle.model.specs.Inputs.{inputs_in};
 ghost use Rattle.jobcall.specs.Told.{buffers};
 ghost use Rattle.many.specs.Many.{after_one, after_to};
 ghost use Rattle.many.specs.Room.{many_fronts, Roomy};
 
 use jobcall::put_counts;
 use jobfit::{fit_fronts, results_length};
-use model::Shape;
+use model::{Inputs, Shape};
 use reader::Header;
 
 // Response i: its own numbers, its own block of the results, its own counts.
@@ -16,14 +16,7 @@ fn fit_response(
     responses: usize,
     header: Header,
     shape: Shape,
-    theta: &[f64],
-    y: &[f64],
-    weights: &[f64],
-    offset: &[f64],
-    x: &[f64],
-    starts: &[usize],
-    columns: &[usize],
-    values: &[f64],
+    lists: &Inputs<'_>,
     rows: &mut [f64],
     matrices: &mut [f64],
     terms: &mut [f64],
@@ -31,13 +24,12 @@ fn fit_response(
     counts: &mut [u64],
 )
     requires { (i < responses)
-        × Roomy responses header (inputs theta.now y.now weights.now offset.now x.now starts.now columns.now values.now) results.old
+        × Roomy responses header (inputs_in lists.now) results.old
         counts.old }
     ensures { buffers rows.new matrices.new terms.new results.new counts.new
         ≡ after_one header.settings shape
         (many_fronts header
-        (inputs theta.now y.now weights.now offset.now x.now starts.now columns.now
-        values.now)) i
+        (inputs_in lists.now)) i
         (buffers rows.old matrices.old terms.old results.old counts.old) }
 {
     let settings = header.settings;
@@ -52,14 +44,10 @@ fn fit_response(
     let answer = fit_fronts(
         header,
         shape,
-        theta,
-        &y[from..to],
-        weights,
-        offset,
-        x,
-        starts,
-        columns,
-        values,
+        &Inputs {
+            y: &lists.y[from..to],
+            ..*lists
+        },
         rows,
         matrices,
         terms,
@@ -73,35 +61,24 @@ pub fn fit_each(
     responses: usize,
     header: Header,
     shape: Shape,
-    theta: &[f64],
-    y: &[f64],
-    weights: &[f64],
-    offset: &[f64],
-    x: &[f64],
-    starts: &[usize],
-    columns: &[usize],
-    values: &[f64],
+    lists: &Inputs<'_>,
     rows: &mut [f64],
     matrices: &mut [f64],
     terms: &mut [f64],
     results: &mut [f64],
     counts: &mut [u64],
 )
-    requires { Roomy responses header (inputs theta.now y.now weights.now offset.now x.now starts.now columns.now values.now) results.old
+    requires { Roomy responses header (inputs_in lists.now) results.old
         counts.old }
     ensures { buffers rows.new matrices.new terms.new results.new counts.new
         ≡ after_to header.settings shape
         (many_fronts header
-        (inputs theta.now y.now weights.now offset.now x.now starts.now columns.now
-        values.now)) responses
+        (inputs_in lists.now)) responses
         (buffers rows.old matrices.old terms.old results.old counts.old) }
 {
-    let mut i = 0;
-    while i < responses {
+    for i in 0..responses {
         fit_response(
-            i, responses, header, shape, theta, y, weights, offset, x, starts, columns, values,
-            rows, matrices, terms, results, counts,
+            i, responses, header, shape, lists, rows, matrices, terms, results, counts,
         );
-        i += 1;
     }
 }

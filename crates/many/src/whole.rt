@@ -2,7 +2,7 @@
 ghost use Rattle.std.specs.Prelude.{◌≡◌, true, ◌≤◌, length};
 ghost use Rattle.job.specs.Job.{read_of};
 ghost use Rattle.reader.specs.Reading.{roomy};
-ghost use Rattle.model.specs.Inputs.{inputs};
+ghost use Rattle.model.specs.Inputs.{inputs, inputs_in};
 ghost use Rattle.jobcall.specs.Told.{buffers, told, counts_length};
 ghost use Rattle.many.specs.Many.{many_of, many_answered, fit_many_of};
 ghost use Rattle.many.specs.Room.{few_of, DesignFronts, many_fronts};
@@ -10,9 +10,8 @@ ghost use Rattle.many.specs.Room.{few_of, DesignFronts, many_fronts};
 use crate::lent::{lengths_for, verdict_fronts};
 use crate::responses::fit_each;
 use jobcall::put_refusal;
-use model::Shape;
-use reader::{Header, Reading};
-use table::Verdict;
+use model::{Inputs, Shape};
+use reader::Header;
 
 // No product is formed of more responses than these; where there are more the table refuses them before it looks at a length.
 fn few_of(responses: usize) -> usize
@@ -29,14 +28,7 @@ pub fn fit_fronts_many(
     responses: usize,
     header: Header,
     shape: Shape,
-    theta: &[f64],
-    y: &[f64],
-    weights: &[f64],
-    offset: &[f64],
-    x: &[f64],
-    starts: &[usize],
-    columns: &[usize],
-    values: &[f64],
+    lists: &Inputs<'_>,
     rows: &mut [f64],
     matrices: &mut [f64],
     terms: &mut [f64],
@@ -44,12 +36,11 @@ pub fn fit_fronts_many(
     counts: &mut [u64],
 ) -> u64
     requires { (counts_length ≤ length counts.old)
-        × DesignFronts header (inputs theta.now y.now weights.now offset.now x.now starts.now columns.now values.now) }
+        × DesignFronts header (inputs_in lists.now) }
     ensures { told result (buffers rows.new matrices.new terms.new results.new counts.new)
         ≡ many_of responses header.settings shape
         (many_fronts header
-        (inputs theta.now y.now weights.now offset.now x.now starts.now columns.now
-        values.now))
+        (inputs_in lists.now))
         (buffers rows.old matrices.old terms.old results.old counts.old) }
 {
     let settings = header.settings;
@@ -63,19 +54,16 @@ pub fn fit_fronts_many(
         results.len(),
         counts.len(),
     );
-    let verdict = verdict_fronts(
-        responses, header, shape, theta, y, weights, offset, x, starts, columns, values, lent,
-    );
+    let verdict = verdict_fronts(responses, header, shape, lists, lent);
     match verdict {
-        Verdict::Refused(refusal) => {
+        Err(refusal) => {
             let number = model::refusal_number(refusal) as u64;
             put_refusal(number, 0, counts);
             number
         }
-        Verdict::Accepted(_, _) => {
+        Ok((_, _)) => {
             fit_each(
-                responses, header, shape, theta, y, weights, offset, x, starts, columns, values,
-                rows, matrices, terms, results, counts,
+                responses, header, shape, lists, rows, matrices, terms, results, counts,
             );
             0
         }
@@ -107,28 +95,28 @@ fn read_many(
         ≡ many_answered (read_of job.now) count responses.now
         (buffers rows.old matrices.old terms.old results.old counts.old) }
 {
-    let found = reader::read_job(job, theta, y, weights, offset, x, starts, columns, values);
-    let shape = found.shape;
-    let reading = found.reading;
-    match reading {
-        Reading::Refused(number, byte) => {
-            put_refusal(number, byte, counts);
-            number
+    match reader::read_job(job, theta, y, weights, offset, x, starts, columns, values) {
+        Err(fault) => {
+            put_refusal(fault.number, fault.byte, counts);
+            fault.number
         }
-        Reading::Accepted(header) => {
+        Ok(found) => {
+            let header = found.header;
             let thetas = header.thetas;
             fit_fronts_many(
                 count,
                 header,
-                shape,
-                &theta[0..thetas],
-                responses,
-                weights,
-                offset,
-                x,
-                starts,
-                columns,
-                values,
+                found.shape,
+                &Inputs {
+                    theta: &theta[0..thetas],
+                    y: responses,
+                    weights,
+                    offset,
+                    x,
+                    starts,
+                    columns,
+                    values,
+                },
                 rows,
                 matrices,
                 terms,

@@ -1,4 +1,6 @@
 -- What the program's functions leave is what is written: by what is told of the job, and by the number that the call returned. Assumes nothing.
+use Rattle.job.specs.Faults.{fault}
+use Rattle.std.specs.Prelude.{Result, Ok, Err}
 use mathlib.Core.Path.{◌≡◌, refl, ◌∙◌}
 use mathlib.Core.List.{List}
 use Prim.Native.Nat.{ℕ, ◌+◌, ◌-◌, ◌/◌, ◌≤◌, min}
@@ -12,8 +14,7 @@ use Rattle.job.specs.Job.{Read, faulty, sound, read_of}
 use Rattle.job.specs.Lists.{laid}
 use Rattle.jobfit.specs.Done.{zeros}
 use Rattle.reader.specs.declared.whole.Header.{Header}
-use Rattle.reader.specs.declared.whole.Reading.{Reading}
-use Rattle.reader.specs.declared.whole.Reading.TheVariants.{Refused, Accepted}
+use Rattle.job.specs.declared.faults.Fault.{Fault}
 use Rattle.reader.specs.Reading.{header_of}
 use Rattle.jobcall.specs.Told.{Buffers, Told, told}
 use Rattle.manytext.specs.declared.pieces.Pieces.TheVariants.{Refusal, Responses}
@@ -32,16 +33,15 @@ module _ (x : Told) (k r : ℕ) (t : Settings) (after : Buffers) (d : told k aft
   refused_left e = rw (← d, ne_eqb k 0 e) refl
 
 -- ---- by what is told of the job
-module _ (job : List ℕ) (words : ℕ) (ys results : List Float) (counts : List ℕ) (g : Reading) where
-  pub refused_read : (x : Read) (k b : ℕ) → g ≡ reading_of x → g ≡ Refused k b → fitted (Refusal k b) results counts ≡ fit_read x job words ys results counts
+module _ (job : List ℕ) (words : ℕ) (ys results : List Float) (counts : List ℕ) (g : Result Header Fault) where
+  pub refused_read : (x : Read) (e : Fault) → g ≡ reading_of x → g ≡ Err e → fitted (Refusal e.number e.byte) results counts ≡ fit_read x job words ys results counts
   unfolding reading_of fit_read
-  refused_read (faulty r c) k b d e =
-      let number : k ≡ r = cc in
-      let byte : b ≡ c = cc in
-      rw (number, byte) refl
-  refused_read (sound j) k b d e = let z : ◌≡◌ {A = ℕ} 0 1 = cc in absurd (omega arith)
+  refused_read (faulty r c) e d h =
+      let is : e ≡ fault r c = cc in
+      rw is refl
+  refused_read (sound j) e d h = let z : ◌≡◌ {A = ℕ} 0 1 = cc in absurd (omega arith)
 
-  pub accepted_read : (x : Read) (h : Header) (f : Fitted) (r : ℕ) → g ≡ reading_of x → g ≡ Accepted h → r ≡ words / h.settings.n → f ≡ fit_all_of job h.settings r ys results counts
+  pub accepted_read : (x : Read) (h : Header) (f : Fitted) (r : ℕ) → g ≡ reading_of x → g ≡ Ok h → r ≡ words / h.settings.n → f ≡ fit_all_of job h.settings r ys results counts
       → f ≡ fit_read x job words ys results counts
   unfolding reading_of fit_read header_of
   accepted_read (faulty r c) h f n d e q p = let z : ◌≡◌ {A = ℕ} 0 1 = cc in absurd (omega arith)

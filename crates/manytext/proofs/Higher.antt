@@ -1,4 +1,9 @@
 -- A higher limit changes nothing of what is printed of a response whose number is not 13, whatever the others came to. Document 02, P13. Assumes nothing.
+use Prim.{tt}
+use Rattle.family.specs.declared.carried.CarriedFamily.{CarriedFamily}
+use Rattle.family.specs.declared.carried.CarriedLink.{CarriedLink}
+use Rattle.model.specs.declared.ends.Refusal.{Refusal}
+use Rattle.std.specs.Prelude.{Result, Ok, Err}
 use mathlib.Core.Path.{◌≡◌, refl, ap}
 use mathlib.Core.List.{List, ◌++◌}
 use Prim.Native.Nat.{ℕ, zero, suc, ◌/◌, ◌≤◌, ◌<◌}
@@ -7,9 +12,6 @@ use native.Mathlib.Omega.{arith}
 use lib.Ieee.{Float}
 use lib.ListN.{length}
 use Rattle.model.specs.Names.{limit_of}
-use Rattle.table.specs.declared.verdicts.Verdict.{Verdict}
-use Rattle.table.specs.declared.verdicts.Verdict.TheVariants.{Accepted, Refused}
-use Rattle.job.specs.declared.faults.Fault.TheVariants.{Sound}
 use Rattle.job.specs.Faults.{fault_of}
 use Rattle.job.specs.Lists.{join_to}
 use Rattle.job.specs.Job.{Job, job_of, read_by, read_of}
@@ -48,12 +50,12 @@ module _ (j : Job) (ys : List Float) (M : ℕ) (higher : limit_of j.settings.lim
       rw (verdict_limited j.settings j.shape (inputs_of (job_with_y ys j)) r many_lent M higher few)
       (by (verdict_for r j.settings j.shape (inputs_of (job_with_y ys j)) many_lent))
     where
-      by : (x : Verdict) → printed_by x r (limited_job M j) ys ≡ printed_by x r j ys
-      by (Refused x) = refl
-      by (Accepted f l) = join_alike (response_printed (limited_job M j) ys) (response_printed j ys) r (λ i l'. response_printed_lem i (h i l'))
+      by : (x : Result (CarriedFamily × CarriedLink) Refusal) → printed_by x r (limited_job M j) ys ≡ printed_by x r j ys
+      by (Err x) = refl
+      by (Ok (f, l)) = join_alike (response_printed (limited_job M j) ys) (response_printed j ys) r (λ i l'. response_printed_lem i (h i l'))
 
 -- the program: an input with the same responses behind the job with the limit M
-module _ (s t : List ℕ) (M : ℕ) (e : fault_of (job_in s) ≡ Sound) (job : job_in t ≡ limited_bytes M (job_in s)) (rest : rest_in t ≡ rest_in s)
+module _ (s t : List ℕ) (M : ℕ) (e : fault_of (job_in s) ≡ Ok tt) (job : job_in t ≡ limited_bytes M (job_in s)) (rest : rest_in t ≡ rest_in s)
     (higher : limit_of (job_of (job_in s)).settings.limit (job_of (job_in s)).settings.link ≤ M) (few : M ≤ 1000) where
   pub many_printed_same : ((i : ℕ) → i < length (rest_in s) / 8 / (job_of (job_in s)).settings.n → number_of (job_of (job_in s)) (numbers_in (rest_in s)) i ≡ 13 → ⊥) → many_output_of t ≡ many_output_of s
   unfolding many_output_of many_printed read_of read_by

@@ -1,4 +1,5 @@
 -- The pieces that the program prints, one behind another, are what is written: under its line each response has what `fitjob` prints for the job with that response. Assumes nothing.
+use Rattle.std.specs.Prelude.{Result, Ok, Err}
 use Prim.{tt}
 use mathlib.Core.Path.{◌≡◌, refl, ap, ◌∙◌}
 use mathlib.Core.Bool.{true}
@@ -17,8 +18,6 @@ use Rattle.model.specs.declared.ends.Refusal.{Refusal}
 use Rattle.model.specs.declared.sizes.Settings.{Settings}
 use Rattle.family.specs.declared.carried.CarriedFamily.{CarriedFamily}
 use Rattle.family.specs.declared.carried.CarriedLink.{CarriedLink}
-use Rattle.table.specs.declared.verdicts.Verdict.{Verdict}
-use Rattle.table.specs.declared.verdicts.Verdict.TheVariants.{Accepted, Refused}
 use Rattle.table.proofs.Accepting.{accepted_sound}
 use Rattle.job.specs.Job.{Job, Read, faulty, sound, read_of}
 use Rattle.job.specs.Lists.{join_to}
@@ -97,29 +96,29 @@ join_alike (suc n) f g h = rw (join_alike n f g (λ i l. h i (omega arith)), h n
 
 module _ (r : ℕ) (j : Job) (ys : List Float) where
   -- what the call leaves, as pieces
-  abbrev left : Verdict → Fitted
+  abbrev left : Result (CarriedFamily × CarriedLink) Refusal → Fitted
   left v = fitted_by (many_by v r j.settings j.shape (inputs_of (job_with_y ys j)) many_lent) r j.settings
 
-  refused_joined : (x : Refusal) → joined (left (Refused x)) ≡ printed_by (Refused x) r j ys
+  refused_joined : (x : Refusal) → joined (left (Err x)) ≡ printed_by (Err x) r j ys
   unfolding many_by refused_with fitted_by pieces_by join_to piece_text printed_by
   refused_joined x = rw (ne_eqb (refusal_number x) 0 (refusal_some x)) refl
 
-  accepted_joined : (f : CarriedFamily) (l : CarriedLink) → RoomIn r j.settings many_lent → joined (left (Accepted f l)) ≡ printed_by (Accepted f l) r j ys
+  accepted_joined : (f : CarriedFamily) (l : CarriedLink) → RoomIn r j.settings many_lent → joined (left (Ok (f, l))) ≡ printed_by (Ok (f, l)) r j ys
   unfolding many_by fitted_by pieces_by piece_text printed_by
   accepted_joined f l room = join_alike r _ (response_printed j ys) (λ i h. response_text_lem j ys r room i h)
 
-  refused_fit : (x : Refusal) → PiecesFit (left (Refused x)).pieces (left (Refused x)).counts (left (Refused x)).results
+  refused_fit : (x : Refusal) → PiecesFit (left (Err x)).pieces (left (Err x)).counts (left (Err x)).results
   unfolding many_by refused_with fitted_by pieces_by
   refused_fit x = rw (ne_eqb (refusal_number x) 0 (refusal_some x)) tt
 
-  accepted_fit : (f : CarriedFamily) (l : CarriedLink) → r ≤ 64 → SizesFew j.settings → PiecesFit (left (Accepted f l)).pieces (left (Accepted f l)).counts (left (Accepted f l)).results
+  accepted_fit : (f : CarriedFamily) (l : CarriedLink) → r ≤ 64 → SizesFew j.settings → PiecesFit (left (Ok (f, l))).pieces (left (Ok (f, l))).counts (left (Ok (f, l))).results
   unfolding many_by fitted_by pieces_by
   accepted_fit f l few sizes =
       let room = room_for r j.settings few sizes in
       let same = lengths_to j.settings j.shape (inputs_of (job_with_y ys j)) r many_lent room r (le_refl _) in
       record { few = few; sizes = sizes; counts_long = rw same.counts room.counts; results_long = rw same.results room.results }
 
-  abbrev verdict : Verdict
+  abbrev verdict : Result (CarriedFamily × CarriedLink) Refusal
   verdict = verdict_for r j.settings j.shape (inputs_of (job_with_y ys j)) many_lent
 
   record Both : Type 0 where
@@ -130,9 +129,9 @@ module _ (r : ℕ) (j : Job) (ys : List Float) where
   unfolding printed_of verdict_for
   both = by verdict refl
     where
-      by : (v : Verdict) → verdict ≡ v → Both
-      by (Refused x) e = record { text = rw e (refused_joined x); fits = rw e (refused_fit x) }
-      by (Accepted f l) e =
+      by : (v : Result (CarriedFamily × CarriedLink) Refusal) → verdict ≡ v → Both
+      by (Err x) e = record { text = rw e (refused_joined x); fits = rw e (refused_fit x) }
+      by (Ok (f, l)) e =
           let known = accepted_sound r j.settings j.shape (inputs_of (job_with_y ys j)) _ f l e in
           let sizes = few_sizes j.settings known.sized.sizes in
           record { text = rw e (accepted_joined f l (room_for r j.settings known.responses.1 sizes)); fits = rw e (accepted_fit f l known.responses.1 sizes) }

@@ -1,4 +1,6 @@
 -- What stands in the bytes that the program read: the job's length, the doubles, and what is told of the job. Assumes nothing.
+use Rattle.reader.specs.declared.whole.Header.{Header}
+use Rattle.std.specs.Prelude.{Result, Ok, Err}
 use mathlib.Core.Path.{◌≡◌, refl, sym, ap, ◌∙◌}
 use mathlib.Core.Bool.{true}
 use mathlib.Core.List.{List}
@@ -8,11 +10,10 @@ use Rattle.bits.specs.Bits.{bits_of}
 use Rattle.bits.proofs.ByteLaws.{split}
 use Rattle.model.specs.Inputs.{Inputs}
 use Rattle.job.specs.declared.faults.Fault.{Fault}
-use Rattle.job.specs.declared.faults.Fault.TheVariants.{Sound, At}
-use Rattle.job.specs.Faults.{fault_of}
+use Rattle.job.specs.Faults.{Checked, fault_of}
 use Rattle.job.specs.Job.{Job, job_of, read_by, read_of}
 use Rattle.reader.specs.declared.whole.Found.{Found}
-use Rattle.reader.specs.Reading.{roomy, refused_at, found_by, ReadDone}
+use Rattle.reader.specs.Reading.{roomy, found_by, ReadDone}
 use Rattle.reader.proofs.Rooms.{with_room}
 use Rattle.manytext.specs.Input.{job_size, reading_of}
 
@@ -25,11 +26,23 @@ pub none_in : (words n : ℕ) → n ≡ 0 → 0 ≡ words / n
 none_in words n e = rw e (sym (div-zero words))
 
 -- ---- what is told of a job
-by_fault : (f : Fault) (j : Job) → (found_by f j).reading ≡ reading_of (read_by f j)
-unfolding found_by refused_at reading_of read_by
-by_fault Sound j = refl
-by_fault (At r b) j = refl
+-- the header of what is found, or the fault
+abbrev header_in : Result Found Fault → Result Header Fault
+header_in (Ok g) = Ok g.header
+header_in (Err e) = Err e
 
-pub reading_is : (s : List ℕ) (b a : Inputs) (g : Found) → roomy b ≡ true → ReadDone s b g a → g.reading ≡ reading_of (read_of s)
+by_fault : (f : Checked) (j : Job) → header_in (found_by f j) ≡ reading_of (read_by f j)
+unfolding found_by reading_of read_by
+by_fault (Ok t) j = refl
+by_fault (Err e) j = refl
+
+reading_is : (s : List ℕ) (b a : Inputs) (r : Result Found Fault) → roomy b ≡ true → ReadDone s b r a → header_in r ≡ reading_of (read_of s)
 unfolding read_of
-reading_is s b a g room d = ap (λ (x : Found). x.reading) (rw (with_room s b room) at d.says) ∙ by_fault (fault_of s) (job_of s)
+reading_is s b a r room d = ap header_in (rw (with_room s b room) at d.says) ∙ by_fault (fault_of s) (job_of s)
+
+module _ (s : List ℕ) (b a : Inputs) (r : Result Found Fault) (room : roomy b ≡ true) (d : ReadDone s b r a) where
+  pub found_reading : (g : Found) → r ≡ Ok g → Ok g.header ≡ reading_of (read_of s)
+  found_reading g e = sym (ap header_in e) ∙ reading_is s b a r room d
+
+  pub fault_reading : (e : Fault) → r ≡ Err e → Err e ≡ reading_of (read_of s)
+  fault_reading e h = sym (ap header_in h) ∙ reading_is s b a r room d

@@ -1,12 +1,13 @@
 -- The bytes that the program reads: the job's length in three bytes, the job, then responses as doubles; high byte first in all of them. Document 02, P1. Assumes nothing.
-use Rattle.std.specs.Prelude.{List, ◌++◌, ℕ, ◌+◌, ◌-◌, ◌*◌, ◌/◌, Float, length, take, drop}
+use Rattle.std.specs.Prelude.{List, ◌++◌, ℕ, ◌+◌, ◌-◌, ◌*◌, ◌/◌, Float, length, take, drop, Result, Ok, Err}
 use Rattle.base.specs.List.{build}
 use Rattle.bits.specs.Bits.{bits_of, double_of}
+use Rattle.job.specs.declared.faults.Fault.{Fault}
+use Rattle.job.specs.Faults.{fault}
 use Rattle.job.specs.Job.{Read, faulty, sound}
 use Rattle.jobfit.specs.Done.{zeros}
 use Rattle.reader.specs.Reading.{header_of}
-use Rattle.reader.specs.declared.whole.Reading.{Reading}
-use Rattle.reader.specs.declared.whole.Reading.TheVariants.{Refused, Accepted}
+use Rattle.reader.specs.declared.whole.Header.{Header}
 
 -- "the job's length in three bytes (high byte first)"; a byte that is not there counts as 0
 abbrev pub job_size : List ℕ → ℕ
@@ -33,6 +34,6 @@ abbrev pub input_room : ℕ
 input_room = 331779
 
 -- what a caller is told of a job that was read
-unfoldable pub reading_of : Read → Reading
-reading_of (faulty k b) = Refused k b
-reading_of (sound j) = Accepted (header_of j)
+unfoldable pub reading_of : Read → Result Header Fault
+reading_of (faulty k b) = Err (fault k b)
+reading_of (sound j) = Ok (header_of j)

@@ -1,8 +1,10 @@
 -- What the program prints of many responses, as one function of the bytes that it reads. Document 02, P1. Assumes nothing.
+use Rattle.family.specs.declared.carried.CarriedFamily.{CarriedFamily}
+use Rattle.family.specs.declared.carried.CarriedLink.{CarriedLink}
+use Rattle.model.specs.declared.ends.Refusal.{Refusal}
+use Rattle.std.specs.Prelude.{Result, Ok, Err}
 use Rattle.std.specs.Prelude.{List, ◌++◌, ℕ, ◌/◌, Float, length, replicate}
 use Rattle.model.specs.Answer.{refusal_number}
-use Rattle.table.specs.declared.verdicts.Verdict.{Verdict}
-use Rattle.table.specs.declared.verdicts.Verdict.TheVariants.{Accepted, Refused}
 use Rattle.job.specs.Job.{Job, Read, faulty, sound, read_of}
 use Rattle.job.specs.Lists.{join_to}
 use Rattle.lines.specs.Lines.{refused_line, response_line}
@@ -22,9 +24,9 @@ unfoldable pub response_printed : Job → List Float → ℕ → List ℕ
 response_printed j ys i = response_line i ++ output_by (sound (job_with_y (response_at j.settings.n i ys) j))
 
 -- "it prints `refused R at B`", where the table refuses the responses as a whole; else r of these
-unfoldable pub printed_by : Verdict → ℕ → Job → List Float → List ℕ
-printed_by (Refused x) r j ys = refused_line (refusal_number x) 0
-printed_by (Accepted f l) r j ys = join_to r (response_printed j ys)
+unfoldable pub printed_by : Result (CarriedFamily × CarriedLink) Refusal → ℕ → Job → List Float → List ℕ
+printed_by (Err x) r j ys = refused_line (refusal_number x) 0
+printed_by (Ok (f, l)) r j ys = join_to r (response_printed j ys)
 
 -- r responses of a job
 unfoldable pub printed_of : ℕ → Job → List Float → List ℕ

@@ -7,8 +7,9 @@ ghost use Rattle.manytext.specs.Input.{job_size, word_at, input_room, reading_of
 ghost use Rattle.manytext.specs.Pieces.{fitted, fit_all_of, fit_read, fit_parts, fit_input_of};
 
 use crate::pieces::Pieces;
+use job::Fault;
 use model::Settings;
-use reader::Reading;
+use reader::Header;
 
 fn least(a: usize, b: usize) -> usize
     ensures { result ≡ min a b }
@@ -34,16 +35,14 @@ fn read_doubles(bytes: &[u8], out: &mut [f64])
     ensures { out.new ≡ laid (build (word_at bytes.now) (length bytes.now / 8)) out.old }
 {
     let n = bytes.len() / 8;
-    let mut i = 0;
-    while i < n {
+    for i in 0..n {
         let v = bits::double_at(bytes, 8 * i);
         out[i] = v;
-        i += 1;
     }
 }
 
 // What is told of a job, read into arrays of its own.
-fn reading_of(job: &[u8]) -> Reading
+fn reading_of(job: &[u8]) -> Result<Header, Fault>
     ensures { result ≡ reading_of (read_of job.now) }
 {
     let mut theta = [0.0; 288];
@@ -64,8 +63,8 @@ fn reading_of(job: &[u8]) -> Reading
         &mut starts,
         &mut columns,
         &mut values,
-    );
-    found.reading
+    )?;
+    Ok(found.header)
 }
 
 // How many whole responses of n numbers there are; a job that can be read has some.
@@ -114,10 +113,9 @@ fn fit_read(job: &[u8], words: usize, ys: &[f64], results: &mut [f64], counts: &
     ensures { fitted result results.new counts.new
         ≡ fit_read (read_of job.now) job.now words ys.now results.old counts.old }
 {
-    let reading = reading_of(job);
-    match reading {
-        Reading::Refused(number, byte) => Pieces::Refusal(number, byte),
-        Reading::Accepted(header) => {
+    match reading_of(job) {
+        Err(fault) => Pieces::Refusal(fault.number, fault.byte),
+        Ok(header) => {
             let settings = header.settings;
             let responses = responses_in(words, settings.n);
             fit_all(job, settings, responses, ys, results, counts)

@@ -8,6 +8,7 @@ ghost use Rattle.manytext.specs.Text.{answer_from, response_text, response_room}
 ghost use Rattle.manytext.specs.Pieces.{part_text, piece_text, pieces_of, PartsFit, PiecesFit};
 
 use crate::pieces::Pieces;
+use job::Fault;
 use model::{Account, Answer, Settings};
 
 // The answer of a response: its counts in their places, deviance and phi from the front of its block.
@@ -88,7 +89,7 @@ pub fn put_piece(out: &mut [u8], pieces: Pieces, i: usize, counts: &[u64], resul
     ensures { Written (piece_text pieces counts.now results.now i) out.old result out.new }
 {
     match pieces {
-        Pieces::Refusal(number, byte) => lines::refused_line(out, number, byte),
+        Pieces::Refusal(number, byte) => lines::refused_line(out, Fault { number, byte }),
         Pieces::Responses(responses, settings) => {
             put_part(out, i, responses, settings, counts, results)
         }

@@ -1,4 +1,5 @@
 -- Codes: which numbers are none, and a code and its family, link or start determine each other, so that a job can be written and read back. Assumes nothing.
+use Rattle.std.specs.Prelude.{Some, None}
 use mathlib.Core.Path.{◌≡◌, refl, ap}
 use mathlib.Core.List.{[], ◌∷◌}
 use Prim.Native.Nat.{ℕ, zero, suc, ◌≤◌}
@@ -7,47 +8,32 @@ use lib.ListN.{get_or-eq_default}
 use Rattle.model.specs.Names.{family_code, family_coded, link_code, link_coded, start_code, start_coded}
 use Rattle.model.specs.declared.names.Family.{Family}
 use Rattle.model.specs.declared.names.Family.TheVariants.{Binomial, Poisson, Gaussian, Gamma}
-use Rattle.model.specs.declared.names.FamilyFound.TheVariants as familyFound
 use Rattle.model.specs.declared.names.Link.{Link}
 use Rattle.model.specs.declared.names.Link.TheVariants.{Logit, Probit, Cloglog, Log, Identity, Inverse, Sqrt}
-use Rattle.model.specs.declared.names.LinkFound.TheVariants as linkFound
 use Rattle.model.specs.declared.names.Start.{Start}
 use Rattle.model.specs.declared.names.Start.TheVariants.{Usual, Trials}
-use Rattle.model.specs.declared.names.StartFound.TheVariants as startFound
-
--- a number that is none of 0 and 1
-pub past_one : {c : ℕ} → (c ≡ 0 → ⊥) → (c ≡ 1 → ⊥) → 2 ≤ c
-past_one h₀ h₁ = omega arith
-
--- a number that is none of 0 to 3
-pub past_three : {c : ℕ} → (c ≡ 0 → ⊥) → (c ≡ 1 → ⊥) → (c ≡ 2 → ⊥) → (c ≡ 3 → ⊥) → 4 ≤ c
-past_three h₀ h₁ h₂ h₃ = omega arith
-
--- and none of 4 to 6
-pub past_six : {c : ℕ} → 4 ≤ c → (c ≡ 4 → ⊥) → (c ≡ 5 → ⊥) → (c ≡ 6 → ⊥) → 7 ≤ c
-past_six h h₄ h₅ h₆ = omega arith
 
 -- no family has a code from 4 on
-pub no_family : (c : ℕ) → 4 ≤ c → family_coded c ≡ familyFound.NoSuch
+pub no_family : (c : ℕ) → 4 ≤ c → family_coded c ≡ None
 unfolding family_coded
 no_family c h =
-    get_or-eq_default (familyFound.Found Binomial ∷ familyFound.Found Poisson ∷ familyFound.Found Gaussian ∷ familyFound.Found Gamma ∷ []) familyFound.NoSuch h
+    get_or-eq_default (Some Binomial ∷ Some Poisson ∷ Some Gaussian ∷ Some Gamma ∷ []) None h
 
 -- no link has a code from 7 on
-pub no_link : (c : ℕ) → 7 ≤ c → link_coded c ≡ linkFound.NoSuch
+pub no_link : (c : ℕ) → 7 ≤ c → link_coded c ≡ None
 unfolding link_coded
 no_link c h =
     get_or-eq_default
-    (linkFound.Found Logit ∷ linkFound.Found Probit ∷ linkFound.Found Cloglog ∷ linkFound.Found Log ∷ linkFound.Found Identity ∷ linkFound.Found Inverse ∷ linkFound.Found Sqrt ∷ [])
-    linkFound.NoSuch h
+    (Some Logit ∷ Some Probit ∷ Some Cloglog ∷ Some Log ∷ Some Identity ∷ Some Inverse ∷ Some Sqrt ∷ [])
+    None h
 
 -- no start has a code from 2 on
-pub no_start : (c : ℕ) → 2 ≤ c → start_coded c ≡ startFound.NoSuch
+pub no_start : (c : ℕ) → 2 ≤ c → start_coded c ≡ None
 unfolding start_coded
-no_start c h = get_or-eq_default (startFound.Found Usual ∷ startFound.Found Trials ∷ []) startFound.NoSuch h
+no_start c h = get_or-eq_default (Some Usual ∷ Some Trials ∷ []) None h
 
 -- each family is the one with its code
-pub family_of_code : (f : Family) → family_coded (family_code f) ≡ familyFound.Found f
+pub family_of_code : (f : Family) → family_coded (family_code f) ≡ Some f
 unfolding family_coded
 family_of_code Binomial = refl
 family_of_code Poisson = refl
@@ -55,7 +41,7 @@ family_of_code Gaussian = refl
 family_of_code Gamma = refl
 
 -- and its code is the only one
-pub code_of_family : (c : ℕ) (f : Family) → family_coded c ≡ familyFound.Found f → c ≡ family_code f
+pub code_of_family : (c : ℕ) (f : Family) → family_coded c ≡ Some f → c ≡ family_code f
 unfolding family_coded
 code_of_family zero x e =
     let same : Binomial ≡ x = cc in
@@ -74,7 +60,7 @@ code_of_family (suc (suc (suc (suc c)))) x e =
     omega arith
 
 -- each link is the one with its code
-pub link_of_code : (l : Link) → link_coded (link_code l) ≡ linkFound.Found l
+pub link_of_code : (l : Link) → link_coded (link_code l) ≡ Some l
 unfolding link_coded
 link_of_code Logit = refl
 link_of_code Probit = refl
@@ -85,7 +71,7 @@ link_of_code Inverse = refl
 link_of_code Sqrt = refl
 
 -- and its code is the only one
-pub code_of_link : (c : ℕ) (l : Link) → link_coded c ≡ linkFound.Found l → c ≡ link_code l
+pub code_of_link : (c : ℕ) (l : Link) → link_coded c ≡ Some l → c ≡ link_code l
 unfolding link_coded
 code_of_link zero x e =
     let same : Logit ≡ x = cc in
@@ -113,13 +99,13 @@ code_of_link (suc (suc (suc (suc (suc (suc (suc c))))))) x e =
     omega arith
 
 -- each start is the one with its code
-pub start_of_code : (s : Start) → start_coded (start_code s) ≡ startFound.Found s
+pub start_of_code : (s : Start) → start_coded (start_code s) ≡ Some s
 unfolding start_coded
 start_of_code Usual = refl
 start_of_code Trials = refl
 
 -- and its code is the only one
-pub code_of_start : (c : ℕ) (s : Start) → start_coded c ≡ startFound.Found s → c ≡ start_code s
+pub code_of_start : (c : ℕ) (s : Start) → start_coded c ≡ Some s → c ≡ start_code s
 unfolding start_coded
 code_of_start zero x e =
     let same : Usual ≡ x = cc in

@@ -1,4 +1,5 @@
 -- The definitions of sizes and limits on closed examples, by computation. Assumes nothing.
+use Rattle.std.specs.Prelude.{Some, None}
 use mathlib.Core.Path.{◌≡◌, refl}
 use mathlib.Core.Bool.{true, false}
 use mathlib.Core.List.{[], ◌∷◌}
@@ -7,7 +8,6 @@ use Rattle.base.specs.Sum.{all_to}
 use Rattle.model.specs.Names.{limit_of}
 use Rattle.model.specs.Shape.{total_to, block_effects, block_thetas, first_effect, first_theta, effects_of, theta_length, good_block, good_shape}
 use Rattle.model.specs.Settings.{good_limit}
-use Rattle.model.specs.declared.names.Limit.TheVariants.{Given, NotGiven}
 use Rattle.model.specs.declared.names.Link.TheVariants.{Logit, Inverse}
 use Rattle.model.specs.declared.sizes.Shape.{Shape}
 
@@ -44,10 +44,10 @@ bad : (good_shape (block 33 1) ≡ false) × (good_shape (block 0 1) ≡ false) 
 unfolding good_shape good_block all_to total_to block_effects
 bad = (refl, refl, refl, refl, refl, refl, refl)
 
-limits : (good_limit (Given 0) ≡ true) × (good_limit (Given 1000) ≡ true) × (good_limit (Given 1001) ≡ false) × (good_limit NotGiven ≡ true)
+limits : (good_limit (Some 0) ≡ true) × (good_limit (Some 1000) ≡ true) × (good_limit (Some 1001) ≡ false) × (good_limit None ≡ true)
 unfolding good_limit
 limits = (refl, refl, refl, refl)
 
-usual : (limit_of NotGiven Logit ≡ 100) × (limit_of NotGiven Inverse ≡ 1000) × (limit_of (Given 0) Inverse ≡ 0)
+usual : (limit_of None Logit ≡ 100) × (limit_of None Inverse ≡ 1000) × (limit_of (Some 0) Inverse ≡ 0)
 unfolding limit_of
 usual = (refl, refl, refl)

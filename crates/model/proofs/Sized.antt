@@ -1,15 +1,14 @@
 -- Good sizes as facts, for every function that runs after the test of sizes. Assumes nothing.
+use Rattle.std.specs.Prelude.{Option, Some, None}
 use mathlib.Core.Path.{◌≡◌, refl}
 use mathlib.Core.Bool.{true, false}
-use Prim.Native.Nat.{◌≤◌}
+use Prim.Native.Nat.{ℕ, ◌≤◌}
 use native.Mathlib.Omega.{arith}
 use lib.Dec.{leb, eqb}
 use borrow.Author.Tests.{leb-true, le-leb, eqb-true, eq-eqb}
 use Rattle.model.specs.Names.{is_inverse, limit_of}
 use Rattle.model.specs.Shape.{within, effects_of, good_shape, InRange}
 use Rattle.model.specs.Settings.{good_limit, good_sizes, Sized}
-use Rattle.model.specs.declared.names.Limit.{Limit}
-use Rattle.model.specs.declared.names.Limit.TheVariants.{Given, NotGiven}
 use Rattle.model.specs.declared.names.Link.{Link}
 use Rattle.model.specs.declared.sizes.Shape.{Shape}
 use Rattle.model.specs.declared.sizes.Settings.{Settings}
@@ -49,7 +48,7 @@ sized_when t s n p g e m =
     rw (a, b, g, eq-eqb (effects_of s) t.rows e, le-leb t.entries 8192 m) refl
 
 -- an inner fit takes at most 1000 iterations
-pub limit_few : (l : Limit) (k : Link) → good_limit l ≡ true → limit_of l k ≤ 1000
+pub limit_few : (l : Option ℕ) (k : Link) → good_limit l ≡ true → limit_of l k ≤ 1000
 unfolding good_limit limit_of
-limit_few (Given l) k e = leb-true l 1000 e
-limit_few NotGiven k e = picked_few (is_inverse k) (omega arith) (omega arith)
+limit_few (Some l) k e = leb-true l 1000 e
+limit_few None k e = picked_few (is_inverse k) (omega arith) (omega arith)

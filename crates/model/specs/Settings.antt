@@ -1,15 +1,14 @@
 -- The sizes of a call and their ranges: when number 1 is given. Document 01, "What the port carries", its sizes, and "Numbers of an answer". Assumes nothing.
+use Rattle.std.specs.Prelude.{Option, Some, None}
 use Rattle.std.specs.Prelude.{◌≡◌, Bool, true, ◌&&◌, ℕ, ◌≤◌, leb, eqb}
 use Rattle.model.specs.Shape.{within, effects_of, good_shape}
-use Rattle.model.specs.declared.names.Limit.{Limit}
-use Rattle.model.specs.declared.names.Limit.TheVariants.{Given, NotGiven}
 use Rattle.model.specs.declared.sizes.Shape.{Shape}
 use Rattle.model.specs.declared.sizes.Settings.{Settings}
 
 -- a limit is at most 1000 where it is given
-unfoldable pub good_limit : Limit → Bool
-good_limit (Given l) = leb l 1000
-good_limit NotGiven = true
+unfoldable pub good_limit : Option ℕ → Bool
+good_limit (Some l) = leb l 1000
+good_limit None = true
 
 -- number 1 is not given: n, p, the shape, the entries of Z' and the limit are in range, and Z' has a row for each of the q effects
 unfoldable pub good_sizes : Settings → Shape → Bool

@@ -3,7 +3,7 @@ ghost use Rattle.std.specs.Prelude.{◌≡◌};
 ghost use Rattle.model.specs.Account.{no_counts, ◌⊞◌, one_fit, one_solve, points_of, SumFits};
 
 // Inner fits, solves, tried steps and grid points, and of the tries those refused for eta, for a mean and for PWRSS, and those accepted.
-#[derive(Clone, Copy)]
+#[derive(Clone, Copy, Debug, PartialEq, Eq, Default)]
 pub struct Account {
     pub fits: u64,
     pub solves: u64,
@@ -20,16 +20,7 @@ impl Account {
     pub fn none() -> Self
         ensures { result ≡ no_counts }
     {
-        Self {
-            fits: 0,
-            solves: 0,
-            tries: 0,
-            points: 0,
-            eta: 0,
-            mean: 0,
-            pwrss: 0,
-            ok: 0,
-        }
+        Self::default()
     }
 
     // An inner fit begins.
@@ -38,13 +29,7 @@ impl Account {
     {
         Self {
             fits: 1,
-            solves: 0,
-            tries: 0,
-            points: 0,
-            eta: 0,
-            mean: 0,
-            pwrss: 0,
-            ok: 0,
+            ..Self::none()
         }
     }
 
@@ -53,14 +38,8 @@ impl Account {
         ensures { result ≡ one_solve }
     {
         Self {
-            fits: 0,
             solves: 1,
-            tries: 0,
-            points: 0,
-            eta: 0,
-            mean: 0,
-            pwrss: 0,
-            ok: 0,
+            ..Self::none()
         }
     }
 
@@ -69,14 +48,8 @@ impl Account {
         ensures { result ≡ points_of n }
     {
         Self {
-            fits: 0,
-            solves: 0,
-            tries: 0,
             points: n,
-            eta: 0,
-            mean: 0,
-            pwrss: 0,
-            ok: 0,
+            ..Self::none()
         }
     }
 

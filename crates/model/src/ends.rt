@@ -5,7 +5,7 @@ ghost use Rattle.model.specs.Answer.{end_number, refusal_number, is_end, blank_a
 use crate::counts::Account;
 
 // Why an accepted call has no result.
-#[derive(Clone, Copy)]
+#[derive(Clone, Copy, Debug, PartialEq, Eq)]
 pub enum End {
     // A has no LDL' factors: a pivot cannot be divided by.
     SystemPivot,
@@ -18,7 +18,7 @@ pub enum End {
 }
 
 // Why a call is not accepted, in the order of the tests.
-#[derive(Clone, Copy)]
+#[derive(Clone, Copy, Debug, PartialEq, Eq)]
 pub enum Refusal {
     // The sizes are not all in range, or Z' has not one row for each effect.
     OutOfRange,
@@ -87,10 +87,7 @@ pub fn refusal_number(refusal: Refusal) -> usize
 pub fn is_end(number: usize) -> bool
     ensures { result ≡ is_end number }
 {
-    if number < 10 {
-        return false;
-    }
-    number <= 13
+    (10..=13).contains(&number)
 }
 
 impl Answer {

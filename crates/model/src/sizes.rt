@@ -3,7 +3,7 @@ ghost use Rattle.std.specs.Prelude.{◌≡◌, true, ◌&&◌, ◌≤◌, ◌<�
 ghost use Rattle.model.specs.Shape.{within, first_effect, first_theta, effects_of, theta_length, good_shape};
 ghost use Rattle.model.specs.Settings.{good_limit, good_sizes};
 
-use crate::names::{Family, Limit, Link, Start};
+use crate::names::{Family, Link, Start};
 
 // The blocks of random effects: block i has m[i] groups of k[i] effects. Only the first `count` of each row are looked at.
 #[derive(Clone, Copy)]
@@ -19,7 +19,7 @@ pub struct Settings {
     pub family: Family,
     pub link: Link,
     pub n_agq: usize,
-    pub limit: Limit,
+    pub limit: Option<usize>,
     pub n: usize,
     pub p: usize,
     pub rows: usize,
@@ -31,16 +31,7 @@ pub struct Settings {
 fn block_ok(m: usize, k: usize) -> bool
     ensures { result ≡ (within 1 8 k && within 1 32 m) }
 {
-    if k < 1 {
-        return false;
-    }
-    if 8 < k {
-        return false;
-    }
-    if m < 1 {
-        return false;
-    }
-    m <= 32
+    (1..=8).contains(&k) && (1..=32).contains(&m)
 }
 
 // Each block is tested before its product is formed. At least one effect a block is there, so q needs no test from below.
@@ -48,23 +39,17 @@ pub fn shape_ok(shape: Shape) -> bool
     ensures { result ≡ good_shape shape }
 {
     let count = shape.count;
-    if count < 1 {
-        return false;
-    }
-    if 8 < count {
+    if !(1..=8).contains(&count) {
         return false;
     }
     let mut q = 0;
-    let mut i = 0;
-    while i < count {
+    for i in 0..count {
         let m = shape.m[i];
         let k = shape.k[i];
-        if block_ok(m, k) {
-            q += m * k;
-            i += 1;
-        } else {
+        if !block_ok(m, k) {
             return false;
         }
+        q += m * k;
     }
     q <= 32
 }
@@ -75,12 +60,10 @@ pub fn first_effect(shape: Shape, block: usize) -> usize
     ensures { result ≡ first_effect shape block }
 {
     let mut q = 0;
-    let mut i = 0;
-    while i < block {
+    for i in 0..block {
         let m = shape.m[i];
         let k = shape.k[i];
         q += m * k;
-        i += 1;
     }
     q
 }
@@ -91,11 +74,9 @@ pub fn first_theta(shape: Shape, block: usize) -> usize
     ensures { result ≡ first_theta shape block }
 {
     let mut t = 0;
-    let mut i = 0;
-    while i < block {
+    for i in 0..block {
         let k = shape.k[i];
         t += k * (k + 1) / 2;
-        i += 1;
     }
     t
 }
@@ -119,40 +100,22 @@ pub fn theta_length(shape: Shape) -> usize
 }
 
 // A limit that is not given is never too large.
-fn limit_ok(limit: Limit) -> bool
+#[tactic(auto, unfolding(crate::specs::Settings::good_limit))]
+fn limit_ok(limit: Option<usize>) -> bool
     ensures { result ≡ good_limit limit }
 {
-    match limit {
-        Limit::Given(l) => l <= 1000,
-        Limit::NotGiven => true,
-    }
+    limit.is_none_or(|l| l <= 1000)
 }
 
 // Number 1 of the table is given where this is false.
+#[tactic(auto, unfolding(crate::specs::Settings::good_sizes))]
 pub fn sizes_ok(settings: Settings, shape: Shape) -> bool
     ensures { result ≡ good_sizes settings shape }
 {
-    if settings.n < 1 {
-        return false;
-    }
-    if 512 < settings.n {
-        return false;
-    }
-    if settings.p < 1 {
-        return false;
-    }
-    if 16 < settings.p {
-        return false;
-    }
-    if shape_ok(shape) {
-        if effects(shape) != settings.rows {
-            return false;
-        }
-        if 8192 < settings.entries {
-            return false;
-        }
-        let limit = settings.limit;
-        return limit_ok(limit);
-    }
-    false
+    (1..=512).contains(&settings.n)
+        && (1..=16).contains(&settings.p)
+        && shape_ok(shape)
+        && effects(shape) == settings.rows
+        && settings.entries <= 8192
+        && limit_ok(settings.limit)
 }

@@ -1,23 +1,24 @@
 -- What document 01 fixes of the names: which bytes are a link's name, and that nothing else is. Assumes nothing.
+use Rattle.std.specs.Prelude.{Some}
 use mathlib.Core.Path.{◌≡◌, refl, sym, ap, ◌∙◌}
-use mathlib.Core.Bool.{Bool, true, false, ◌&&◌, ◌||◌, cond, true≢false}
+use mathlib.Core.Bool.{Bool, true, false, ◌&&◌, ◌||◌, cond}
 use mathlib.Core.List.{List, [], ◌∷◌, map, reverse, reverse_aux, reverse-reverse}
 use mathlib.Core.Logic.{⊎_elim}
 use Prim.Native.Nat.{ℕ, ◌+◌, ◌≤◌, ◌<◌}
 use native.Mathlib.Omega.{arith}
 use borrow.Author.Rules.{rules}
-use borrow.Author.Tests.{eqb-true, lt-leb, ne_eqb}
-use lib.Dec.{eqb, leb}
+use borrow.Author.Tests.{lt-leb, ne_eqb}
+use lib.Dec.{leb}
 use lib.ListN.{take}
 use Rattle.base.proofs.Doubles.{ff}
-use Rattle.base.proofs.Sums.{and_true, lt_or_ge}
+use Rattle.base.proofs.Sums.{lt_or_ge}
 use Rattle.model.specs.declared.names.Link.{Link}
 use Rattle.model.specs.declared.names.Link.TheVariants.{Logit, Probit, Cloglog, Log, Identity, Inverse, Sqrt}
-use Rattle.model.specs.declared.names.LinkFound.TheVariants.{Found}
+use Rattle.names.proofs.Spelled.{same_bytes_lem}
 use Rattle.names.specs.Names.{is_blank, trim_front, trim_end, lower_of, name_of, same_bytes, named_among, all_links, parse_of, name_bytes}
 
 -- ---- `parse` of `name` gives the link back
-pub parse_of_name : (l : Link) → parse_of (name_of l) ≡ Found l
+pub parse_of_name : (l : Link) → parse_of (name_of l) ≡ Some l
 unfolding parse_of trim_end trim_front is_blank lower_of same_bytes named_among
 parse_of_name Logit = refl
 parse_of_name Probit = refl
@@ -28,7 +29,7 @@ parse_of_name Inverse = refl
 parse_of_name Sqrt = refl
 
 -- also as the bytes that the function `name` gives
-pub parse_of_bytes : (l : Link) → parse_of (take (name_bytes l).count (name_bytes l).bytes) ≡ Found l
+pub parse_of_bytes : (l : Link) → parse_of (take (name_bytes l).count (name_bytes l).bytes) ≡ Some l
 unfolding parse_of trim_end trim_front is_blank lower_of same_bytes named_among name_bytes
 parse_of_bytes Logit = refl
 parse_of_bytes Probit = refl
@@ -39,7 +40,7 @@ parse_of_bytes Inverse = refl
 parse_of_bytes Sqrt = refl
 
 -- ---- what is parsed to a link is its name, trimmed and in small letters, and that is parsed to it
-pub named_is_found : (s : List ℕ) (l : Link) → map lower_of (trim_end (trim_front s)) ≡ name_of l → parse_of s ≡ Found l
+pub named_is_found : (s : List ℕ) (l : Link) → map lower_of (trim_end (trim_front s)) ≡ name_of l → parse_of s ≡ Some l
 unfolding parse_of same_bytes named_among
 named_is_found s Logit e = rw e
 named_is_found s Probit e = rw e
@@ -49,27 +50,16 @@ named_is_found s Identity e = rw e
 named_is_found s Inverse e = rw e
 named_is_found s Sqrt e = rw e
 
-same_bytes_lem : (xs ys : List ℕ) → same_bytes xs ys ≡ true → xs ≡ ys
-unfolding same_bytes
-same_bytes_lem [] [] h = refl
-same_bytes_lem [] (y ∷ ys) h = absurd (true≢false (sym h))
-same_bytes_lem (x ∷ xs) [] h = absurd (true≢false (sym h))
-same_bytes_lem (x ∷ xs) (y ∷ ys) h =
-    let p : (true ≡ eqb x y) × (true ≡ same_bytes xs ys) = and_true (eqb x y) (same_bytes xs ys) (sym h) in
-    let head : x ≡ y = eqb-true x y (sym p.0) in
-    let tail : xs ≡ ys = same_bytes_lem xs ys (sym p.1) in
-    cc
-
-among_only : (ls : List Link) (w : List ℕ) (l : Link) → named_among ls w ≡ Found l → w ≡ name_of l
+among_only : (ls : List Link) (w : List ℕ) (l : Link) → named_among ls w ≡ Some l → w ≡ name_of l
 unfolding named_among
 among_only [] w l e = let z : ◌≡◌ {A = ℕ} 0 1 = cc in let never : ⊥ = omega arith in absurd never
 among_only (k ∷ ls) w l e = picked (same_bytes w (name_of k)) refl (among_only ls w l) e
   where
-    picked : (b : Bool) → same_bytes w (name_of k) ≡ b → (named_among ls w ≡ Found l → w ≡ name_of l) → cond b (Found k) (named_among ls w) ≡ Found l → w ≡ name_of l
+    picked : (b : Bool) → same_bytes w (name_of k) ≡ b → (named_among ls w ≡ Some l → w ≡ name_of l) → cond b (Some k) (named_among ls w) ≡ Some l → w ≡ name_of l
     picked true h rest q = let same : k ≡ l = cc in same_bytes_lem w (name_of k) h ∙ ap name_of same
     picked false h rest q = rest q
 
-pub found_is_named : (s : List ℕ) (l : Link) → parse_of s ≡ Found l → map lower_of (trim_end (trim_front s)) ≡ name_of l
+pub found_is_named : (s : List ℕ) (l : Link) → parse_of s ≡ Some l → map lower_of (trim_end (trim_front s)) ≡ name_of l
 unfolding parse_of
 found_is_named s l e = among_only all_links _ l e
 
@@ -127,5 +117,5 @@ name_ascii Identity = search rules
 name_ascii Inverse = search rules
 name_ascii Sqrt = search rules
 
-pub found_is_ascii : (s : List ℕ) (l : Link) → parse_of s ≡ Found l → Ascii s
+pub found_is_ascii : (s : List ℕ) (l : Link) → parse_of s ≡ Some l → Ascii s
 found_is_ascii s l e = front_ascii s (end_ascii (trim_front s) (low_ascii (trim_end (trim_front s)) (rw (found_is_named s l e) (name_ascii l))))

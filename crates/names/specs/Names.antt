@@ -1,9 +1,8 @@
 -- The names of the links. Document 01, module 3, its last sentence; `Link::parse` and `Link::name` of family.rs. Assumes nothing.
+use Rattle.std.specs.Prelude.{Option, Some, None}
 use Rattle.std.specs.Prelude.{List, [], ◌∷◌, ◌++◌, map, reverse, Bool, true, false, ◌&&◌, ◌||◌, cond, ℕ, ◌+◌, ◌-◌, leb, eqb, length, replicate}
 use Rattle.model.specs.declared.names.Link.{Link}
 use Rattle.model.specs.declared.names.Link.TheVariants.{Logit, Probit, Cloglog, Log, Identity, Inverse, Sqrt}
-use Rattle.model.specs.declared.names.LinkFound.{LinkFound}
-use Rattle.model.specs.declared.names.LinkFound.TheVariants.{Found, NoSuch}
 use Rattle.names.specs.declared.LinkName.{LinkName}
 
 -- a byte that is trimmed: 9 to 13, and 32
@@ -48,16 +47,16 @@ same_bytes (x ∷ xs) [] = false
 same_bytes (x ∷ xs) (y ∷ ys) = eqb x y && same_bytes xs ys
 
 -- the first of some links that has this name
-unfoldable pub named_among : List Link → List ℕ → LinkFound
-named_among [] w = NoSuch
-named_among (l ∷ ls) w = cond (same_bytes w (name_of l)) (Found l) (named_among ls w)
+unfoldable pub named_among : List Link → List ℕ → Option Link
+named_among [] w = None
+named_among (l ∷ ls) w = cond (same_bytes w (name_of l)) (Some l) (named_among ls w)
 
 -- all links
 abbrev pub all_links : List Link
 all_links = Logit ∷ Probit ∷ Cloglog ∷ Log ∷ Identity ∷ Inverse ∷ Sqrt ∷ []
 
 -- `parse`: the link whose name the bytes are, trimmed and in small letters
-unfoldable pub parse_of : List ℕ → LinkFound
+unfoldable pub parse_of : List ℕ → Option Link
 parse_of s = named_among all_links (map lower_of (trim_end (trim_front s)))
 
 -- `name`, as the first bytes of an array of 8 with zeros behind them

@@ -2,159 +2,105 @@
 #![tactic(auto)]
 
 ghost use Rattle.std.specs.Prelude.{◌≡◌, map};
-ghost use Rattle.names.specs.Names.{is_blank, lower_of, same_bytes, all_links, named_among, parse_of, name_bytes};
+ghost use Rattle.names.specs.Names.{is_blank, lower_of, name_of, all_links, named_among, parse_of, name_bytes};
 ghost use Rattle.names.specs.Trimmed.{FrontAt, EndAt};
 
-use model::{Link, LinkFound};
+use model::Link;
 
-// A name: the first `count` of the bytes, with zeros behind them.
-#[derive(Clone, Copy)]
+// A name: the first `count` of the bytes, with zeros behind them. The theorem `parse_of_bytes` speaks of these two.
+#[derive(Clone, Copy, Debug, PartialEq, Eq)]
 pub struct LinkName {
     pub bytes: [u8; 8],
     pub count: usize,
 }
 
-// Tab to carriage return, and the space.
+// Every link, in the order of the codes.
+const LINKS: [Link; 7] = [
+    Link::Logit,
+    Link::Probit,
+    Link::Cloglog,
+    Link::Log,
+    Link::Identity,
+    Link::Inverse,
+    Link::Sqrt,
+];
+
+// Tab to carriage return, and the space. `is_ascii_whitespace` leaves out 11.
+#[tactic(auto, unfolding(crate::specs::Names::is_blank))]
 fn is_blank(b: u8) -> bool
     ensures { result ≡ is_blank b }
 {
-    if b < 9 {
-        return false;
-    }
-    if b <= 13 {
-        return true;
-    }
-    b == 32
-}
-
-// A capital letter as the small one; any other byte as it is.
-fn lower(b: u8) -> u8
-    ensures { result ≡ lower_of b }
-{
-    if b < 65 {
-        return b;
-    }
-    if b <= 90 {
-        return b + 32;
-    }
-    b
+    matches!(b, 9..=13 | 32)
 }
 
 // How many blanks stand at the front.
 fn blanks_before(s: &[u8]) -> usize
     ensures { FrontAt s.now result }
 {
-    let mut i = 0;
-    while i < s.len() {
+    for i in 0..s.len() {
         if !is_blank(s[i]) {
             return i;
         }
-        i += 1;
     }
-    i
+    s.len()
 }
 
 // How many bytes are left without the blanks at the end.
 fn kept(s: &[u8]) -> usize
     ensures { EndAt s.now result }
 {
-    let mut e = s.len();
-    while 0 < e {
-        if !is_blank(s[e - 1]) {
-            return e;
+    for i in (0..s.len()).rev() {
+        if !is_blank(s[i]) {
+            return i + 1;
         }
-        e -= 1;
     }
-    e
-}
-
-// Whether the word, in small letters, is the name.
-fn spells(word: &[u8], name: &[u8]) -> bool
-    ensures { result ≡ same_bytes (map lower_of word.now) name.now }
-{
-    if word.len() != name.len() {
-        return false;
-    }
-    let mut i = 0;
-    while i < name.len() {
-        if lower(word[i]) != name[i] {
-            return false;
-        }
-        i += 1;
-    }
-    true
-}
-
-// The link of a word without blanks around it.
-fn named(word: &[u8]) -> LinkFound
-    ensures { result ≡ named_among all_links (map lower_of word.now) }
-{
-    if spells(word, b"logit") {
-        return LinkFound::Found(Link::Logit);
-    }
-    if spells(word, b"probit") {
-        return LinkFound::Found(Link::Probit);
-    }
-    if spells(word, b"cloglog") {
-        return LinkFound::Found(Link::Cloglog);
-    }
-    if spells(word, b"log") {
-        return LinkFound::Found(Link::Log);
-    }
-    if spells(word, b"identity") {
-        return LinkFound::Found(Link::Identity);
-    }
-    if spells(word, b"inverse") {
-        return LinkFound::Found(Link::Inverse);
-    }
-    if spells(word, b"sqrt") {
-        return LinkFound::Found(Link::Sqrt);
-    }
-    LinkFound::NoSuch
-}
-
-// The link of a name, in letters of either case and with blanks around it or not.
-pub fn parse(s: &[u8]) -> LinkFound
-    ensures { result ≡ parse_of s.now }
-{
-    let start = blanks_before(s);
-    let rest = &s[start..];
-    let count = kept(rest);
-    named(&rest[0..count])
+    0
 }
 
 // The name of a link, in small letters.
+fn text(link: Link) -> &'static [u8]
+    ensures { result.now ≡ name_of link }
+{
+    match link {
+        Link::Logit => b"logit",
+        Link::Probit => b"probit",
+        Link::Cloglog => b"cloglog",
+        Link::Log => b"log",
+        Link::Identity => b"identity",
+        Link::Inverse => b"inverse",
+        Link::Sqrt => b"sqrt",
+    }
+}
+
+// The link of a word without blanks around it.
+fn named(word: &[u8]) -> Option<Link>
+    ensures { result ≡ named_among all_links (map lower_of word.now) }
+{
+    for link in LINKS {
+        if word.eq_ignore_ascii_case(text(link)) {
+            return Some(link);
+        }
+    }
+    None
+}
+
+// The link of a name, in letters of either case and with blanks around it or not.
+#[tactic(auto, unfolding(crate::specs::Names::parse_of))]
+pub fn parse(s: &[u8]) -> Option<Link>
+    ensures { result ≡ parse_of s.now }
+{
+    let rest = &s[blanks_before(s)..];
+    named(&rest[..kept(rest)])
+}
+
+// The name of a link, in small letters.
+#[tactic(auto, unfolding(crate::specs::Names::name_bytes))]
 pub fn name(link: Link) -> LinkName
     ensures { result ≡ name_bytes link }
 {
-    match link {
-        Link::Logit => LinkName {
-            bytes: *b"logit\0\0\0",
-            count: 5,
-        },
-        Link::Probit => LinkName {
-            bytes: *b"probit\0\0",
-            count: 6,
-        },
-        Link::Cloglog => LinkName {
-            bytes: *b"cloglog\0",
-            count: 7,
-        },
-        Link::Log => LinkName {
-            bytes: *b"log\0\0\0\0\0",
-            count: 3,
-        },
-        Link::Identity => LinkName {
-            bytes: *b"identity",
-            count: 8,
-        },
-        Link::Inverse => LinkName {
-            bytes: *b"inverse\0",
-            count: 7,
-        },
-        Link::Sqrt => LinkName {
-            bytes: *b"sqrt\0\0\0\0",
-            count: 4,
-        },
-    }
+    let text = text(link);
+    let count = text.len();
+    let mut bytes = [0; 8];
+    bytes[..count].copy_from_slice(text);
+    LinkName { bytes, count }
 }

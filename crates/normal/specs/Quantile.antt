@@ -1,8 +1,10 @@
 -- norm_quantile, the normal distribution's quantile, as ordered operations: Cephes' ndtri, and one of Newton's steps where the smaller tail is below 1/4. Document 02, P8; docs/ELEMENTARY.md has method and bound. Assumes nothing.
-use Rattle.std.specs.Prelude.{true, false, cond, Float}
+use Rattle.std.specs.Prelude.{true, false, cond, List, drop, Float}
+use Rattle.std.specs.List.{fold}
 use Rattle.std.specs.Float.{nan, inf}
 use Rattle.std.specs.Float.Ieee.{neg, lt, le, eq, is_nan}
 use Rattle.base.specs.Number.{◌⊕◌, ◌⊖◌, ◌⊗◌, ◌⊘◌, bits, zero_f, one_f, half_f, two_f, abs_f}
+use Rattle.base.specs.Sum.{◌!◌}
 use Rattle.root.specs.Sqrt.{sqrt_of}
 use Rattle.elementary.specs.Log.{ln_of}
 use Rattle.normal.specs.QuantileConstants.{p0₀, p0₁, p0₂, p0₃, p0₄, q0₀, q0₁, q0₂, q0₃, q0₄, q0₅, q0₆, q0₇, root_two_pi, far_tail}
@@ -10,6 +12,14 @@ use Rattle.normal.specs.QuantileConstants.{p1₀, p1₁, p1₂, p1₃, p1₄, p1
 use Rattle.normal.specs.QuantileConstants.{p2₀, p2₁, p2₂, p2₃, p2₄, p2₅, p2₆, p2₇, p2₈, q2₀, q2₁, q2₂, q2₃, q2₄, q2₅, q2₆, q2₇}
 use Rattle.normal.specs.Tail.{upper_tail}
 use Rattle.normal.specs.Normal.{density_of}
+
+-- a polynomial by Horner's rule: s is the highest coefficient, and the others follow, the highest power first
+unfoldable pub horner_of : Float → List Float → Float → Float
+horner_of s others w = fold (λ s c. s ⊗ w ⊕ c) s others
+
+-- w P / Q, where Q has a leading 1 that is not stored
+unfoldable pub part_of : List Float → List Float → Float → Float
+part_of p q w = w ⊗ horner_of (p ! 0) (drop 1 p) w ⊘ horner_of (w ⊕ (q ! 0)) (drop 1 q) w
 
 -- the quantile of 1/2 + q, for |q| up to 0.365: (q + q³ P / Q) sqrt(2π), P and Q in q²
 unfoldable pub central_of : Float → Float

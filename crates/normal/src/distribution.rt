@@ -15,6 +15,7 @@ const PDF_HI: f64 = 0.918938533170148730278015136719;
 const PDF_LO: f64 = 3.45240115023146e-11;
 
 // The tail of the normal distribution past y, for y from 0 to 39.
+#[tactic(auto, unfolding(crate::specs::Tail::upper_tail))]
 pub fn upper_tail(y: f64) -> f64
     ensures { result ≡ upper_tail y }
 {
@@ -28,6 +29,7 @@ pub fn upper_tail(y: f64) -> f64
 }
 
 // The density at y, for y from 0 to 39.
+#[tactic(auto, unfolding(crate::specs::Normal::density_of))]
 pub fn density(y: f64) -> f64
     ensures { result ≡ density_of y }
 {
@@ -36,6 +38,7 @@ pub fn density(y: f64) -> f64
 }
 
 // The density of the normal distribution; from 39 on it rounds to zero.
+#[tactic(auto, unfolding(crate::specs::Normal::norm_pdf))]
 pub fn norm_pdf(x: f64) -> f64
     ensures { result ≡ norm_pdf x }
 {
@@ -50,19 +53,19 @@ pub fn norm_pdf(x: f64) -> f64
 }
 
 // z, which lies from 0 to 1: the tests change no result, and with them the contract shows that none lies outside.
+#[tactic(auto, unfolding(crate::specs::Normal::from_zero_to_one))]
 fn from_zero_to_one(z: f64) -> f64
     ensures { result ≡ from_zero_to_one z }
 {
     if 0.0 < z {
-        if z < 1.0 {
-            return z;
-        }
-        return 1.0;
+        if z < 1.0 { z } else { 1.0 }
+    } else {
+        0.0
     }
-    0.0
 }
 
 // The normal distribution function; past 39 it rounds to zero and one.
+#[tactic(auto, unfolding(crate::specs::Normal::norm_cdf))]
 pub fn norm_cdf(x: f64) -> f64
     ensures { result ≡ norm_cdf x }
 {

@@ -73,6 +73,7 @@ const SB6: f64 = 4.74528541206955367215e+02;
 const SB7: f64 = -2.24409524465858183362e+01;
 
 // ln(w erfc(w)) + w² + 0.5625 for w from 1.25 to 1 / 0.35, where v is w² and q is 1 / w².
+#[tactic(auto, unfolding(crate::specs::Tail::inner_part))]
 fn inner(v: f64, q: f64) -> f64
     ensures { result ≡ inner_part v q }
 {
@@ -84,6 +85,7 @@ fn inner(v: f64, q: f64) -> f64
 }
 
 // The same beyond.
+#[tactic(auto, unfolding(crate::specs::Tail::outer_part))]
 fn outer(q: f64) -> f64
     ensures { result ≡ outer_part q }
 {
@@ -93,6 +95,7 @@ fn outer(q: f64) -> f64
 }
 
 // The one that y asks for.
+#[tactic(auto, unfolding(crate::specs::Tail::far_part))]
 fn far_part(y: f64, v: f64) -> f64
     ensures { result ≡ far_part y v }
 {
@@ -104,6 +107,7 @@ fn far_part(y: f64, v: f64) -> f64
 }
 
 // exp(r - s - d - 0.5625 - ln 2 / 2) / y: s + TAIL_HI is exact, and what a + r loses is kept.
+#[tactic(auto, unfolding(crate::specs::Tail::tail_by))]
 fn tail_by(y: f64, s: f64, d: f64, r: f64) -> f64
     ensures { result ≡ tail_by y s d r }
 {
@@ -113,6 +117,7 @@ fn tail_by(y: f64, s: f64, d: f64, r: f64) -> f64
 }
 
 // For y from 1.7677 to 39.
+#[tactic(auto, unfolding(crate::specs::Tail::tail_far))]
 pub fn tail_far(y: f64) -> f64
     ensures { result ≡ tail_far y }
 {

@@ -61,6 +61,7 @@ const QA5: f64 = 1.36370839120290507362e-02;
 const QA6: f64 = 1.19844998467991074170e-02;
 
 // erf(w) - w, where w² is s + d.
+#[tactic(auto, unfolding(crate::specs::Tail::erf_rest))]
 fn erf_rest(w: f64, s: f64, d: f64) -> f64
     ensures { result ≡ erf_rest w s d }
 {
@@ -71,6 +72,7 @@ fn erf_rest(w: f64, s: f64, d: f64) -> f64
 }
 
 // What y / 2 is taken from first, so that the difference is exact.
+#[tactic(auto, unfolding(crate::specs::Tail::taken_from))]
 fn taken_from(y: f64) -> f64
     ensures { result ≡ taken_from y }
 {
@@ -78,6 +80,7 @@ fn taken_from(y: f64) -> f64
 }
 
 // For y up to 1.1932.
+#[tactic(auto, unfolding(crate::specs::Tail::tail_near))]
 pub fn tail_near(y: f64) -> f64
     ensures { result ≡ tail_near y }
 {
@@ -91,6 +94,7 @@ pub fn tail_near(y: f64) -> f64
 }
 
 // erfc(1 + u) / 2.
+#[tactic(auto, unfolding(crate::specs::Tail::erfc_near_one))]
 fn erfc_near_one(u: f64) -> f64
     ensures { result ≡ erfc_near_one u }
 {
@@ -101,6 +105,7 @@ fn erfc_near_one(u: f64) -> f64
 }
 
 // For y from there to 1.7677.
+#[tactic(auto, unfolding(crate::specs::Tail::tail_middle))]
 pub fn tail_middle(y: f64) -> f64
     ensures { result ≡ tail_middle y }
 {

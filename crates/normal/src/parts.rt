@@ -11,6 +11,7 @@ pub const K1: f64 = 0.207106781133916229009628295898;
 const K2: f64 = 5.263129539121607e-11;
 
 // The multiple of 2^-20 nearest to y.
+#[tactic(auto, unfolding(crate::specs::Tail::on_grid))]
 pub fn on_grid(y: f64) -> f64
     ensures { result ≡ on_grid y }
 {
@@ -18,6 +19,7 @@ pub fn on_grid(y: f64) -> f64
 }
 
 // z² / 2, exact for a z on the grid.
+#[tactic(auto, unfolding(crate::specs::Tail::half_square))]
 pub fn half_square(z: f64) -> f64
     ensures { result ≡ half_square z }
 {
@@ -25,6 +27,7 @@ pub fn half_square(z: f64) -> f64
 }
 
 // What z² / 2 lacks of y² / 2.
+#[tactic(auto, unfolding(crate::specs::Tail::half_rest))]
 pub fn half_rest(y: f64, z: f64) -> f64
     ensures { result ≡ half_rest y z }
 {
@@ -32,6 +35,7 @@ pub fn half_rest(y: f64, z: f64) -> f64
 }
 
 // What y / 2 + K1 z lacks of y / sqrt 2.
+#[tactic(auto, unfolding(crate::specs::Tail::root_rest))]
 pub fn root_rest(y: f64, z: f64) -> f64
     ensures { result ≡ root_rest y z }
 {

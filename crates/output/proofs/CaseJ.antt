@@ -1,4 +1,5 @@
 -- Case J through the whole program: its 44 bytes make one line of output. Document 01, "The job and the program", its last lines; document 02, P5 and P9. Assumes nothing.
+use Rattle.std.specs.Prelude.{Ok}
 use mathlib.Core.Path.{◌≡◌, refl, ◌∙◌}
 use mathlib.Core.List.{[], ◌∷◌}
 use lib.Ieee.{lt, le, eq, of_bits}
@@ -20,7 +21,6 @@ use Rattle.rule.specs.Run.{items_before, failed_after, run_from, run_of}
 use Rattle.agq_rule.specs.Inner.{after_run, inner_with, inner_of}
 use Rattle.table.specs.Tests.{absent_or, good_inputs, good_results, good_work, all_finite, finite_numbers, all_in_range, start_fits}
 use Rattle.table.specs.Table.{refuse_unless, table_of}
-use Rattle.table.specs.declared.verdicts.Verdict.TheVariants.{Accepted}
 use Rattle.dispersion.specs.Rounds.{no_result, with_flag, last_fit, fixed_of}
 use Rattle.job.proofs.JobCases.{case_j, job_j, case_j_read}
 use Rattle.lines.specs.Lines.{end_line}
@@ -33,7 +33,7 @@ use Rattle.jobfit.specs.Done.{inputs_of, zeros}
 use Rattle.output.specs.Output.{slices_for, call_for, left_text, output_by, output_of}
 
 -- it is accepted
-accepted_j : table_of 1 job_j.settings job_j.shape (inputs_of job_j) (lengths_of (slices_for job_j.settings)) ≡ Accepted Poisson Log
+accepted_j : table_of 1 job_j.settings job_j.shape (inputs_of job_j) (lengths_of (slices_for job_j.settings)) ≡ Ok (Poisson, Log)
 unfolding table_of refuse_unless good_sizes good_limit good_shape good_block total_to block_effects block_thetas all_to good_inputs absent_or good_results good_work lengths_of slices_for zeros good_rows good_row good_starts good_columns column_fits not_falling finite_numbers all_finite finite of_bits valid_for links_for among all_in_range in_range le lt eq start_fits
 accepted_j = refl
 

@@ -1,4 +1,8 @@
 -- What is printed does not depend on what the lent terms hold, but for their length. Document 01: the 7,000 log terms are lent by the program. Assumes nothing.
+use Rattle.family.specs.declared.carried.CarriedFamily.{CarriedFamily}
+use Rattle.family.specs.declared.carried.CarriedLink.{CarriedLink}
+use Rattle.model.specs.declared.ends.Refusal.{Refusal}
+use Rattle.std.specs.Prelude.{Result, Ok, Err}
 use mathlib.Core.Path.{◌≡◌, refl}
 use mathlib.Core.List.{List}
 use Prim.Native.Nat.{ℕ, ◌≤◌}
@@ -12,8 +16,6 @@ use Rattle.model.specs.declared.sizes.Settings.{Settings}
 use Rattle.model.specs.Inputs.{Inputs}
 use Rattle.table.specs.Tests.{good_results, good_work}
 use Rattle.table.specs.Table.{table_of}
-use Rattle.table.specs.declared.verdicts.Verdict.{Verdict}
-use Rattle.table.specs.declared.verdicts.Verdict.TheVariants.{Accepted, Refused}
 use Rattle.job.specs.Job.{Read, faulty, sound, read_of}
 use Rattle.lines.specs.Lines.{Written}
 use Rattle.call.specs.Call.{Lent, Left, lengths_of, fit_left, call_by, call_of}
@@ -31,10 +33,10 @@ pub record SameTold (a b : Left) : Type 0 where
   pub results : a.lent.results ≡ b.lent.results
 
 -- what a verdict leads to does not name the terms
-by_verdict : (v : Verdict) (t : Settings) (s : Shape) (I : Inputs) (L : Lent) (terms : List Float) → SameTold (call_by v t s I (with_terms terms L)) (call_by v t s I L)
+by_verdict : (v : Result (CarriedFamily × CarriedLink) Refusal) (t : Settings) (s : Shape) (I : Inputs) (L : Lent) (terms : List Float) → SameTold (call_by v t s I (with_terms terms L)) (call_by v t s I L)
 unfolding call_by fit_left
-by_verdict (Refused r) t s I L terms = record { answer = refl; results = refl }
-by_verdict (Accepted f l) t s I L terms = record { answer = refl; results = refl }
+by_verdict (Err r) t s I L terms = record { answer = refl; results = refl }
+by_verdict (Ok (f, l)) t s I L terms = record { answer = refl; results = refl }
 
 -- the table looks at their length alone
 module _ (t : Settings) (s : Shape) (I : Inputs) (L : Lent) (terms : List Float) (before : 7000 ≤ length L.terms) (now : 7000 ≤ length terms) where

@@ -34,8 +34,8 @@ use Rattle.stages.specs.declared.stops.AtStop.{AtStop}
 use Rattle.iteration.specs.Iterated.{StuckAfter, MovedAfter, iteration_cap}
 use Rattle.iteration.proofs.IterationMade.{eta_before}
 use Rattle.iteration.proofs.MovedMeans.{moved_met}
-use Rattle.pirls.specs.Inner.{turned, failed_fit, InnerLeft}
-use Rattle.pirls.specs.declared.run.Ended.TheVariants.{Stopped}
+use Rattle.pirls.specs.Inner.{turned, failed_fit, stopped_fit, InnerLeft}
+use Rattle.pirls.specs.declared.run.Stopped.{Stopped}
 
 -- the most that an inner fit has counted after k iterations
 abbrev pub run_to : ℕ → Account
@@ -251,32 +251,35 @@ module _ (G : Given) (phi : Float) (L : ℕ) (mu₀ : List Float) where
       matrix_kept c w a h = only_row c w (root_inverse_place p q) (p * p) a (omega (arith, lent.matrices_long)) sl.matrices_only
 
       pub fit_stopped : Only 0 (rows_length n) r₀ r'
-          → InnerLeft G phi L mu₀ r₀ r''' m₀ m''' t₀ t' (record { end = Stopped; iterations = k + 1; in_second = not second; deviance_sum = at.deviance_sum; fit = at.fit; laplace = at.laplace; account = more })
+          → InnerLeft G phi L mu₀ r₀ r''' m₀ m''' t₀ t' (stopped_fit at (k + 1) (not second) more)
       unfolding run_of items_before mode_of mode_devs mode_sum mode_fit
       fit_stopped or =
           let lr : rows_length n ≤ length r'' = lent.rows_long in
           let ml : MatricesLaid p q = (laid_out lent.sizes).matrices in
+          let s : Stopped = record { iterations = k + 1; in_second = not second; deviance_sum = at.deviance_sum; fit = at.fit; laplace = at.laplace } in
           let i : tally (a_fit ∷ whole.items) ≡ more = g.items ∙ rw ended (went_items (record { ending = stopped mode; items = [] }) ∙ rw (tally_none) (plus_none more)) in
           record {
-            told = rw (g.ending ∙ ap (λ (o : Outcome). o.ending) ended)
-                (record {
-                  end = refl;
-                  iterations = refl;
-                  results =
-                      record {
-                        place = ap not g.place ∙ sym (turned_more k);
-                        eta = only_row (eta_row n (not second)) n (deviance_row n) n (inl (omega (arith, eta_in))) (omega (arith, eta_in)) sl.rows_only;
-                        mu = only_row (mu_row n) n (deviance_row n) n (inl (omega arith)) (omega arith) sl.rows_only;
-                        inverse = sl.inverse;
-                        beta = matrix_kept (beta_place p q) p (inr (omega arith)) (omega (arith, ml.beta, ml.beta_end_lem)) ∙ x.held.beta;
-                        u = matrix_kept (u_place p q) q (inr (omega arith)) (omega (arith, ml.beta_end_lem)) ∙ x.held.u;
-                      };
-                  deviances = sl.deviances;
-                  sum = sl.sum;
-                  fit_term_lem = sl.fit_term_lem;
-                  laplace_deviance = sl.laplace_deviance;
-                  system = matrix_kept system_place (q * q) (inl (omega arith)) (omega (arith, ml.beta_end_lem)) ∙ x.held.system;
-                });
+            told = rw (g.ending ∙ ap (λ (o : Outcome). o.ending) ended) (
+              s,
+              refl,
+              record {
+                iterations = refl;
+                results =
+                    record {
+                      place = ap not g.place ∙ sym (turned_more k);
+                      eta = only_row (eta_row n (not second)) n (deviance_row n) n (inl (omega (arith, eta_in))) (omega (arith, eta_in)) sl.rows_only;
+                      mu = only_row (mu_row n) n (deviance_row n) n (inl (omega arith)) (omega arith) sl.rows_only;
+                      inverse = sl.inverse;
+                      beta = matrix_kept (beta_place p q) p (inr (omega arith)) (omega (arith, ml.beta, ml.beta_end_lem)) ∙ x.held.beta;
+                      u = matrix_kept (u_place p q) q (inr (omega arith)) (omega (arith, ml.beta_end_lem)) ∙ x.held.u;
+                    };
+                deviances = sl.deviances;
+                sum = sl.sum;
+                fit_term_lem = sl.fit_term_lem;
+                laplace_deviance = sl.laplace_deviance;
+                system = matrix_kept system_place (q * q) (inl (omega arith)) (omega (arith, ml.beta_end_lem)) ∙ x.held.system;
+              },
+            );
             counted = sym i;
             rows_only = only_trans (only_trans (only_trans or g.rows_only) or') (only_wide (deviance_row n) n 0 (rows_length n) (omega arith) (omega arith) sl.rows_only);
             matrices_only = only_trans (only_trans g.matrices_only om) (only_wide (root_inverse_place p q) (p * p) 0 (matrices_length p q) (omega arith) (omega (arith, ml.beta_end_lem)) sl.matrices_only);

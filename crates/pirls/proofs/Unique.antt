@@ -1,5 +1,6 @@
 -- The inner fit's contract leaves one answer, and one content of what is read afterwards. Assumes nothing.
-use mathlib.Core.Path.{◌≡◌, refl, sym, ◌∙◌}
+use Rattle.std.specs.Prelude.{Ok}
+use mathlib.Core.Path.{◌≡◌, sym, ap, ◌∙◌}
 use mathlib.Core.List.{List}
 use mathlib.Core.Bool.{Bool}
 use Prim.Native.Nat.{ℕ, ◌*◌}
@@ -13,15 +14,21 @@ use Rattle.stages.specs.Held.{eta_row}
 use Rattle.rule.specs.Run.{Ending, stopped, failed, run_of}
 use Rattle.pirls.specs.Inner.{HoldsResults, HoldsMode, EndingTold, InnerLeft}
 use Rattle.pirls.specs.declared.run.InnerFit.{InnerFit}
+use Rattle.pirls.specs.declared.run.Stopped.{Stopped}
 
-same_fit : {a b : InnerFit} → a.end ≡ b.end → a.iterations ≡ b.iterations → a.in_second ≡ b.in_second → a.deviance_sum ≡ b.deviance_sum → a.fit ≡ b.fit → a.laplace ≡ b.laplace
-    → a.account ≡ b.account → a ≡ b
-same_fit e1 e2 e3 e4 e5 e6 e7 = λ i. record { end = e1 i; iterations = e2 i; in_second = e3 i; deviance_sum = e4 i; fit = e5 i; laplace = e6 i; account = e7 i }
+same_stopped : {s t : Stopped} → s.iterations ≡ t.iterations → s.in_second ≡ t.in_second → s.deviance_sum ≡ t.deviance_sum → s.fit ≡ t.fit → s.laplace ≡ t.laplace → s ≡ t
+same_stopped e1 e2 e3 e4 e5 = λ i. record { iterations = e1 i; in_second = e2 i; deviance_sum = e3 i; fit = e4 i; laplace = e5 i }
+
+same_fit : {a b : InnerFit} → a.outcome ≡ b.outcome → a.account ≡ b.account → a ≡ b
+same_fit e f = λ i. record { outcome = e i; account = f i }
 
 told_once : (o : Ending) (G : Given) (r r' m m' : List Float) (a b : InnerFit) → a.account ≡ b.account → EndingTold o G r m a → EndingTold o G r' m' b → a ≡ b
 told_once (stopped k) G r r' m m' a b e x y =
-    same_fit (x.end ∙ sym y.end) (x.iterations ∙ sym y.iterations) (x.results.place ∙ sym y.results.place) (x.sum ∙ sym y.sum) (x.fit_term_lem ∙ sym y.fit_term_lem) (x.laplace_deviance ∙ sym y.laplace_deviance) e
-told_once (failed f) G r r' m m' a b e x y = x ∙ rw e refl ∙ sym y
+    let h = x.2 in
+    let h' = y.2 in
+    let s : x.0 ≡ y.0 = same_stopped (h.iterations ∙ sym h'.iterations) (h.results.place ∙ sym h'.results.place) (h.sum ∙ sym h'.sum) (h.fit_term_lem ∙ sym h'.fit_term_lem) (h.laplace_deviance ∙ sym h'.laplace_deviance) in
+    same_fit (x.1 ∙ ap Ok s ∙ sym y.1) e
+told_once (failed f) G r r' m m' a b e x y = same_fit (x ∙ sym y) e
 
 -- one answer
 pub inner_once : (G : Given) (phi : Float) (L : ℕ) (mu r r' r'' m m' m'' t t' t'' : List Float) (a b : InnerFit) → InnerLeft G phi L mu r r' m m' t t' a → InnerLeft G phi L mu r r'' m m'' t t'' b → a ≡ b
@@ -41,12 +48,12 @@ results_once G k second second' r r' m m' x y =
     record { eta = x.eta ∙ sym y.eta; mu = x.mu ∙ sym y.mu; inverse = x.inverse ∙ sym y.inverse; beta = x.beta ∙ sym y.beta; u = x.u ∙ sym y.u }
 
 -- and so is what they leave for the quadrature
-pub record SameMode (G : Given) (r r' m m' : List Float) (a b : InnerFit) : Type 0 where
+pub record SameMode (G : Given) (r r' m m' : List Float) (a b : Stopped) : Type 0 where
   pub results : SameResults G a.in_second b.in_second r r' m m'
   pub deviances : row (deviance_row (n_of G)) (n_of G) r ≡ row (deviance_row (n_of G)) (n_of G) r'
   pub system : row system_place (q_of G.design * q_of G.design) m ≡ row system_place (q_of G.design * q_of G.design) m'
 
-pub mode_once : (G : Given) (k : Mode) (r r' m m' : List Float) (a b : InnerFit) → HoldsMode G k r m a → HoldsMode G k r' m' b → SameMode G r r' m m' a b
+pub mode_once : (G : Given) (k : Mode) (r r' m m' : List Float) (a b : Stopped) → HoldsMode G k r m a → HoldsMode G k r' m' b → SameMode G r r' m m' a b
 mode_once G k r r' m m' a b x y =
     record {
       results = results_once G k a.in_second b.in_second r r' m m' x.results y.results;

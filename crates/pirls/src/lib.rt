@@ -3,4 +3,4 @@
 
 mod run;
 
-pub use run::{Ended, InnerFit, inner_fit};
+pub use run::{InnerFit, Stopped, inner_fit};

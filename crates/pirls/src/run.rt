@@ -3,64 +3,57 @@ ghost use Rattle.std.specs.Prelude.{◌≡◌, ◌≤◌};
 ghost use Rattle.base.specs.Rows.{row};
 ghost use Rattle.layout.specs.WorkRows.{mu_row};
 ghost use Rattle.model.specs.Account.{◌⊞◌, one_solve, SumFits};
-ghost use Rattle.stored.specs.Stored.{sparse};
-ghost use Rattle.rule.specs.Given.{design_of, given_of};
-ghost use Rattle.iteration.specs.Iterated.{Asked};
+ghost use Rattle.iteration.specs.Iterated.{AskedFor};
 ghost use Rattle.pirls.specs.Inner.{failed_fit, stopped_fit, InnerLeft};
+ghost use Rattle.rule.specs.Lent.{given_in};
 
-use family::{CarriedFamily, CarriedLink};
 use iteration::{Iteration, iterate};
 use layout::mu_row;
-use model::{Account, End, Shape};
-use rule::stops;
+use model::{Account, End};
+use rule::{Given, stops};
 use stages::{AtStop, stop};
 use working::start_eta;
 
-// Whether an inner fit has a result.
+// What a fit that came to rest tells beside what stands in the work slices.
 #[derive(Clone, Copy)]
-pub enum Ended {
-    Stopped,
-    Failed(End),
-}
-
-// What an inner fit answers beside what stands in the work slices; without a result all but end and account is zero.
-#[derive(Clone, Copy)]
-pub struct InnerFit {
-    pub end: Ended,
+pub struct Stopped {
     pub iterations: usize,
     pub in_second: bool,
     pub deviance_sum: f64,
     pub fit: f64,
     pub laplace: f64,
+}
+
+// What an inner fit answers: how it ended, and the work that it has done either way.
+#[derive(Clone, Copy)]
+pub struct InnerFit {
+    pub outcome: Result<Stopped, End>,
     pub account: Account,
 }
 
-// An inner fit without a result, and the work that it has done.
+// An inner fit without a result.
 fn failed_fit(end: End, account: Account) -> InnerFit
     ensures { result ≡ failed_fit end account }
 {
     InnerFit {
-        end: Ended::Failed(end),
-        iterations: 0,
-        in_second: false,
-        deviance_sum: 0.0,
-        fit: 0.0,
-        laplace: 0.0,
+        outcome: Err(end),
         account,
     }
 }
 
-// An inner fit that came to rest: what the stop tells, and the work that it has done.
+// An inner fit that came to rest: what the stop tells.
 fn stopped_fit(s: AtStop, iterations: usize, in_second: bool, account: Account) -> InnerFit
     ensures { result ≡ stopped_fit s iterations in_second account }
 {
-    InnerFit {
-        end: Ended::Stopped,
+    let stopped = Stopped {
         iterations,
         in_second,
         deviance_sum: s.deviance_sum,
         fit: s.fit,
         laplace: s.laplace,
+    };
+    InnerFit {
+        outcome: Ok(stopped),
         account,
     }
 }
@@ -75,72 +68,44 @@ fn with_solve(account: Account, made: Account) -> Account
 
 // The inner fit from the means that stand in their row; from the first move on they are those of the predictor.
 pub fn inner_fit(
-    family: CarriedFamily,
-    link: CarriedLink,
+    given: &Given<'_>,
     phi: f64,
     limit: usize,
-    shape: Shape,
-    theta: &[f64],
-    starts: &[usize],
-    columns: &[usize],
-    values: &[f64],
-    offset: &[f64],
-    x: &[f64],
-    y: &[f64],
-    weights: &[f64],
-    n: usize,
-    p: usize,
-    q: usize,
     r: &mut [f64],
     m: &mut [f64],
     t: &mut [f64],
 ) -> InnerFit
-    requires asked { Asked n p q shape theta.now starts.now columns.now values.now offset.now x.now y.now r.old m.old t.old }
+    requires asked { AskedFor given.now r.old m.old t.old }
     requires limit_bound { limit ≤ 1000 }
     ensures { InnerLeft
-        (given_of family link y.now weights.now
-        (design_of n p shape theta.now offset.now x.now
-        (sparse starts.now columns.now values.now))) phi limit (row (mu_row n) n r.old) r.old
+        (given_in given.now) phi limit (row (mu_row given.now.design.n) given.now.design.n r.old) r.old
         r.new m.old m.new t.old t.new result }
 {
-    start_eta(link, offset, n, mu_row(n), 0, r);
+    let design = &given.design;
+    start_eta(given.link, design.offset, design.n, mu_row(design.n), 0, r);
     let mut old = base::MAX;
     let mut in_second = false;
-    let mut k = 0;
     let mut account = Account::one_fit();
-    while k < limit {
-        let it = iterate(
-            family,
-            link,
-            0 < k,
-            phi,
-            shape,
-            theta,
-            starts,
-            columns,
-            values,
-            offset,
-            x,
-            y,
-            weights,
-            n,
-            p,
-            q,
-            in_second,
-            r,
-            m,
-            t,
-        );
-        match it {
+    for k in 0..limit {
+        match iterate(given, 0 < k, phi, in_second, r, m, t) {
             Iteration::Unsolvable(e) => return failed_fit(e, account),
             Iteration::Stuck(made) => return failed_fit(End::NoStep, with_solve(account, made)),
             Iteration::Moved(pwrss, made) => {
-                k += 1;
                 account = with_solve(account, made);
                 in_second = !in_second;
                 if stops(old, pwrss) {
-                    let s = stop(family, y, weights, n, p, q, r, m, t);
-                    return stopped_fit(s, k, in_second, account);
+                    let s = stop(
+                        given.family,
+                        given.y,
+                        given.weights,
+                        design.n,
+                        design.p,
+                        design.q,
+                        r,
+                        m,
+                        t,
+                    );
+                    return stopped_fit(s, k + 1, in_second, account);
                 }
                 old = pwrss;
             }

@@ -9,7 +9,9 @@ use native.Mathlib.Numerals.{add-one}
 use native.Mathlib.Omega.{arith}
 use borrow.Author.Tests.{eqb-true, eqb-false}
 use lib.Dec.{eqb}
-use lib.ListN.{length, set, length-set}
+use lib.ListN.{length, set, length-set, replicate, length-replicate}
+use borrow.Rule.Slice.PartMut.{put_mid, mid_of, mid_len}
+use Rattle.std.proofs.lemmas.List.{get_or-replicate}
 use lib.Seq.{get_or-set_same, get_or-set_other}
 use lib.Ieee.{Float, nan}
 use Rattle.base.specs.Number.{zero_f, one_f}
@@ -17,10 +19,18 @@ use Rattle.base.specs.Sum.{◌!◌, ◌!!◌, any_to}
 use Rattle.base.specs.List.{build, zero_at}
 use Rattle.base.specs.Rows.{row, Only, Wrote}
 use Rattle.base.specs.Sparse.{Sparse, stored_in, stored}
-use Rattle.base.proofs.Fills.{build_at}
-use Rattle.base.proofs.Rows.{row_at, row_build, only_trans}
+use Rattle.base.proofs.Fills.{build_at, build_is}
+use Rattle.base.proofs.Rows.{row_at, row_build, only_trans, part_wrote}
 use Rattle.agq_rule.specs.Term.{belongs}
 use Rattle.points.specs.Gain.{mark_at, MarkedIn}
+
+-- ---- a part that came back filled with x
+pub part_set : (b n e : ℕ) (x : Float) (w ys : List Float) → e ≡ b + n → e ≤ length w → ys ≡ replicate (length (mid_of b (e - b) w)) x → Wrote b n (build (λ i. x) n) w (put_mid b (e - b) w ys)
+part_set b n e x w ys eb h y =
+    let k : length (mid_of b (e - b) w) ≡ n = mid_len b e w h ∙ omega arith in
+    let z : ys ≡ replicate n x = y ∙ ap (λ (m : ℕ). replicate m x) k in
+    let v : Wrote b n ys w (put_mid b (e - b) w ys) = part_wrote b n e w ys eb h (ap length z ∙ length-replicate n x) in
+    record { row' = v.row' ∙ z ∙ build_is (λ i. x) n (replicate n x) (length-replicate n x) (λ i l. get_or-replicate n i x nan l); only = v.only }
 
 -- ---- a row of Z', as far as its entry k
 abbrev pub MarkedTo : List ℕ → ℕ → ℕ → ℕ → ℕ → List Float → List Float → Type 0

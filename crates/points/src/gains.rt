@@ -3,14 +3,14 @@ ghost use Rattle.std.specs.Prelude.{◌≡◌, ◌+◌, ◌≤◌, length};
 ghost use Rattle.base.specs.Sum.{add_where, sum_where};
 ghost use Rattle.base.specs.List.{build};
 ghost use Rattle.base.specs.Rows.{row, Apart, Wrote};
-ghost use Rattle.base.specs.Sparse.{Rows};
-ghost use Rattle.stored.specs.Stored.{sparse};
 ghost use Rattle.working.specs.Optional.{Optional};
 ghost use Rattle.agq_rule.specs.Term.{delta_of};
 ghost use Rattle.points.specs.Gain.{marked, mark_at, one_at, mean_over, entered, MarkedIn};
+ghost use Rattle.stored.specs.Lent.{sparse_in, RowsIn};
 
 use family::{CarriedFamily, CarriedLink, dev_resid, link_inv};
 use family_lists::weight_at;
+use stored::Sparse;
 use working::plus_offset;
 
 // 1.0 into the row at mark: every observation enters.
@@ -18,42 +18,25 @@ pub fn mark_all(n: usize, mark: usize, r: &mut [f64])
     requires { mark + n ≤ length r.old }
     ensures { Wrote mark n (build one_at n) r.old r.new }
 {
-    let mut i = 0;
-    while i < n {
-        r[mark + i] = 1.0;
-        i += 1;
-    }
+    r[mark..mark + n].fill(1.0);
 }
 
 // 1.0 into the row at mark wherever row a of Z' stores an observation.
-fn mark_one(
-    starts: &[usize],
-    columns: &[usize],
-    values: &[f64],
-    rows: usize,
-    n: usize,
-    a: usize,
-    mark: usize,
-    r: &mut [f64],
-)
-    requires rows { Rows starts.now columns.now values.now rows n }
+fn mark_one(zt: &Sparse<'_>, rows: usize, n: usize, a: usize, mark: usize, r: &mut [f64])
+    requires rows { RowsIn zt.now rows n }
     requires a_bound { (a + 1 ≤ rows) × (mark + n ≤ length r.old) }
-    ensures { MarkedIn (sparse starts.now columns.now values.now) a mark n r.old r.new }
+    ensures { MarkedIn (sparse_in zt.now) a mark n r.old r.new }
 {
-    let end = starts[a + 1];
-    let mut k = starts[a];
-    while k < end {
-        let i = columns[k];
+    let end = zt.starts[a + 1];
+    for k in zt.starts[a]..end {
+        let i = zt.columns[k];
         r[mark + i] = 1.0;
-        k += 1;
     }
 }
 
 // 1.0 or 0.0 into the row at mark: whether one of the k rows of Z' from s on stores the observation.
 pub fn mark_group(
-    starts: &[usize],
-    columns: &[usize],
-    values: &[f64],
+    zt: &Sparse<'_>,
     rows: usize,
     n: usize,
     s: usize,
@@ -61,17 +44,13 @@ pub fn mark_group(
     mark: usize,
     r: &mut [f64],
 )
-    requires rows { Rows starts.now columns.now values.now rows n }
+    requires rows { RowsIn zt.now rows n }
     requires k_bound { (s + k ≤ rows) × (mark + n ≤ length r.old) }
-    ensures { Wrote mark n (build (mark_at (sparse starts.now columns.now values.now) s k) n) r.old r.new }
+    ensures { Wrote mark n (build (mark_at (sparse_in zt.now) s k) n) r.old r.new }
 {
-    let e = mark + n;
-    base::wipe(&mut r[mark..e], n);
-    let mut i = 0;
-    while i < k {
-        let a = s + i;
-        mark_one(starts, columns, values, rows, n, a, mark, r);
-        i += 1;
+    r[mark..mark + n].fill(0.0);
+    for i in 0..k {
+        mark_one(zt, rows, n, s + i, mark, r);
     }
 }
 
@@ -91,10 +70,10 @@ fn mean_over(
 {
     let effect = r[zb + i];
     if 0.0 < r[mark + i] {
-        let eta = plus_offset(offset, i, r[xbeta + i] + effect);
-        return link_inv(link, eta);
+        link_inv(link, plus_offset(offset, i, r[xbeta + i] + effect))
+    } else {
+        effect
     }
-    effect
 }
 
 // The means of the marked observations over their Zb, in its row; Xβ and the mark stand in rows of their own. Means and deviances are formed
@@ -117,11 +96,9 @@ pub fn point_means(
     ensures { Wrote zb n (build (mean_over link offset.now (row xbeta n r.old) (row zb n r.old) (row mark n r.old)) n)
         r.old r.new }
 {
-    let mut i = 0;
-    while i < n {
+    for i in 0..n {
         let mean = mean_over(link, offset, n, xbeta, zb, mark, r, i);
         r[zb + i] = mean;
-        i += 1;
     }
 }
 
@@ -144,11 +121,11 @@ fn add_gain(
         (entered family y.now weights.now (row means n r.now) (row devs n r.now) i) }
 {
     if 0.0 < r[mark + i] {
-        let wt = weight_at(weights, i);
-        let dev = dev_resid(family, y[i], r[means + i], wt);
-        return sum + (dev - r[devs + i]);
+        let dev = dev_resid(family, y[i], r[means + i], weight_at(weights, i));
+        sum + (dev - r[devs + i])
+    } else {
+        sum
     }
-    sum
 }
 
 // dd: the sum over the marked observations of the deviance at the point less that at the mode.
@@ -168,10 +145,8 @@ pub fn deviance_gain(
         (entered family y.now weights.now (row means n r.now) (row devs n r.now)) }
 {
     let mut sum = 0.0;
-    let mut i = 0;
-    while i < n {
+    for i in 0..n {
         sum = add_gain(family, y, weights, n, devs, means, mark, r, i, sum);
-        i += 1;
     }
     sum
 }

@@ -14,12 +14,10 @@ pub fn point_nodes(nodes: &[f64], size: usize, k: usize, point: usize, z: usize,
     ensures { Wrote z k (build (digit_entry nodes.now size point) k) m.old m.new }
 {
     let mut rest = point;
-    let mut j = 0;
-    while j < k {
+    for j in 0..k {
         let d = rest % size;
         m[z + j] = nodes[d];
         rest = rest / size;
-        j += 1;
     }
 }
 
@@ -28,10 +26,8 @@ pub fn log_weights(weights: &[f64], size: usize, logs: &mut [f64])
     requires { (size ≤ length weights.now) × (size ≤ length logs.old) }
     ensures { logs.new ≡ fill_to size (log_at weights.now) logs.old }
 {
-    let mut i = 0;
-    while i < size {
+    for i in 0..size {
         logs[i] = ln(weights[i]);
-        i += 1;
     }
 }
 
@@ -42,12 +38,10 @@ pub fn log_weight(logs: &[f64], size: usize, k: usize, point: usize) -> f64
 {
     let mut rest = point;
     let mut sum = 0.0;
-    let mut j = 0;
-    while j < k {
+    for j in 0..k {
         let d = rest % size;
         sum = sum + logs[d];
         rest = rest / size;
-        j += 1;
     }
     sum
 }

@@ -20,11 +20,9 @@ pub fn move_effects(k: usize, l: usize, z: usize, u: usize, trial: usize, m: &mu
 {
     let le = l + k * k;
     let ze = z + k;
-    let mut i = 0;
-    while i < k {
+    for i in 0..k {
         let by = spread_at(&m[l..le], k, &m[z..ze], i);
         m[trial + i] = m[u + i] + by;
-        i += 1;
     }
 }
 
@@ -36,13 +34,11 @@ pub fn lambda_within(shape: Shape, theta: &[f64], q: usize, u: usize, b: usize, 
 {
     let e = b + q;
     base::wipe(&mut m[b..e], q);
-    let mut j = 0;
-    while j < q {
+    for j in 0..q {
         let c = column_of(shape, j);
         let x = m[u + j];
         let at = b + j;
         add_column(theta, c.first, c.count, x, at, m);
-        j += 1;
     }
 }
 
@@ -52,10 +48,8 @@ pub fn group_penalty(t: &[f64], u: &[f64], k: usize) -> f64
     ensures { result ≡ sum_to k (penalty_at t.now u.now) }
 {
     let mut sum = 0.0;
-    let mut i = 0;
-    while i < k {
+    for i in 0..k {
         sum = sum + (t[i] * t[i] - u[i] * u[i]);
-        i += 1;
     }
     sum
 }

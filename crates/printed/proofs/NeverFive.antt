@@ -1,4 +1,6 @@
 -- "refused 5" is printed of no job: neither the reader nor the table has that number. Document 02, P8. Assumes nothing.
+use Prim.{tt}
+use Rattle.std.specs.Prelude.{Ok, Err, Result}
 use mathlib.Core.Path.{◌≡◌, refl, sym, ap, ◌∙◌}
 use mathlib.Core.List.{List}
 use Prim.Native.Nat.{ℕ}
@@ -11,12 +13,8 @@ use Rattle.model.specs.declared.ends.Refusal.TheVariants.{OutOfRange, Responses,
 use Rattle.family.specs.declared.carried.CarriedFamily.{CarriedFamily}
 use Rattle.family.specs.declared.carried.CarriedLink.{CarriedLink}
 use Rattle.results.specs.Nine.{Results}
-use Rattle.table.specs.declared.verdicts.Verdict.{Verdict}
-use Rattle.table.specs.declared.verdicts.Verdict.TheVariants.{Accepted, Refused}
-use Rattle.dispersion.specs.Rounds.{Result, result, no_result, Dispersed}
-use Rattle.job.specs.declared.faults.Fault.{Fault}
-use Rattle.job.specs.declared.faults.Fault.TheVariants.{Sound, At}
-use Rattle.job.specs.Faults.{fault_of}
+use Rattle.dispersion.specs.Rounds.{Result as FitResult, result, no_result, Dispersed}
+use Rattle.job.specs.Faults.{Checked, fault_of}
 use Rattle.job.proofs.FaultNumbers.{Numbered, fault_numbers}
 use Rattle.lines.specs.Decimals.{decimals, trimmed, decimal_of}
 use Rattle.lines.specs.Lines.{pair_text, pairs_text, line_of, end_pairs, end_line, refused_line}
@@ -75,17 +73,17 @@ no_end text b first e = let same = sym first ∙ ap (λ l. l !! 0) e ∙ five_fi
 
 -- ---- every job, by the reader, the table and the fit
 module _ (s : List ℕ) (b : ℕ) (printed : output_of s ≡ refused_line 5 b) where
-  by_fit : (f : CarriedFamily) (l : CarriedLink) → fault_of s ≡ Sound → verdict_on s ≡ Accepted f l → (x : Result (Dispersed Fitted)) → (fit_for f l s).outcome ≡ x → ⊥
+  by_fit : (f : CarriedFamily) (l : CarriedLink) → fault_of s ≡ Ok tt → verdict_on s ≡ Ok (f, l) → (x : FitResult (Dispersed Fitted)) → (fit_for f l s).outcome ≡ x → ⊥
   by_fit f l e v (no_result end) h = let told = unfitted_printed s f l e v end h in no_end _ b (end_first _) (sym told ∙ printed)
   by_fit f l e v (result d) h = let told = fitted_printed s f l e v d h in no_end _ b (fitted_first _ _) (sym told ∙ printed)
 
-  by_verdict : fault_of s ≡ Sound → (v : Verdict) → verdict_on s ≡ v → ⊥
-  by_verdict e (Refused r) v = refusal_other r 0 b (sym (table_refused s r e v) ∙ printed)
-  by_verdict e (Accepted f l) v = by_fit f l e v (fit_for f l s).outcome refl
+  by_verdict : fault_of s ≡ Ok tt → (v : Result (CarriedFamily × CarriedLink) Refusal) → verdict_on s ≡ v → ⊥
+  by_verdict e (Err r) v = refusal_other r 0 b (sym (table_refused s r e v) ∙ printed)
+  by_verdict e (Ok (f, l)) v = by_fit f l e v (fit_for f l s).outcome refl
 
-  by_fault : (x : Fault) → fault_of s ≡ x → ⊥
-  by_fault Sound e = by_verdict e (verdict_on s) refl
-  by_fault (At r c) e = (rw e at (fault_other s)) c b (sym (job_refused s r c e) ∙ printed)
+  by_fault : (x : Checked) → fault_of s ≡ x → ⊥
+  by_fault (Ok t) e = by_verdict e (verdict_on s) refl
+  by_fault (Err x) e = (rw e at (fault_other s)) x.byte b (sym (job_refused s x.number x.byte e) ∙ printed)
 
 -- whatever byte would stand behind it
 pub five_never_printed : (s : List ℕ) (b : ℕ) → output_of s ≡ refused_line 5 b → ⊥

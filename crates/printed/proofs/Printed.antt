@@ -1,4 +1,6 @@
 -- What the program prints for a job, case by case: a refusal with its byte, the table's at byte 0, an end line alone, or an end line with the values. Assumes nothing.
+use Prim.{tt}
+use Rattle.std.specs.Prelude.{Ok, Err}
 use mathlib.Core.Path.{◌≡◌, refl, ap, ◌∙◌}
 use mathlib.Core.List.{List}
 use Prim.Native.Nat.{ℕ}
@@ -13,10 +15,8 @@ use Rattle.model.specs.declared.ends.Refusal.TheVariants.{OutOfRange, Responses,
 use Rattle.family.specs.declared.carried.CarriedFamily.{CarriedFamily}
 use Rattle.family.specs.declared.carried.CarriedLink.{CarriedLink}
 use Rattle.results.specs.Nine.{Results, results_of}
-use Rattle.table.specs.declared.verdicts.Verdict.TheVariants.{Accepted, Refused}
 use Rattle.dispersion.specs.Rounds.{result, no_result, Dispersed}
-use Rattle.job.specs.declared.faults.Fault.TheVariants.{Sound, At}
-use Rattle.job.specs.Faults.{fault_of}
+use Rattle.job.specs.Faults.{fault, fault_of}
 use Rattle.job.specs.Job.{job_of, read_by, read_of}
 use Rattle.lines.specs.Lines.{end_line, refused_line}
 use Rattle.call.specs.Fit.{Fitted, answer_of}
@@ -28,12 +28,12 @@ use Rattle.output.specs.Output.{slices_for, call_for, left_text, output_by, outp
 use Rattle.printed.specs.Asked.{verdict_on, given_by, fit_for}
 
 -- ---- a job that cannot be read
-pub job_refused : (s : List ℕ) (r b : ℕ) → fault_of s ≡ At r b → output_of s ≡ refused_line r b
+pub job_refused : (s : List ℕ) (r b : ℕ) → fault_of s ≡ Err (fault r b) → output_of s ≡ refused_line r b
 unfolding output_of output_by read_of read_by
 job_refused s r b e = rw e
 
 -- ---- a sound job
-sound_called : (s : List ℕ) → fault_of s ≡ Sound → output_of s ≡ left_text (call_for (job_of s))
+sound_called : (s : List ℕ) → fault_of s ≡ Ok tt → output_of s ≡ left_text (call_for (job_of s))
 unfolding output_of output_by read_of read_by
 sound_called s e = rw e
 
@@ -50,7 +50,7 @@ refused_text ResponseRange R = refl
 refused_text StartFit R = refl
 
 -- what the table refuses is told at byte 0
-pub table_refused : (s : List ℕ) (r : Refusal) → fault_of s ≡ Sound → verdict_on s ≡ Refused r → output_of s ≡ refused_line (refusal_number r) 0
+pub table_refused : (s : List ℕ) (r : Refusal) → fault_of s ≡ Ok tt → verdict_on s ≡ Err r → output_of s ≡ refused_line (refusal_number r) 0
 table_refused s r e v =
     sound_called s e
     ∙ ap left_text (refused_left (job_of s).settings (job_of s).shape (inputs_of (job_of s)) (slices_for (job_of s).settings) r v)
@@ -63,7 +63,7 @@ unfitted_text NormalPivot a R h = rw h
 unfitted_text NoStep a R h = rw h
 unfitted_text NoStop a R h = rw h
 
-module _ (s : List ℕ) (f : CarriedFamily) (l : CarriedLink) (e : fault_of s ≡ Sound) (v : verdict_on s ≡ Accepted f l) where
+module _ (s : List ℕ) (f : CarriedFamily) (l : CarriedLink) (e : fault_of s ≡ Ok tt) (v : verdict_on s ≡ Ok (f, l)) where
   -- ends 10 to 13 have their line alone, with the tally of what was done
   pub unfitted_printed : (end : End) → (fit_for f l s).outcome ≡ no_result end → output_of s ≡ end_line (unfitted_answer end (tally (fit_for f l s).items))
   unfolding unfitted_answer

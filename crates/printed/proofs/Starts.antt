@@ -1,4 +1,6 @@
 -- A job that asks for trial counts, with weights absent or all 1, is printed as the job of version 1 with the same numbers, bit for bit. Document 02, P10. Assumes nothing.
+use Prim.{tt}
+use Rattle.std.specs.Prelude.{Ok}
 use mathlib.Core.Path.{◌≡◌, refl, sym, ap, ◌∙◌}
 use mathlib.Core.List.{List}
 use Prim.Native.Nat.{ℕ, ◌≤◌, ◌<◌}
@@ -9,8 +11,6 @@ use Rattle.model.specs.declared.names.Start.TheVariants.{Usual, Trials}
 use Rattle.family.specs.declared.carried.CarriedFamily.TheVariants.{Binomial}
 use Rattle.family.specs.declared.carried.CarriedLink.{CarriedLink}
 use Rattle.family_lists.specs.Lists.{weight_at}
-use Rattle.table.specs.declared.verdicts.Verdict.TheVariants.{Accepted}
-use Rattle.job.specs.declared.faults.Fault.TheVariants.{Sound}
 use Rattle.job.specs.Faults.{is_sound, fault_of}
 use Rattle.job.specs.Job.{Job, job_of, read_by, read_of}
 use Rattle.job.specs.Write.{Version, version1, version2, version_of, head_length, job_bytes}
@@ -56,7 +56,7 @@ usual_sayable v j q =
       short = omega (arith, q.short, six v, job_length version1 (started_job Usual j), job_length v j);
     }
 
-module _ (s : List ℕ) (l : CarriedLink) (e : fault_of s ≡ Sound) (trials : (job_of s).settings.start ≡ Trials) (v : verdict_on s ≡ Accepted Binomial l)
+module _ (s : List ℕ) (l : CarriedLink) (e : fault_of s ≡ Ok tt) (trials : (job_of s).settings.start ≡ Trials) (v : verdict_on s ≡ Ok (Binomial, l))
     (ones : (i : ℕ) → i < (job_of s).settings.n → weight_at (job_of s).weights i ≡ one_f) where
   sayable : Sayable (version_of s) (job_of s)
   unfolding is_sound

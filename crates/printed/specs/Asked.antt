@@ -1,11 +1,12 @@
 -- The call that a sound job asks for: the table's verdict on it, and its fit. Assumes nothing.
+use Rattle.model.specs.declared.ends.Refusal.{Refusal}
+use Rattle.std.specs.Prelude.{Result}
 use Rattle.std.specs.Prelude.{List, ℕ}
 use Rattle.family.specs.declared.carried.CarriedFamily.{CarriedFamily}
 use Rattle.family.specs.declared.carried.CarriedLink.{CarriedLink}
 use Rattle.model.specs.Names.{limit_of}
 use Rattle.rule.specs.Given.{Given}
 use Rattle.table.specs.Table.{table_of}
-use Rattle.table.specs.declared.verdicts.Verdict.{Verdict}
 use Rattle.dispersion.specs.Rounds.{Total, Dispersed}
 use Rattle.job.specs.Job.{job_of}
 use Rattle.call.specs.Fit.{Fitted, fit_of}
@@ -14,7 +15,7 @@ use Rattle.jobfit.specs.Done.{inputs_of}
 use Rattle.output.specs.Output.{slices_for}
 
 -- what the table says of a job's call
-abbrev pub verdict_on : List ℕ → Verdict
+abbrev pub verdict_on : List ℕ → Result (CarriedFamily × CarriedLink) Refusal
 verdict_on s = table_of 1 (job_of s).settings (job_of s).shape (inputs_of (job_of s)) (lengths_of (slices_for (job_of s).settings))
 
 -- what its inner fits are given

@@ -7,7 +7,7 @@ mod rules;
 
 pub use logsum::log_sum_exp;
 pub use orders::{
-    Choice, Decline, Named, Order, decline_number, order_of, order_size, resolve_gh_order,
-    resolve_gh_order_joint, resolve_gh_order_product,
+    Decline, Order, decline_number, order_of, order_size, resolve_gh_order, resolve_gh_order_joint,
+    resolve_gh_order_product,
 };
 pub use rules::{Rule, gh_rule};

@@ -8,10 +8,8 @@ fn largest(xs: &[f64]) -> f64
     ensures { result ≡ max_to (length xs.now) xs.now }
 {
     let mut m = -base::infinity();
-    let mut i = 0;
-    while i < xs.len() {
-        m = base::max(m, xs[i]);
-        i += 1;
+    for x in xs {
+        m = base::max(m, *x);
     }
     m
 }
@@ -21,10 +19,8 @@ fn exp_sum(xs: &[f64], m: f64) -> f64
     ensures { result ≡ sum_to (length xs.now) (exp_term xs.now m) }
 {
     let mut sum = 0.0;
-    let mut i = 0;
-    while i < xs.len() {
-        sum = sum + elementary::exp(xs[i] - m);
-        i += 1;
+    for x in xs {
+        sum += elementary::exp(*x - m);
     }
     sum
 }
@@ -35,7 +31,8 @@ pub fn log_sum_exp(xs: &[f64]) -> f64
 {
     let m = largest(xs);
     if base::is_finite(m) {
-        return m + elementary::ln(exp_sum(xs, m));
+        m + elementary::ln(exp_sum(xs, m))
+    } else {
+        -base::infinity()
     }
-    -base::infinity()
 }

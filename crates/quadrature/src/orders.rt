@@ -3,7 +3,7 @@ ghost use Rattle.std.specs.Prelude.{◌≡◌, ◌≤◌};
 ghost use Rattle.quadrature.specs.Orders.{size_of, decline_number, order_of, wished, within_cap, next_lower, capped_from, product_order, joint_order};
 
 // The orders that have a rule.
-#[derive(Clone, Copy)]
+#[derive(Clone, Copy, Debug, PartialEq, Eq)]
 pub enum Order {
     Three,
     Five,
@@ -15,7 +15,7 @@ pub enum Order {
 // Why a quadrature declines, in the order in which the places are met: the wish is below 2; the effects
 // are none or too many for the joint rule; the cap left no order; then, in the step itself, a diagonal
 // entry, a pivot of the inverse, a pivot of its factor, a log sum.
-#[derive(Clone, Copy)]
+#[derive(Clone, Copy, Debug, PartialEq, Eq)]
 pub enum Decline {
     Wish,
     Effects,
@@ -26,28 +26,8 @@ pub enum Decline {
     Sum,
 }
 
-// An order, or why there is none.
-#[derive(Clone, Copy)]
-pub enum Choice {
-    Use(Order),
-    Without(Decline),
-}
-
-// What a number names: an order, or nothing that has a rule.
-#[derive(Clone, Copy)]
-pub enum Named {
-    Known(Order),
-    NoRule,
-}
-
-// One order below another, or nothing below the lowest.
-#[derive(Clone, Copy)]
-pub enum Lower {
-    To(Order),
-    Nothing,
-}
-
 // How many nodes the rule has.
+#[tactic(auto, unfolding(crate::specs::Orders::size_of))]
 pub fn order_size(order: Order) -> usize
     ensures { result ≡ size_of order }
 {
@@ -76,47 +56,33 @@ pub fn decline_number(decline: Decline) -> usize
 }
 
 // The order of this number of nodes.
-pub fn order_of(number: usize) -> Named
+#[tactic(auto, unfolding(crate::specs::Orders::order_of))]
+pub fn order_of(number: usize) -> Option<Order>
     ensures { result ≡ order_of number }
 {
-    if number == 3 {
-        return Named::Known(Order::Three);
+    match number {
+        3 => Some(Order::Three),
+        5 => Some(Order::Five),
+        7 => Some(Order::Seven),
+        9 => Some(Order::Nine),
+        11 => Some(Order::Eleven),
+        _ => None,
     }
-    if number == 5 {
-        return Named::Known(Order::Five);
-    }
-    if number == 7 {
-        return Named::Known(Order::Seven);
-    }
-    if number == 9 {
-        return Named::Known(Order::Nine);
-    }
-    if number == 11 {
-        return Named::Known(Order::Eleven);
-    }
-    Named::NoRule
 }
 
 // The first order not below the wish; above 11 it is 11, below 2 there is none.
-pub fn resolve_gh_order(wish: usize) -> Choice
+#[tactic(auto, unfolding(crate::specs::Orders::wished, crate::specs::Orders::first_order))]
+pub fn resolve_gh_order(wish: usize) -> Result<Order, Decline>
     ensures { result ≡ wished wish }
 {
-    if wish < 2 {
-        return Choice::Without(Decline::Wish);
+    match wish {
+        0..=1 => Err(Decline::Wish),
+        2..=3 => Ok(Order::Three),
+        4..=5 => Ok(Order::Five),
+        6..=7 => Ok(Order::Seven),
+        8..=9 => Ok(Order::Nine),
+        _ => Ok(Order::Eleven),
     }
-    if wish <= 3 {
-        return Choice::Use(Order::Three);
-    }
-    if wish <= 5 {
-        return Choice::Use(Order::Five);
-    }
-    if wish <= 7 {
-        return Choice::Use(Order::Seven);
-    }
-    if wish <= 9 {
-        return Choice::Use(Order::Nine);
-    }
-    Choice::Use(Order::Eleven)
 }
 
 // Whether size^dims is at most the cap. The power is never formed past the cap, so it ends after a few
@@ -125,84 +91,64 @@ fn within_cap(size: usize, dims: usize, cap: usize) -> bool
     requires { (3 ≤ size) × (size ≤ 11) × (cap ≤ 7000) }
     ensures { result ≡ within_cap size dims cap }
 {
-    let mut power: usize = 1;
-    let mut i = 0;
-    while i < dims {
+    let mut power = 1;
+    for _turn in 0..dims {
         if cap < power {
             return false;
         }
-        power = power * size;
-        i += 1;
+        power *= size;
     }
     power <= cap
 }
 
 // The next order down, if there is one.
-fn next_lower(order: Order) -> Lower
+#[tactic(auto, unfolding(crate::specs::Orders::next_lower))]
+fn next_lower(order: Order) -> Option<Order>
     ensures { result ≡ next_lower order }
 {
     match order {
-        Order::Three => Lower::Nothing,
-        Order::Five => Lower::To(Order::Three),
-        Order::Seven => Lower::To(Order::Five),
-        Order::Nine => Lower::To(Order::Seven),
-        Order::Eleven => Lower::To(Order::Nine),
+        Order::Three => None,
+        Order::Five => Some(Order::Three),
+        Order::Seven => Some(Order::Five),
+        Order::Nine => Some(Order::Seven),
+        Order::Eleven => Some(Order::Nine),
     }
 }
 
 // The first order from this one down with order^dims at most the cap.
-fn capped(order: Order, dims: usize, cap: usize) -> Choice
+fn capped(order: Order, dims: usize, cap: usize) -> Result<Order, Decline>
     requires { cap ≤ 7000 }
     ensures { result ≡ capped_from cap dims order }
 {
     let mut at = order;
-    loop {
-        let size = order_size(at);
-        if within_cap(size, dims, cap) {
-            return Choice::Use(at);
-        }
-        match next_lower(at) {
-            Lower::To(next) => {
-                at = next;
-            }
-            Lower::Nothing => {
-                return Choice::Without(Decline::Cap);
-            }
-        }
+    // Down from order to order, not along an index.
+    while !within_cap(order_size(at), dims, cap) {
+        at = next_lower(at).ok_or(Decline::Cap)?;
     }
+    Ok(at)
 }
 
 // One block of k effects a group: k = 1 keeps the order, else order^k is at most 400.
-pub fn resolve_gh_order_product(wish: usize, k: usize) -> Choice
+#[tactic(auto, unfolding(crate::specs::Orders::product_order, crate::specs::Orders::product_capped))]
+pub fn resolve_gh_order_product(wish: usize, k: usize) -> Result<Order, Decline>
     ensures { result ≡ product_order wish k }
 {
-    let base = resolve_gh_order(wish);
-    match base {
-        Choice::Without(d) => Choice::Without(d),
-        Choice::Use(order) => {
-            if k == 1 {
-                return Choice::Use(order);
-            }
-            capped(order, k, 400)
-        }
+    let order = resolve_gh_order(wish)?;
+    if k == 1 {
+        Ok(order)
+    } else {
+        capped(order, k, 400)
     }
 }
 
 // All q effects at once: none for no effect or more than 8, else order^q is at most 7,000.
-pub fn resolve_gh_order_joint(wish: usize, q: usize) -> Choice
+#[tactic(auto, unfolding(crate::specs::Orders::joint_order, crate::specs::Orders::joint_capped))]
+pub fn resolve_gh_order_joint(wish: usize, q: usize) -> Result<Order, Decline>
     ensures { result ≡ joint_order wish q }
 {
-    let base = resolve_gh_order(wish);
-    match base {
-        Choice::Without(d) => Choice::Without(d),
-        Choice::Use(order) => {
-            if q == 0 {
-                return Choice::Without(Decline::Effects);
-            }
-            if 8 < q {
-                return Choice::Without(Decline::Effects);
-            }
-            capped(order, q, 7000)
-        }
+    let order = resolve_gh_order(wish)?;
+    if q == 0 || 8 < q {
+        return Err(Decline::Effects);
     }
+    capped(order, q, 7000)
 }

@@ -153,6 +153,7 @@ pub struct Rule {
 }
 
 // The rule of an order.
+#[tactic(auto, unfolding(crate::specs::Rules::rule_of, crate::specs::Rules::nodes_of, crate::specs::Rules::weights_of, crate::specs::Rules::padded, crate::specs::Orders::size_of))]
 pub fn gh_rule(order: Order) -> Rule
     ensures { result ≡ rule_of order }
 {

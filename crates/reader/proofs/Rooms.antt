@@ -1,5 +1,7 @@
 -- The room of the lent lists as facts, and reading put together: what is refused leaves them as they were, a sound job is filled in. Assumes nothing.
-use mathlib.Core.Path.{◌≡◌, sym, ◌∙◌}
+use Prim.{tt}
+use Rattle.std.specs.Prelude.{Result, Ok, Err}
+use mathlib.Core.Path.{◌≡◌, sym, ap, ◌∙◌}
 use mathlib.Core.Bool.{true, false}
 use mathlib.Core.List.{List}
 use Prim.Native.Nat.{ℕ, ◌+◌, ◌*◌, ◌≤◌}
@@ -11,18 +13,16 @@ use Rattle.base.specs.List.{build}
 use Rattle.model.proofs.Tests.{both}
 use Rattle.model.specs.declared.sizes.Shape.{Shape}
 use Rattle.job.specs.declared.faults.Fault.{Fault}
-use Rattle.job.specs.declared.faults.Fault.TheVariants.{Sound, At}
 use Rattle.job.specs.Lists.{counts, join_to, laid}
 use Rattle.job.specs.Format.{weighted, shifted, obs, cols, rows_in, thetas, theta_at, y_at, weights_at, offset_at, x_at, number, start_of, shape_of}
-use Rattle.job.specs.Faults.{demand, ◌▹◌, is_sound, fault_of}
+use Rattle.job.specs.Faults.{fault, Checked, demand, first, is_sound, fault_of}
 use Rattle.job.specs.declared.survey.Survey.{Survey}
 use Rattle.job.specs.Survey.{survey_of, read_off}
-use Rattle.job.proofs.SurveyLaws.{survey_fault, survey_sound}
+use Rattle.job.proofs.SurveyLaws.{fault_in, survey_fault, survey_sound}
 use Rattle.job.specs.Job.{columns_of, values_of, sparse_of, job_of}
 use Rattle.reader.specs.declared.whole.Header.{Header}
 use Rattle.reader.specs.declared.whole.Found.{Found}
-use Rattle.reader.specs.declared.whole.Reading.TheVariants.{Accepted}
-use Rattle.reader.specs.Reading.{roomy, read_fault, header_of, refused_at, found_by, filled, left_by, ReadDone}
+use Rattle.reader.specs.Reading.{roomy, read_fault, header_of, found_by, filled, left_by, ReadDone}
 use Rattle.model.specs.Inputs.{Inputs, inputs}
 
 -- the lent lists hold any job
@@ -72,29 +72,34 @@ unfolding filled job_of sparse_of
 filled_is s b theta y weights offset x starts columns values t u w o c r k v = rw (t, u, w, o, c, r, k, v)
 
 -- ---- the fault of reading
-pub no_room : (s : List ℕ) (b : Inputs) → roomy b ≡ false → read_fault s b ≡ At 2 0
-unfolding read_fault demand ◌▹◌
+pub no_room : (s : List ℕ) (b : Inputs) → roomy b ≡ false → read_fault s b ≡ Err (fault 2 0)
+unfolding read_fault demand first
 no_room s b e = rw e
 
 pub with_room : (s : List ℕ) (b : Inputs) → roomy b ≡ true → read_fault s b ≡ fault_of s
-unfolding read_fault demand ◌▹◌
+unfolding read_fault demand first
 with_room s b e = rw e
 
-pub sound_is : (f : Fault) → f ≡ Sound → is_sound f ≡ true
+pub sound_is : (f : Checked) → f ≡ Ok tt → is_sound f ≡ true
 unfolding is_sound
 sound_is f e = rw e
 
 -- what was found of a sound job
-pub surveyed : (s : List ℕ) (v : Survey) → v ≡ survey_of s → v.fault ≡ Sound → (fault_of s ≡ Sound) × (v ≡ read_off (fault_of s) s)
-surveyed s v e h =
-    let f : fault_of s ≡ Sound = sym (survey_fault s v e) ∙ h in
-    (f, survey_sound s v e (sound_is (fault_of s) f))
+pub surveyed : (s : List ℕ) (r : Result Survey Fault) (v : Survey) → r ≡ survey_of s → r ≡ Ok v → (is_sound (fault_of s) ≡ true) × (v ≡ read_off s)
+surveyed s r v e h =
+    let k = sound_is (fault_of s) (sym (survey_fault s r e) ∙ ap fault_in h) in
+    let f : r ≡ Ok (read_off s) = survey_sound s r e k in
+    (k, cc)
 
-pub refuses : (s : List ℕ) (b : Inputs) (r c : ℕ) (f : Found) → f ≡ refused_at r c → read_fault s b ≡ At r c → ReadDone s b f b
+-- the fault of a job for which there is room
+pub surveyed_at : (s : List ℕ) (b : Inputs) (r : Result Survey Fault) (f : Checked) → roomy b ≡ true → r ≡ survey_of s → fault_in r ≡ f → read_fault s b ≡ f
+surveyed_at s b r f k e h = with_room s b k ∙ (sym (survey_fault s r e) ∙ h)
+
+pub refuses : (s : List ℕ) (b : Inputs) (e : Fault) (f : Result Found Fault) → f ≡ Err e → read_fault s b ≡ Err e → ReadDone s b f b
 unfolding found_by left_by
-refuses s b r c f g e = record { says = rw e g; leaves = rw e }
+refuses s b e f g h = record { says = rw h g; leaves = rw h }
 
-pub accepts : (s : List ℕ) (b a : Inputs) (h : Header) (k : Shape) → read_fault s b ≡ Sound → h ≡ header_of (job_of s) → k ≡ shape_of s → a ≡ filled (job_of s) b
-    → ReadDone s b (record { reading = Accepted h; shape = k }) a
+pub accepts : (s : List ℕ) (b a : Inputs) (h : Header) (k : Shape) → read_fault s b ≡ Ok tt → h ≡ header_of (job_of s) → k ≡ shape_of s → a ≡ filled (job_of s) b
+    → ReadDone s b (Ok (record { header = h; shape = k })) a
 unfolding found_by left_by job_of
 accepts s b a h k e g d l = record { says = rw (e, g, d); leaves = rw e l }

@@ -24,8 +24,8 @@ row_fits s r q at e l w h i j =
     rw (i, j) (omega arith, omega arith)
 
 -- the next row's place, and the entries before it
-pub at_step : (s : List ℕ) (r at n : ℕ) → at ≡ row_at s r → n ≡ short s at → at + 2 + 10 * n ≡ row_at s (r + 1)
-at_step s r at n h i = rw (i, h) (sym (row_next s r))
+pub at_step : (s : List ℕ) (r at n : ℕ) → at ≡ row_at s r → n ≡ short s at → at + (2 + 10 * n) ≡ row_at s (r + 1)
+at_step s r at n h i = rw (i, h) (omega (arith, row_next s r))
 
 pub e_step : (s : List ℕ) (r at n e : ℕ) → at ≡ row_at s r → n ≡ short s at → e ≡ start_of s r → e + n ≡ start_of s (r + 1)
 e_step s r at n e h i j = rw (i, h, j) (sym (start_next s r))

@@ -4,4 +4,4 @@
 mod lists;
 mod whole;
 
-pub use whole::{Found, Header, Reading, read_job};
+pub use whole::{Found, Header, read_job};

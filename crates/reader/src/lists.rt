@@ -10,11 +10,8 @@ pub fn read_numbers(s: &[u8], a: usize, n: usize, out: &mut [f64])
     requires { (length s.now ≤ 65536) × (a + 8 * n ≤ length s.now) × (n ≤ length out.old) }
     ensures { out.new ≡ laid (build (number s.now a) n) out.old }
 {
-    let mut i = 0;
-    while i < n {
-        let v = bits::double_at(s, a + 8 * i);
-        out[i] = v;
-        i += 1;
+    for i in 0..n {
+        out[i] = bits::double_at(s, a + 8 * i);
     }
 }
 
@@ -24,14 +21,10 @@ fn read_row(s: &[u8], p: usize, n: usize, e: usize, columns: &mut [usize], value
     ensures { (columns.new ≡ laid (take e columns.old ++ counts (column_read s.now p) n) columns.old)
         × (values.new ≡ laid (take e values.old ++ build (value_read s.now p) n) values.old) }
 {
-    let mut j = 0;
-    while j < n {
+    for j in 0..n {
         let at = p + 2 + 10 * j;
-        let c = bits::field_at(s, 8 * at, 13);
-        columns[e + j] = c;
-        let v = bits::double_at(s, at + 2);
-        values[e + j] = v;
-        j += 1;
+        columns[e + j] = bits::field_at(s, 8 * at, 13);
+        values[e + j] = bits::double_at(s, at + 2);
     }
 }
 
@@ -53,14 +46,12 @@ pub fn read_rows(
 {
     let mut at = z;
     let mut e = 0;
-    let mut r = 0;
-    while r < q {
+    for r in 0..q {
         starts[r] = e;
         let n = bits::field_at(s, 8 * at, 13);
         read_row(s, at, n, e, columns, values);
         e += n;
-        at = at + 2 + 10 * n;
-        r += 1;
+        at += 2 + 10 * n;
     }
     starts[q] = e;
     e

@@ -6,6 +6,7 @@ ghost use Rattle.lines.specs.Lines.{value_line, Written};
 ghost use Rattle.results.specs.Nine.{nine};
 ghost use Rattle.report.specs.Report.{value_lines, fixed_lines, effect_lines, row_lines, result_lines, fitted_text, answer_text, Few, results_most, out_room, Grown};
 
+use job::Fault;
 use model::Answer;
 
 // One line of a value, behind the first `at` bytes.
@@ -24,11 +25,9 @@ fn put_values(out: &mut [u8], at: usize, name: &[u8], xs: &[f64]) -> usize
     ensures { Grown (value_lines name.now xs.now) (64 * length xs.now) at out.old result out.new }
 {
     let mut here = at;
-    let mut i = 0;
-    while i < xs.len() {
+    for i in 0..xs.len() {
         let x = xs[i];
         here = put_value(out, here, name, i, x);
-        i += 1;
     }
     here
 }
@@ -141,5 +140,11 @@ pub fn put_answer(
     if model::is_end(number) {
         return lines::end_line(out, answer);
     }
-    lines::refused_line(out, number as u64, 0)
+    lines::refused_line(
+        out,
+        Fault {
+            number: number as u64,
+            byte: 0,
+        },
+    )
 }

@@ -2,36 +2,30 @@
 ghost use Rattle.std.specs.Prelude.{◌≡◌, true, ◌≤◌, length};
 ghost use Rattle.job.specs.Job.{read_of};
 ghost use Rattle.reader.specs.Reading.{roomy};
-ghost use Rattle.model.specs.Inputs.{inputs};
+ghost use Rattle.model.specs.Inputs.{inputs, inputs_in};
 ghost use Rattle.call.specs.Call.{call_of};
 ghost use Rattle.report.specs.Report.{out_room};
 ghost use Rattle.jobfit.specs.Room.{Fronts, fronts_of};
 ghost use Rattle.output.specs.Output.{slices_with, response, left_response, response_by, respond_of, RespondLong};
 
 use crate::flat::put_flat;
-use model::Shape;
-use reader::{Header, Reading};
+use job::Fault;
+use model::{Inputs, Shape};
+use reader::Header;
 
 // The fit of a job that has been read, over the lent terms and arrays of its own, and its report. The array of the results has room for the largest sizes.
 fn answer_read(
     header: Header,
     shape: Shape,
-    theta: &[f64],
-    y: &[f64],
-    weights: &[f64],
-    offset: &[f64],
-    x: &[f64],
-    starts: &[usize],
-    columns: &[usize],
-    values: &[f64],
+    lists: &Inputs<'_>,
     terms: &mut [f64],
     out: &mut [u8],
 ) -> usize
     requires { (out_room ≤ length out.old)
-        × Fronts header (inputs theta.now y.now weights.now offset.now x.now starts.now columns.now values.now) }
+        × Fronts header (inputs_in lists.now) }
     ensures { response result terms.new out.new ≡ left_response
         (call_of header.settings shape
-        (fronts_of header (inputs theta.now y.now weights.now offset.now x.now starts.now columns.now values.now))
+        (fronts_of header (inputs_in lists.now))
         (slices_with terms.old header.settings))
         out.old }
 {
@@ -42,14 +36,7 @@ fn answer_read(
     let answer = jobfit::fit_fronts(
         header,
         shape,
-        theta,
-        y,
-        weights,
-        offset,
-        x,
-        starts,
-        columns,
-        values,
+        lists,
         &mut rows,
         &mut matrices,
         terms,
@@ -77,24 +64,24 @@ fn respond_with(
     ensures { response result terms.new out.new
         ≡ response_by (read_of job.now) terms.old out.old }
 {
-    let found = reader::read_job(job, theta, y, weights, offset, x, starts, columns, values);
-    let shape = found.shape;
-    let reading = found.reading;
-    match reading {
-        Reading::Refused(number, byte) => lines::refused_line(out, number, byte),
-        Reading::Accepted(header) => {
+    match reader::read_job(job, theta, y, weights, offset, x, starts, columns, values) {
+        Err(fault) => lines::refused_line(out, fault),
+        Ok(found) => {
+            let header = found.header;
             let thetas = header.thetas;
             answer_read(
                 header,
-                shape,
-                &theta[0..thetas],
-                y,
-                weights,
-                offset,
-                x,
-                starts,
-                columns,
-                values,
+                found.shape,
+                &Inputs {
+                    theta: &theta[0..thetas],
+                    y,
+                    weights,
+                    offset,
+                    x,
+                    starts,
+                    columns,
+                    values,
+                },
                 terms,
                 out,
             )
@@ -140,5 +127,11 @@ pub fn respond_long(out: &mut [u8]) -> usize
     if out.len() < 131072 {
         return 0;
     }
-    lines::refused_line(out, 25, 65536)
+    lines::refused_line(
+        out,
+        Fault {
+            number: 25,
+            byte: 65536,
+        },
+    )
 }

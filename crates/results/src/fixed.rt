@@ -12,10 +12,8 @@ fn v_row(columns: &[f64], p: usize, a: usize, out: &mut [f64])
     ensures { out.new ≡ fill_at (a * p) p (v_at p columns.now a) out.old }
 {
     let o = base::offset(a, p, p);
-    let mut b = 0;
-    while b < p {
+    for b in 0..p {
         out[o + b] = factor::v_at(columns, p, a, b);
-        b += 1;
     }
 }
 
@@ -24,10 +22,8 @@ pub fn v_rows(columns: &[f64], p: usize, out: &mut [f64])
     requires { (p * p ≤ length columns.now) × (p * p ≤ length out.old) }
     ensures { out.new ≡ grid_to p p (v_at p columns.now) out.old }
 {
-    let mut a = 0;
-    while a < p {
+    for a in 0..p {
         v_row(columns, p, a, out);
-        a += 1;
     }
 }
 
@@ -36,11 +32,9 @@ pub fn standard_errors(v: &[f64], p: usize, out: &mut [f64])
     requires { (p * p ≤ length v.now) × (p ≤ length out.old) }
     ensures { out.new ≡ fill_to p (se_at p v.now) out.old }
 {
-    let mut a = 0;
-    while a < p {
+    for a in 0..p {
         let o = base::offset(a, p, p);
         out[a] = root::sqrt(v[o + a]);
-        a += 1;
     }
 }
 
@@ -59,9 +53,7 @@ pub fn z_values(beta: &[f64], se: &[f64], p: usize, out: &mut [f64])
     requires { (p ≤ length beta.now) × (p ≤ length se.now) × (p ≤ length out.old) }
     ensures { out.new ≡ fill_to p (z_value_at beta.now se.now) out.old }
 {
-    let mut a = 0;
-    while a < p {
+    for a in 0..p {
         out[a] = z_value(beta[a], se[a]);
-        a += 1;
     }
 }

@@ -8,9 +8,7 @@ pub fn residuals(y: &[f64], mu: &[f64], n: usize, out: &mut [f64])
     requires { (n ≤ length y.now) × (n ≤ length mu.now) × (n ≤ length out.old) }
     ensures { out.new ≡ fill_to n (residual_at y.now mu.now) out.old }
 {
-    let mut i = 0;
-    while i < n {
+    for i in 0..n {
         out[i] = y[i] - mu[i];
-        i += 1;
     }
 }

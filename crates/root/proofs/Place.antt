@@ -1,6 +1,8 @@
 -- The place of a root: 53 digits q of it at the place 2 ^ k, where its square is y 4 ^ k with a y of 105 or 106 digits. Assumes nothing.
 use Rattle.std.proofs.Common.{◌≡◌, ℕ, zero, suc, ◌+◌, ◌-◌, ◌*◌, ◌/◌, ◌%◌, ◌^◌, ◌<◌, ◌≤◌, sym, refl, ap, ◌∙◌, subst, ⊎_elim, lt_of_lt_of_le, mul-le-mul_right, mul_assoc, lt_of_mul-lt-mul_right, eq-or-lt_of_le, mul-lt-mul_of_pos_right, pow-suc, lt_of_not-le, le_of_mul-le-mul_right, mul-div_cancel, arith, pow_pos, pow_mono, pow-add}
-use native.Mathlib.Nat.{mul-mul-mul_comm}
+use native.Mathlib.Nat.{mul-mul-mul_comm, mod-eq_of_lt}
+use lib.Count.{count_leading_zeros}
+use Rattle.std.proofs.lemmas.Nat.{leading_le, leading_top}
 use lib.Ieee.{size}
 use lib.Ieee.Digits.{size-lt, size-le, size_reaches}
 use Rattle.base.specs.Number.{bits}
@@ -101,16 +103,36 @@ at_odd s e d f =
     let h : e % 2 ≡ 1 = omega arith in
     sym (ap root_of (shift s (e + 1009) 52 k (omega arith)) ∙ at_place (s * 0x10_0000_0000_0000) k (omega arith) (omega arith))
 
--- ---- doubling t until it has 53 digits
-pub doubled : (t s n : ℕ) → t * 2 ^ n ≡ s → t * 2 ^ (n + 1) ≡ s * 2
-doubled t s n h = ap (λ (x : ℕ). t * x) (pow-add 2 n 1) ∙ sym (mul_assoc t (2 ^ n) 2) ∙ ap (λ (x : ℕ). x * 2) h
+-- ---- a number t of at most 52 digits, shifted until it has 53
+-- at most 53 doublings, whatever t is
+pub turns_few : (t : ℕ) → count_leading_zeros 64 t - 11 ≤ 53
+turns_few t = omega (arith, leading_le 64 t)
 
-pub few : (t s n : ℕ) → 0 < t → t * 2 ^ n ≡ s → s < 0x20_0000_0000_0000 → n < 53
-few t s n a h b =
-    lt_of_not-le (λ (g : 53 ≤ n).
-    let p : 2 ^ 53 ≤ 2 ^ n = pow_mono g in
-    let l : 1 * 2 ^ n ≤ t * 2 ^ n = mul-le-mul_right (2 ^ n) a in
-    omega arith)
+-- the shift n of t
+pub record Shifted (t n : ℕ) : Type 0 where
+  pub enough : 11 ≤ count_leading_zeros 64 t
+  pub few : n < 53
+  pub whole : t * 2 ^ n % 2 ^ 64 ≡ t * 2 ^ n
+  pub digits : Digits53 (t * 2 ^ n)
+
+pub shifted : (t : ℕ) → 0 < t → t < 0x10_0000_0000_0000 → Shifted t (count_leading_zeros 64 t - 11)
+shifted t a b =
+    let n = count_leading_zeros 64 t - 11 in
+    let top = leading_top 64 t a (omega arith) in
+    let j = top.0 in
+    let l : j < 52 = lt_of_not-le (λ (g : 52 ≤ j). let p : 2 ^ 52 ≤ 2 ^ j = pow_mono g in omega (arith, top.2)) in
+    let low : 2 ^ j * 2 ^ n ≤ t * 2 ^ n = mul-le-mul_right (2 ^ n) top.2 in
+    let high : t * 2 ^ n < 2 ^ suc j * 2 ^ n = mul-lt-mul_of_pos_right top.3 (pow_pos n) in
+    let e : j + n ≡ 52 = omega (arith, top.1) in
+    let f : suc j + n ≡ 53 = omega (arith, top.1) in
+    let least : 2 ^ j * 2 ^ n ≡ 2 ^ 52 = sym (pow-add 2 j n) ∙ ap (λ (d : ℕ). 2 ^ d) e in
+    let most : 2 ^ suc j * 2 ^ n ≡ 2 ^ 53 = sym (pow-add 2 (suc j) n) ∙ ap (λ (d : ℕ). 2 ^ d) f in
+    record {
+      enough = omega (arith, top.1);
+      few = omega (arith, top.1);
+      whole = mod-eq_of_lt (omega (arith, high, most));
+      digits = record { least = omega (arith, low, least); most = omega (arith, high, most) };
+    }
 
 pub halved : (t s n : ℕ) → n < 53 → t * 2 ^ n ≡ s → s * 2 ^ (65 - n + 1009) ≡ t * 2 ^ 1074
 halved t s n a h =

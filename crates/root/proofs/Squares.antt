@@ -1,5 +1,5 @@
 -- Squares of whole numbers: the nearest root of one, by digits and by steps. Assumes nothing.
-use Rattle.std.proofs.Common.{◌≡◌, ℕ, zero, suc, ◌+◌, ◌-◌, ◌*◌, ◌/◌, ◌%◌, ◌^◌, ◌<◌, ◌≤◌, Bool, true, false, refl, ap, ◌∙◌, subst, mul_assoc, mul_comm, add-mul, mul-le-mul, le_antisymm, pow-suc, lt_of_not-le, mul-add, mul_right_comm, arith, ltb-false, ltb-true, le-ltb, lt-ltb}
+use Rattle.std.proofs.Common.{◌≡◌, ℕ, zero, suc, ◌+◌, ◌-◌, ◌*◌, ◌/◌, ◌%◌, ◌^◌, ◌<◌, ◌≤◌, Bool, true, false, sym, refl, ap, ◌∙◌, subst, mul_assoc, mul_comm, add-mul, mul-le-mul, le_antisymm, pow-suc, pow-add, pow_pos, mul-div_cancel, lt_of_not-le, mul-add, mul_right_comm, arith, ltb-false, ltb-true, le-ltb, lt-ltb}
 use native.Mathlib.Nat.{mul-mul-mul_comm}
 use native.Mathlib.Omega.{by_contra}
 use Rattle.root.specs.Sqrt.{half_below, with_digit, nearest_from}
@@ -134,8 +134,13 @@ unfolding with_digit
 digit_left s q b h a = rw (half_past s (q + b) (omega arith) a) refl
 
 -- ---- one of the 53 turns of the search by digits
-pub digit_halved : (k b : ℕ) → k < 53 → b ≡ 2 ^ (53 - k) → b / 2 ≡ 2 ^ (53 - (k + 1))
-digit_halved k b h e =
+pub digit_at : (k : ℕ) → k < 53 → 0x10_0000_0000_0000 / 2 ^ k ≡ 2 ^ (53 - (k + 1))
+digit_at k h =
+    let z : 53 - (k + 1) + k ≡ 52 = omega arith in
+    ap (λ (x : ℕ). x / 2 ^ k) (sym (sym (pow-add 2 (53 - (k + 1)) k) ∙ ap (λ (d : ℕ). 2 ^ d) z)) ∙ mul-div_cancel (2 ^ (53 - (k + 1))) (pow_pos k)
+
+pub digit_twice : (k : ℕ) → k < 53 → 2 ^ (53 - k) ≡ 2 ^ (53 - (k + 1)) + 2 ^ (53 - (k + 1))
+digit_twice k h =
     let z : 53 - k ≡ suc (53 - (k + 1)) = omega arith in
     omega (arith, ap (λ (d : ℕ). 2 ^ d) z, pow-suc 2 (53 - (k + 1)))
 

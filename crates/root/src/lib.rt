@@ -17,26 +17,17 @@ fn root_at(s: u64, e: u64) -> f64
     ensures { result ≡ root_of (s * 2 ^ (e + 1009)) }
 {
     let k = (e + 957) / 2 * 0x10_0000_0000_0000;
-    if e % 2 == 0 {
-        let even = near_root(s * 2);
-        return double(k + even);
-    }
-    let odd = near_root(s);
-    double(k + odd)
+    let near = near_root(if e % 2 == 0 { s * 2 } else { s });
+    double(k + near)
 }
 
-// The root of t·2^-1074, a number below the normal ones: t is doubled until it has 53 digits.
+// The root of t·2^-1074, a number below the normal ones: t is doubled until it has 53 digits, by one shift.
 fn root_small(t: u64) -> f64
     requires { (0 < t) × (t < 0x10_0000_0000_0000) }
     ensures { result ≡ root_of (t * 2 ^ 1074) }
 {
-    let mut s = t;
-    let mut n: u64 = 0;
-    while s < 0x10_0000_0000_0000 {
-        s = s * 2;
-        n += 1;
-    }
-    root_at(s, 65 - n)
+    let n = t.leading_zeros() as u64 - 11;
+    root_at(t << n, 65 - n)
 }
 
 // The root of a number above zero with the bits b.

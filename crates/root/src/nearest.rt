@@ -24,17 +24,10 @@ fn guess(s: u64) -> u64
 {
     let u = std::num::nearest_u64_to_f64(s) * 2.220446049250313e-16;
     let mut h = 0.519 + u * (0.526 - u * 0.0395);
-    h = 0.5 * (h + u / h);
-    h = 0.5 * (h + u / h);
-    h = 0.5 * (h + u / h);
-    let b = pattern(h);
-    if b < 0x3ff0_0000_0000_0000 {
-        return 0x10_0000_0000_0000;
+    for _ in 0..3 {
+        h = 0.5 * (h + u / h);
     }
-    if 0x4000_0000_0000_0000 <= b {
-        return 0x1f_ffff_ffff_ffff;
-    }
-    b - 0x3fe0_0000_0000_0000
+    pattern(h).clamp(0x3ff0_0000_0000_0000, 0x3fff_ffff_ffff_ffff) - 0x3fe0_0000_0000_0000
 }
 
 // q with the binary digit b, where q + b - 1/2 lies below the root of s·2^52.
@@ -54,12 +47,8 @@ fn by_digits(s: u64) -> u64
     ensures { result ≡ nearest_from 53 0 (s * 0x10_0000_0000_0000) }
 {
     let mut q = 0;
-    let mut b = 0x20_0000_0000_0000;
-    let mut k: u64 = 0;
-    while k < 53 {
-        b = b / 2;
-        q = with_digit(s, q, b);
-        k += 1;
+    for k in 0u64..53 {
+        q = with_digit(s, q, 0x10_0000_0000_0000 >> k);
     }
     q
 }
@@ -69,14 +58,11 @@ fn upwards(s: u64, q: u64) -> u64
     requires { (0x10_0000_0000_0000 ≤ s) × (s < 0x3f_ffff_ffff_ffff) × Short s q }
     ensures { result ≡ nearest_from 53 0 (s * 0x10_0000_0000_0000) }
 {
-    let mut r = q;
-    let mut k: u64 = 0;
-    while k < 4 {
-        r += 1;
+    for k in 0..4 {
+        let r = q + k + 1;
         if s <= pronic(r) {
             return r;
         }
-        k += 1;
     }
     by_digits(s)
 }
@@ -86,14 +72,11 @@ fn downwards(s: u64, q: u64) -> u64
     requires { (0x10_0000_0000_0000 ≤ s) × (s < 0x3f_ffff_ffff_ffff) × Past s q }
     ensures { result ≡ nearest_from 53 0 (s * 0x10_0000_0000_0000) }
 {
-    let mut r = q;
-    let mut k: u64 = 0;
-    while k < 4 {
+    for k in 0..4 {
+        let r = q - k;
         if pronic(r - 1) < s {
             return r;
         }
-        r -= 1;
-        k += 1;
     }
     by_digits(s)
 }

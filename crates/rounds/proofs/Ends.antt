@@ -25,23 +25,23 @@ use Rattle.inner.specs.declared.answers.InnerAnswer.{InnerAnswer}
 use Rattle.rounds.specs.declared.totals.Fit.{Fit}
 
 -- ---- by how the last inner fit ended
-module _ (G : Given) (phi : Float) (flag : Bool) (b : Account) (r m : List Float) (a : InnerAnswer) (f : Fit) (ef : f ≡ fit_from a.end a phi flag b) where
+module _ (G : Given) (phi : Float) (flag : Bool) (b : Account) (r m : List Float) (a : InnerAnswer) (f : Fit) (ef : f ≡ fit_from a.outcome phi flag b) where
   end_told : (x : InnerEnd) → AnswerTold x G r m a → FitTold (with_flag flag phi (result_by x)) G r m f
   unfolding result_by with_flag fit_from
   end_told (with_mode k i) h =
-      rw (ef, h.end) (refl, h.results)
+      rw (ef, h.1) (refl, h.2.results)
   end_told (without_mode e) h = rw (ef, h) (refl, refl)
 
   end_answered : (x : InnerEnd) → AnswerTold x G r m a → f.answer ≡ result_answer (with_flag flag phi (result_by x)) b
   unfolding result_by with_flag fit_from result_answer
-  end_answered (with_mode k i) h = rw (ef, h.end, h.deviance, h.order, h.why, h.iterations) refl
+  end_answered (with_mode k i) h = rw (ef, h.1, h.2.deviance, h.2.order, h.2.why, h.2.iterations) refl
   end_answered (without_mode e) h = rw (ef, h) refl
 
 -- ---- a fit that comes to what its last inner fit came to, with the account of all
 module _ (G : Given) (mu : List Float) (wish L : ℕ) (phi : Float) (flag : Bool) (T : Total (Dispersed Fitted)) (eo : T.outcome ≡ with_flag flag phi (inner_at G mu wish L phi).outcome) (r₀ r r' m₀ m m' t₀ t t' : List Float)
     (ro : Only 0 (rows_length (n_of G)) r₀ r) (mo : Only 0 (matrices_length G.design.p (q_of G.design)) m₀ m) (to : Only 0 terms_length t₀ t) (a : InnerAnswer)
     (i : AnswerLeft G wish phi L mu r r' m m' t t' a) where
-  pub ended : (b : Account) (f : Fit) → tally T.items ≡ b → f ≡ fit_from a.end a phi flag b → FitLeft G T r₀ r' m₀ m' t₀ t' f
+  pub ended : (b : Account) (f : Fit) → tally T.items ≡ b → f ≡ fit_from a.outcome phi flag b → FitLeft G T r₀ r' m₀ m' t₀ t' f
   unfolding inner_at total_of answer_of
   ended b f eb ef =
       let x = (inner_of G wish phi L mu).ending in
@@ -54,7 +54,7 @@ module _ (G : Given) (mu : List Float) (wish L : ℕ) (phi : Float) (flag : Bool
       }
 
 -- ---- a family without dispersion: one inner fit at phi 1
-pub fixed_ended : (G : Given) (mu : List Float) (wish L : ℕ) (r r' m m' t t' : List Float) (a : InnerAnswer) → AnswerLeft G wish one_f L mu r r' m m' t t' a → (f : Fit) → f ≡ fit_from a.end a one_f true a.account
+pub fixed_ended : (G : Given) (mu : List Float) (wish L : ℕ) (r r' m m' t t' : List Float) (a : InnerAnswer) → AnswerLeft G wish one_f L mu r r' m m' t t' a → (f : Fit) → f ≡ fit_from a.outcome one_f true a.account
     → FitLeft G (fixed_of (inner_at G mu wish L)) r r' m m' t t' f
 unfolding fixed_of last_fit inner_at total_of
 fixed_ended G mu wish L r r' m m' t t' a i f ef =

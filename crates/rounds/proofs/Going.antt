@@ -1,4 +1,5 @@
 -- The rounds of the dispersion loop in code: what is left of the loop comes to what the whole does, and what was counted is what was done. Assumes nothing.
+use Rattle.std.specs.Prelude.{Option, Some, None}
 use mathlib.Core.Path.{◌≡◌, refl, sym, ap, ◌∙◌}
 use mathlib.Core.List.{List}
 use mathlib.Core.Bool.{Bool, true, false}
@@ -22,8 +23,6 @@ use Rattle.rule.specs.Given.{Given, n_of, q_of}
 use Rattle.agq_rule.specs.Inner.{InnerEnd, with_mode, without_mode, inner_of}
 use Rattle.dispersion.specs.Phi.{round_of}
 use Rattle.dispersion.specs.Rounds.{result, no_result, Total, Dispersed, total_before, with_flag, last_fit, dispersion_from, dispersion_of}
-use Rattle.dispersion.specs.declared.round.Round.{Round}
-use Rattle.dispersion.specs.declared.round.Round.TheVariants.{Settled, Next}
 use Rattle.dispersion.proofs.Turns.{round_unfitted, round_settled, round_next}
 use Rattle.call.specs.Fit.{Fitted, sum_of, result_by, total_of, inner_at}
 use Rattle.call.proofs.Capped.{one_fit_lem, inner_at_capped}
@@ -35,9 +34,9 @@ use Rattle.rounds.specs.declared.totals.Fit.{Fit}
 use Rattle.rounds.proofs.Ends.{ended}
 
 -- nothing follows
-abbrev is_settled : Round → Bool
-is_settled Settled = true
-is_settled (Next phi) = false
+abbrev is_settled : Option Float → Bool
+is_settled None = true
+is_settled (Some phi) = false
 
 module _ (G : Given) (mu : List Float) (wish L : ℕ) (effective : Float) where
   abbrev inner : Float → Total Fitted
@@ -84,7 +83,7 @@ module _ (G : Given) (mu : List Float) (wish L : ℕ) (effective : Float) where
         capped_fit (inner_capped k (omega (arith, g.within)) g.few) (caps_trans one_fit_lem one)
 
     -- the last round of all
-    pub end_spent : (b : Account) (f : Fit) → 240 ≤ k → b ≡ account ⊞ a.account → f ≡ fit_from a.end a phi false b → FitLeft G whole r₀ r' m₀ m' t₀ t' f
+    pub end_spent : (b : Account) (f : Fit) → 240 ≤ k → b ≡ account ⊞ a.account → f ≡ fit_from a.outcome phi false b → FitLeft G whole r₀ r' m₀ m' t₀ t' f
     unfolding dispersion_from last_fit inner_at total_of
     end_spent b f h eb ef =
         let z : 240 - k ≡ 0 = omega arith in
@@ -97,7 +96,7 @@ module _ (G : Given) (mu : List Float) (wish L : ℕ) (effective : Float) where
       left_turn = omega arith
 
       -- the loop settles where nothing is to follow
-      settled_rest : (x : InnerEnd) → (inner_of G wish phi L mu).ending ≡ x → AnswerTold x G r' m' a → round_after a.end effective phi a.deviance_sum ≡ Settled
+      settled_rest : (x : InnerEnd) → (inner_of G wish phi L mu).ending ≡ x → AnswerTold x G r' m' a → round_after a.outcome effective phi ≡ None
           → rest_at k phi ≡ last_fit true phi (inner phi)
       unfolding inner_at total_of result_by round_after last_fit with_flag
       settled_rest (without_mode e) q h s =
@@ -105,10 +104,10 @@ module _ (G : Given) (mu : List Float) (wish L : ℕ) (effective : Float) where
           rw left_turn (round_unfitted effective sum_of inner (240 - (k + 1)) phi e o ∙ rw q refl)
       settled_rest (with_mode M n) q h s =
           let o : (inner phi).outcome ≡ result (record { mode = M; integral = n }) = ap result_by q in
-          let s' : round_of effective phi M.dev_sum ≡ Settled = rw (h.end, h.sum) at s in
+          let s' : round_of effective phi M.dev_sum ≡ None = rw (h.1, h.2.sum) at s in
           rw left_turn (round_settled effective sum_of inner (240 - (k + 1)) phi (record { mode = M; integral = n }) o s' ∙ rw q refl)
 
-      pub end_settled : (b : Account) (f : Fit) → round_after a.end effective phi a.deviance_sum ≡ Settled → b ≡ account ⊞ a.account → f ≡ fit_from a.end a phi true b
+      pub end_settled : (b : Account) (f : Fit) → round_after a.outcome effective phi ≡ None → b ≡ account ⊞ a.account → f ≡ fit_from a.outcome phi true b
           → FitLeft G whole r₀ r' m₀ m' t₀ t' f
       unfolding last_fit inner_at total_of
       end_settled b f s eb ef =
@@ -118,18 +117,18 @@ module _ (G : Given) (mu : List Float) (wish L : ℕ) (effective : Float) where
           ended G mu wish L phi true whole o r₀ r r' m₀ m m' t₀ t t' g.rows_only g.matrices_only g.terms_only a i b f c ef
 
       -- it goes on at the next phi
-      next_rest : (next : Float) (x : InnerEnd) → (inner_of G wish phi L mu).ending ≡ x → AnswerTold x G r' m' a → round_after a.end effective phi a.deviance_sum ≡ Next next
+      next_rest : (next : Float) (x : InnerEnd) → (inner_of G wish phi L mu).ending ≡ x → AnswerTold x G r' m' a → round_after a.outcome effective phi ≡ Some next
           → rest_at k phi ≡ total_before (inner phi).items (rest_at (k + 1) next)
       unfolding inner_at total_of result_by round_after
       next_rest next (without_mode e) q h s =
-          let s' : Settled ≡ Next next = rw h at s in
+          let s' : None ≡ Some next = rw h at s in
           absurd (ff (sym (ap is_settled s')))
       next_rest next (with_mode M n) q h s =
           let o : (inner phi).outcome ≡ result (record { mode = M; integral = n }) = ap result_by q in
-          let s' : round_of effective phi M.dev_sum ≡ Next next = rw (h.end, h.sum) at s in
+          let s' : round_of effective phi M.dev_sum ≡ Some next = rw (h.1, h.2.sum) at s in
           rw left_turn (round_next effective sum_of inner (240 - (k + 1)) phi (record { mode = M; integral = n }) next o s')
 
-      pub turn_on : (b : Account) (next : Float) → good_shape G.design.shape ≡ true → L ≤ 1000 → round_after a.end effective phi a.deviance_sum ≡ Next next → b ≡ account ⊞ a.account
+      pub turn_on : (b : Account) (next : Float) → good_shape G.design.shape ≡ true → L ≤ 1000 → round_after a.outcome effective phi ≡ Some next → b ≡ account ⊞ a.account
           → Going r₀ r' m₀ m' t₀ t' next b (k + 1)
       unfolding total_before inner_at total_of
       turn_on b next good few s eb =

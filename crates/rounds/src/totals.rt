@@ -2,10 +2,9 @@
 ghost use Rattle.std.specs.Prelude.{◌≡◌};
 ghost use Rattle.rounds.specs.Totals.{round_after, fit_from};
 
-use dispersion::{Round, round_of};
+use dispersion::round_of;
 use inner::InnerAnswer;
 use model::{Account, Answer};
-use pirls::Ended;
 
 // What a fit answers, whether it has a result, and in which row its predictor stands then.
 #[derive(Clone, Copy)]
@@ -16,39 +15,37 @@ pub struct Fit {
 }
 
 // An inner fit without a result is the last.
-pub fn round_after(a: InnerAnswer, effective: f64, phi: f64) -> Round
-    ensures { result ≡ round_after a.end effective phi a.deviance_sum }
+pub fn round_after(a: InnerAnswer, effective: f64, phi: f64) -> Option<f64>
+    ensures { result ≡ round_after a.outcome effective phi }
 {
-    let end = a.end;
-    match end {
-        Ended::Stopped => round_of(effective, phi, a.deviance_sum),
-        Ended::Failed(_) => Round::Settled,
+    match a.outcome {
+        Ok(answered) => round_of(effective, phi, answered.deviance_sum),
+        Err(_) => None,
     }
 }
 
 // The fit whose last inner fit this is.
 pub fn fit_from(a: InnerAnswer, phi: f64, converged: bool, account: Account) -> Fit
-    ensures { result ≡ fit_from a.end a phi converged account }
+    ensures { result ≡ fit_from a.outcome phi converged account }
 {
-    let end = a.end;
-    match end {
-        Ended::Stopped => Fit {
+    match a.outcome {
+        Ok(x) => Fit {
             fitted: true,
-            in_second: a.in_second,
+            in_second: x.in_second,
             answer: Answer::fitted(
-                a.deviance,
+                x.deviance,
                 phi,
-                a.order,
-                a.why,
+                x.order,
+                x.why,
                 converged,
-                a.iterations,
+                x.iterations,
                 account,
             ),
         },
-        Ended::Failed(e) => Fit {
+        Err(end) => Fit {
             fitted: false,
             in_second: false,
-            answer: Answer::unfitted(e, account),
+            answer: Answer::unfitted(end, account),
         },
     }
 }

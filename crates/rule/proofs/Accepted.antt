@@ -1,4 +1,6 @@
 -- Accepted tries: an iteration accepts one where it finds a move and none else, so a run accepts one for each solve, but for the last solve of a run that ends with 12. Document 02, P9. Assumes nothing.
+use Rattle.std.specs.Prelude.{Result, Ok, Err, ⊤}
+use Prim.{tt}
 use mathlib.Core.Path.{◌≡◌, refl, ap}
 use mathlib.Core.Bool.{Bool, true, false}
 use mathlib.Core.List.{List}
@@ -15,8 +17,6 @@ use Rattle.model.specs.declared.ends.End.TheVariants.{SystemPivot, NormalPivot, 
 use Rattle.model.proofs.Tallies.{count_append}
 use Rattle.family.specs.Carried.{link_of}
 use Rattle.factor.specs.Factor.{cholesky_of, cholesky_end, ldl_end}
-use Rattle.factor.specs.declared.pivots.Factored.{Factored}
-use Rattle.factor.specs.declared.pivots.Factored.TheVariants.{Done, Bad}
 use Rattle.rule.specs.Given.{Given, Design, q_of}
 use Rattle.rule.specs.Working.{working_weights, working_responses, targets}
 use Rattle.rule.specs.Solve.{Solved, Solve, solved, unsolved, Reduced, reduced_of, factor_of, system_of, normal_of, found, after_root, solve_root, solve_normal, solve_reduced, after_factor, solve_factor, solve_system, solve_working, solve_of}
@@ -105,15 +105,15 @@ data Pivots : Solve → Type 0 where
   system_failed : Pivots (unsolved SystemPivot)
   normal_failed : Pivots (unsolved NormalPivot)
 
-root_pivots : (x : Factored) (D : Design) (r : Reduced) (C : List Float) → Pivots (after_root x D r C)
+root_pivots : (x : Result ⊤ ℕ) (D : Design) (r : Reduced) (C : List Float) → Pivots (after_root x D r C)
 unfolding after_root
-root_pivots (Bad i) D r C = normal_failed
-root_pivots Done D r C = both_done (found D r C)
+root_pivots (Err i) D r C = normal_failed
+root_pivots (Ok tt) D r C = both_done (found D r C)
 
-factor_pivots : (x : Factored) (D : Design) (w z A F : List Float) → Pivots (after_factor x D w z A F)
+factor_pivots : (x : Result ⊤ ℕ) (D : Design) (w z A F : List Float) → Pivots (after_factor x D w z A F)
 unfolding after_factor solve_reduced solve_normal solve_root
-factor_pivots (Bad i) D w z A F = system_failed
-factor_pivots Done D w z A F =
+factor_pivots (Err i) D w z A F = system_failed
+factor_pivots (Ok tt) D w z A F =
     let r = reduced_of D w z (targets D z) A F in
     let N = normal_of D r.w r.W in
     root_pivots (cholesky_end D.p N (cholesky_of D.p N)) D r (cholesky_of D.p N)

@@ -1,5 +1,7 @@
 -- One solve: A and its factor, the right sides, the normal matrix and its factor, β, u, b and the raw predictor.
 -- Document 01, "The inner fit", from Z'WZ to the raw predictor; ends 10 and 11 of "Numbers of an answer". Assumes nothing.
+use Rattle.std.specs.Prelude.{Result, Ok, Err, ⊤}
+use Prim.{tt}
 use Rattle.std.specs.Prelude.{List, ℕ, ◌*◌, Float}
 use Rattle.base.specs.Number.{◌⊕◌, ◌⊖◌}
 use Rattle.base.specs.Sum.{◌!◌, dot_of}
@@ -8,8 +10,6 @@ use Rattle.model.specs.declared.ends.End.{End}
 use Rattle.model.specs.declared.ends.End.TheVariants.{SystemPivot, NormalPivot}
 use Rattle.factor.specs.Factor.{ldl_of, ldl_end, cholesky_of, cholesky_end}
 use Rattle.factor.specs.Substitution.{ldl_solve, cholesky_solve}
-use Rattle.factor.specs.declared.pivots.Factored.{Factored}
-use Rattle.factor.specs.declared.pivots.Factored.TheVariants.{Done, Bad}
 use Rattle.stored.specs.Stored.{zt_times_at, ztwz_at, z_times_at}
 use Rattle.lambda.specs.Product.{lambda_times_at, lambda_transposed_at, right_column_at, system_at}
 use Rattle.linear.specs.Product.{x_beta_at, effect_at, normal_at}
@@ -154,9 +154,9 @@ unfoldable pub found : Design → Reduced → List Float → Solved
 found D r C = found_beta D r C (beta_of D C (normal_side D r.w r.t r.wy))
 
 -- by how the normal matrix's factorisation ended
-unfoldable pub after_root : Factored → Design → Reduced → List Float → Solve
-after_root (Bad i) D r C = unsolved NormalPivot
-after_root Done D r C = solved (found D r C)
+unfoldable pub after_root : Result ⊤ ℕ → Design → Reduced → List Float → Solve
+after_root (Err i) D r C = unsolved NormalPivot
+after_root (Ok tt) D r C = solved (found D r C)
 
 -- the normal matrix N with its factor C
 unfoldable pub solve_root : Design → Reduced → List Float → List Float → Solve
@@ -171,9 +171,9 @@ unfoldable pub solve_reduced : Design → Reduced → Solve
 solve_reduced D r = solve_normal D r (normal_of D r.w r.W)
 
 -- by how the factorisation of A ended
-unfoldable pub after_factor : Factored → Design → List Float → List Float → List Float → List Float → Solve
-after_factor (Bad i) D w z A F = unsolved SystemPivot
-after_factor Done D w z A F = solve_reduced D (reduced_of D w z (targets D z) A F)
+unfoldable pub after_factor : Result ⊤ ℕ → Design → List Float → List Float → List Float → List Float → Solve
+after_factor (Err i) D w z A F = unsolved SystemPivot
+after_factor (Ok tt) D w z A F = solve_reduced D (reduced_of D w z (targets D z) A F)
 
 -- A with its factor F
 unfoldable pub solve_factor : Design → List Float → List Float → List Float → List Float → Solve

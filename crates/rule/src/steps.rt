@@ -8,6 +8,7 @@ use base::{EPSILON, abs, is_finite, is_sign_negative, max};
 use family::CarriedLink;
 
 // The working weight, from the derivative as it is.
+#[tactic(auto, unfolding(crate::specs::Working::working_weight))]
 pub fn working_weight(phi: f64, wt: f64, me: f64, v: f64) -> f64
     ensures { result ≡ working_weight phi wt me v }
 {
@@ -16,19 +17,23 @@ pub fn working_weight(phi: f64, wt: f64, me: f64, v: f64) -> f64
 }
 
 // What the working response divides by: a derivative near zero becomes E with its sign.
+#[tactic(auto, unfolding(crate::specs::Working::divisor))]
 pub fn divisor(me: f64) -> f64
     ensures { result ≡ divisor me }
 {
     if abs(me) < EPSILON {
         if is_sign_negative(me) {
-            return -EPSILON;
+            -EPSILON
+        } else {
+            EPSILON
         }
-        return EPSILON;
+    } else {
+        me
     }
-    me
 }
 
 // The working response.
+#[tactic(auto, unfolding(crate::specs::Working::working_response))]
 pub fn working_response(eta: f64, y: f64, mu: f64, me: f64) -> f64
     ensures { result ≡ working_response eta y mu me }
 {
@@ -36,19 +41,15 @@ pub fn working_response(eta: f64, y: f64, mu: f64, me: f64) -> f64
 }
 
 // Whether a predictor can be accepted: with the inverse link it must be above E.
+#[tactic(auto, unfolding(crate::specs::Try::fine_eta))]
 pub fn fine_eta(link: CarriedLink, eta: f64) -> bool
     ensures { result ≡ fine_eta link eta }
 {
-    if is_finite(eta) {
-        if model::is_inverse(family::link_of(link)) {
-            return EPSILON < eta;
-        }
-        return true;
-    }
-    false
+    is_finite(eta) && (!model::is_inverse(family::link_of(link)) || EPSILON < eta)
 }
 
 // The stop test, of the PWRSS before and now.
+#[tactic(auto, unfolding(crate::specs::Stop::stops))]
 pub fn stops(old: f64, new: f64) -> bool
     ensures { result ≡ stops old new }
 {

@@ -1,5 +1,11 @@
 -- The scale of a block, from what its calls leave. Assumes nothing.
+use Rattle.quadrature.specs.declared.orders.Decline.{Decline}
+use Rattle.std.specs.Prelude.{Result, Ok, Err, ⊤}
+use Prim.{tt}
 use mathlib.Core.Path.{◌≡◌, refl, sym, ap, ◌∙◌}
+use mathlib.Core.Logic.{◌⊎◌, inl, inr, ⊎_elim}
+use Rattle.std.specs.Result.{MatchResult, IsErrAnd}
+use Rattle.std.proofs.lemmas.Result.{err_from_is_err_and}
 use mathlib.Core.List.{List}
 use Prim.Native.Nat.{ℕ, ◌+◌, ◌-◌, ◌*◌, ◌/◌, ◌%◌, ◌≤◌}
 use native.Mathlib.Omega.{arith}
@@ -14,15 +20,11 @@ use Rattle.layout.specs.WorkMatrices.{inverse_place}
 use Rattle.factor.specs.Factor.{ldl_of, ldl_end, LdlLeaves, cholesky_of, cholesky_end, CholeskyLeaves}
 use Rattle.factor.specs.Inverse.{ldl_inverse_at, ldl_inverse}
 use Rattle.factor.specs.Triangle.{SameBelow, reach}
-use Rattle.factor.specs.declared.pivots.Factored.{Factored}
-use Rattle.factor.specs.declared.pivots.Factored.TheVariants.{Done, Bad}
 use Rattle.factor.proofs.LdlTextbook.{ldl_lower, ldl_end_same}
 use Rattle.factor.proofs.Solved.{ldl_inverse_same}
 use Rattle.quadrature.specs.declared.orders.Decline.TheVariants.{Inverse, Factor}
 use Rattle.agq_rule.specs.Scale.{after_cholesky, cholesky_scale, inverse_scale, after_ldl, ldl_scale, block_scale, section_of}
 use Rattle.scale.specs.Tells.{tell_scale, ScaleLeaves}
-use Rattle.scale.specs.declared.scales.Scaling.{Scaling}
-use Rattle.scale.specs.declared.scales.Scaling.TheVariants.{Scaled, Unscaled}
 use Rattle.scale.proofs.SectionCopied.{section_whole}
 
 -- the block's LDL', as the rule has it
@@ -39,15 +41,39 @@ grid_inverse : (k : ℕ) (L b : List Float) → length b ≡ k * k → grid_to k
 unfolding ldl_inverse
 grid_inverse k L b n = grid_matrix k k (ldl_inverse_at k L) b n
 
+-- ---- how the end of a factor is told
+
+-- a bad pivot is told as d, whichever it is
+pub told : Decline → Result ⊤ ℕ → Result ⊤ Decline
+told d (Ok tt) = Ok tt
+told d (Err i) = Err d
+
+-- either it was found, or a pivot was bad
+end_is : (z : Result ⊤ ℕ) → (z ≡ Ok tt) ⊎ ((i : ℕ) × (z ≡ Err i))
+end_is (Ok tt) = inl refl
+end_is (Err i) = inr (i, refl)
+
+-- as `map_err` tells it
+pub told_by : {Q : ℕ → Decline → Type 0} (d : Decline) (z : Result ⊤ ℕ) (r : Result ⊤ Decline) → ((i : ℕ) (y : Decline) → Q i y → y ≡ d)
+    → MatchResult z (λ x. r ≡ Ok x) (λ i. IsErrAnd r (Q i)) → r ≡ told d z
+unfolding told
+told_by d (Ok tt) r k m = m
+told_by {Q} d (Err i) r k m = let f : (y : Decline) × (r ≡ Err y) × Q i y = err_from_is_err_and r m in f.1 ∙ ap Err (k i f.0 f.2)
+
+told_ok : (d : Decline) (z : Result ⊤ ℕ) (x : ⊤) → told d z ≡ Ok x → z ≡ Ok tt
+unfolding told
+told_ok d (Ok tt) x e = refl
+told_ok d (Err i) x e = cc
+
 -- ---- what the calls leave
 
 -- the end of LDL', and where it was found the factor with its lower triangle; no other place of t
-record Factors (k : ℕ) (B t t' : List Float) (r : Factored) : Type 0 where
+record Factors (k : ℕ) (B t t' : List Float) (r : Result ⊤ ℕ) : Type 0 where
   pub end : r ≡ ldl_end k (factor_of_block k B)
-  pub lower : r ≡ Done → SameBelow k (row 0 (k * k) t') (factor_of_block k B)
+  pub lower : r ≡ Ok tt → SameBelow k (row 0 (k * k) t') (factor_of_block k B)
   pub frame : Only 0 (k * k) t t'
 
-factor_made : (k place end : ℕ) (B m t ys : List Float) (r : Factored) → end ≡ place + k * k → row place (k * k) m ≡ B → k * k ≤ length t
+factor_made : (k place end : ℕ) (B m t ys : List Float) (r : Result ⊤ ℕ) → end ≡ place + k * k → row place (k * k) m ≡ B → k * k ≤ length t
     → length ys ≡ length (mid_of 0 (k * k - 0) t) → LdlLeaves k (take (end - place) (drop place m)) (mid_of 0 (k * k - 0) t) r ys → Factors k B t (put_mid 0 (k * k - 0) t ys) r
 unfolding reach ldl_of
 factor_made k place end B m t ys r ee eB h l d =
@@ -76,12 +102,12 @@ inverse_made k place end B m t ys ee h same l y =
     record { row' = w.row' ∙ y' ∙ inverse_same k (row 0 (k * k) t) (factor_of_block k B) same; only = w.only }
 
 -- the end of Cholesky of S, and where it was found the factor; no other place of m
-record Roots (k place : ℕ) (S m m' : List Float) (r : Factored) : Type 0 where
+record Roots (k place : ℕ) (S m m' : List Float) (r : Result ⊤ ℕ) : Type 0 where
   pub end : r ≡ cholesky_end k S (cholesky_of k S)
-  pub root : r ≡ Done → row place (k * k) m' ≡ cholesky_of k S
+  pub root : r ≡ Ok tt → row place (k * k) m' ≡ cholesky_of k S
   pub frame : Only place (k * k) m m'
 
-root_made : (k place end : ℕ) (S m ys : List Float) (r : Factored) → end ≡ place + k * k → end ≤ length m → row place (k * k) m ≡ S
+root_made : (k place end : ℕ) (S m ys : List Float) (r : Result ⊤ ℕ) → end ≡ place + k * k → end ≤ length m → row place (k * k) m ≡ S
     → length ys ≡ length (mid_of place (end - place) m) → CholeskyLeaves k (mid_of place (end - place) m) r ys → Roots k place S m (put_mid place (end - place) m ys) r
 unfolding reach cholesky_of
 root_made k place end S m ys r ee h eS l d =
@@ -105,7 +131,7 @@ with_front k t ys = put_mid 0 (k * k - 0) t ys
 abbrev block_of : ℕ → ℕ → ℕ → List Float → List Float
 block_of q s k m = section_of q (row 0 (q * q) m) s k
 
-module _ (q s k place end : ℕ) (m m₁ t ys : List Float) (r : Factored) (ep : place ≡ inverse_place q) (ee : end ≡ place + k * k) (hm : end ≤ length m) (ht : k * k ≤ length t)
+module _ (q s k place end : ℕ) (m m₁ t ys : List Float) (r : Result ⊤ ℕ) (ep : place ≡ inverse_place q) (ee : end ≡ place + k * k) (hm : end ≤ length m) (ht : k * k ≤ length t)
     (w : Wrote (inverse_place q) (k * k) (block_of q s k m) m m₁) (l : length ys ≡ length (lent_front k t)) (d : LdlLeaves k (take (end - place) (drop place m₁)) (lent_front k t) r ys) where
   wrote_block : Wrote place (k * k) (block_of q s k m) m m₁
   wrote_block = rw ep w
@@ -114,13 +140,22 @@ module _ (q s k place end : ℕ) (m m₁ t ys : List Float) (r : Factored) (ep :
   first = factor_made k place end (block_of q s k m) m₁ t ys r ee wrote_block.row' ht l d
 
   -- LDL' has a bad pivot
-  pub no_inverse : (i : ℕ) → r ≡ Bad i → ScaleLeaves q s k m m₁ t (with_front k t ys) (Unscaled Inverse)
+  no_inverse : (i : ℕ) → r ≡ Err i → ScaleLeaves q s k m m₁ t (with_front k t ys) (Err Inverse)
   unfolding tell_scale block_scale ldl_scale after_ldl
   no_inverse i e = record { scale = rw (← first.end, e) refl; matrices_only = w.only; terms_only = first.frame }
 
-  module _ (zs ws : List Float) (z : Factored) (e : r ≡ Done) (lz : length zs ≡ length (mid_of place (end - place) m₁))
+  pub not_inverted : (y : Decline) → told Inverse r ≡ Err y → ScaleLeaves q s k m m₁ t (with_front k t ys) (Err y)
+  unfolding told
+  not_inverted y h =
+      ⊎_elim (λ (g : r ≡ Ok tt). let o : ◌≡◌ {A = Result ⊤ Decline} (Ok tt) (Err y) = sym (ap (told Inverse) g) ∙ h in absurd (cc))
+      (λ (p : (i : ℕ) × (r ≡ Err i)). let o : ◌≡◌ {A = Result ⊤ Decline} (Err Inverse) (Err y) = sym (ap (told Inverse) p.1) ∙ h in rw (← o) (no_inverse p.0 p.1)) (end_is r)
+
+  module _ (zs ws : List Float) (z : Result ⊤ ℕ) (found : ⊤) (eo : told Inverse r ≡ Ok found) (lz : length zs ≡ length (mid_of place (end - place) m₁))
       (y : zs ≡ grid_to k k (ldl_inverse_at k (take (k * k - 0) (drop 0 (with_front k t ys)))) (mid_of place (end - place) m₁))
       (lw : length ws ≡ length (mid_of place (end - place) (put_mid place (end - place) m₁ zs))) (x : CholeskyLeaves k (mid_of place (end - place) (put_mid place (end - place) m₁ zs)) z ws) where
+    e : r ≡ Ok tt
+    e = told_ok Inverse r found eo
+
     second : Wrote place (k * k) (ldl_inverse k (factor_of_block k (block_of q s k m))) m₁ (put_mid place (end - place) m₁ zs)
     second = inverse_made k place end (block_of q s k m) m₁ (with_front k t ys) zs ee (omega (arith, w.only.len)) (first.lower e) lz y
 
@@ -131,19 +166,25 @@ module _ (q s k place end : ℕ) (m m₁ t ys : List Float) (r : Factored) (ep :
     changed = let o : Only place (k * k) m (put_mid place (end - place) (put_mid place (end - place) m₁ zs) ws) = only_trans wrote_block.only (only_trans second.only third.frame) in rw (← ep) o
 
     -- Cholesky of the inverse has a bad pivot
-    pub no_factor : (i : ℕ) → z ≡ Bad i → ScaleLeaves q s k m (put_mid place (end - place) (put_mid place (end - place) m₁ zs) ws) t (with_front k t ys) (Unscaled Factor)
+    no_factor : (i : ℕ) → z ≡ Err i → ScaleLeaves q s k m (put_mid place (end - place) (put_mid place (end - place) m₁ zs) ws) t (with_front k t ys) (Err Factor)
     unfolding tell_scale block_scale ldl_scale after_ldl inverse_scale cholesky_scale after_cholesky
     no_factor i g = record { scale = rw (← first.end, e, ← third.end, g) refl; matrices_only = changed; terms_only = first.frame }
 
     -- the factor was found
-    pub scale_found : z ≡ Done → ScaleLeaves q s k m (put_mid place (end - place) (put_mid place (end - place) m₁ zs) ws) t (with_front k t ys) Scaled
+    scale_found : z ≡ Ok tt → ScaleLeaves q s k m (put_mid place (end - place) (put_mid place (end - place) m₁ zs) ws) t (with_front k t ys) (Ok tt)
     unfolding tell_scale block_scale ldl_scale after_ldl inverse_scale cholesky_scale after_cholesky
     scale_found g =
         let L : row (inverse_place q) (k * k) (put_mid place (end - place) (put_mid place (end - place) m₁ zs) ws) ≡ cholesky_of k (ldl_inverse k (factor_of_block k (block_of q s k m))) =
         ap (λ (o : ℕ). row o (k * k) (put_mid place (end - place) (put_mid place (end - place) m₁ zs) ws)) (sym ep) ∙ third.root g in
         record { scale = rw (L, ← first.end, e, ← third.end, g) refl; matrices_only = changed; terms_only = first.frame }
 
+    -- either way
+    pub scale_left : (a : Result ⊤ Decline) → a ≡ told Factor z → ScaleLeaves q s k m (put_mid place (end - place) (put_mid place (end - place) m₁ zs) ws) t (with_front k t ys) a
+    unfolding told
+    scale_left a h =
+        ⊎_elim (λ (g : z ≡ Ok tt). rw (h ∙ ap (told Factor) g) (scale_found g)) (λ (p : (i : ℕ) × (z ≡ Err i)). rw (h ∙ ap (told Factor) p.1) (no_factor p.0 p.1)) (end_is z)
+
 -- ---- all effects: what the joint rule asks for
-pub joint_scale : (q : ℕ) (m m' t t' : List Float) (r : Scaling) → q * q ≤ length m → ScaleLeaves q 0 q m m' t t' r
+pub joint_scale : (q : ℕ) (m m' t t' : List Float) (r : Result ⊤ Decline) → q * q ≤ length m → ScaleLeaves q 0 q m m' t t' r
     → tell_scale r (row (inverse_place q) (q * q) m') ≡ block_scale q (row 0 (q * q) m)
 joint_scale q m m' t t' r h l = l.scale ∙ ap (block_scale q) (section_whole q (row 0 (q * q) m) (row_length 0 (q * q) m (omega arith)))

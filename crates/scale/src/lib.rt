@@ -5,6 +5,6 @@ mod scales;
 mod sections;
 mod sigmas;
 
-pub use scales::{Scaling, block_scale};
+pub use scales::block_scale;
 pub use sections::copy_row;
-pub use sigmas::{OneScale, one_sigma};
+pub use sigmas::one_sigma;

@@ -2,19 +2,17 @@
 ghost use Rattle.scale.specs.Tells.{ScaleRoom, ScaleLeaves};
 
 use crate::sections::section_into;
-use factor::Factored;
 use layout::inverse_at;
 use quadrature::Decline;
 
-// The factor was found, or why not.
-#[derive(Clone, Copy)]
-pub enum Scaling {
-    Scaled,
-    Unscaled(Decline),
-}
-
 // The block of k effects from s on: copied to the place of the inverse in m, its LDL' at the front of t, the inverse over the block, Cholesky of it in place.
-pub fn block_scale(q: usize, s: usize, k: usize, m: &mut [f64], t: &mut [f64]) -> Scaling
+pub fn block_scale(
+    q: usize,
+    s: usize,
+    k: usize,
+    m: &mut [f64],
+    t: &mut [f64],
+) -> Result<(), Decline>
     requires { ScaleRoom q s k m.old t.old }
     ensures { ScaleLeaves q s k m.old m.new t.old t.new result }
 {
@@ -22,20 +20,7 @@ pub fn block_scale(q: usize, s: usize, k: usize, m: &mut [f64], t: &mut [f64]) -
     let square = k * k;
     let end = place + square;
     section_into(q, s, k, m);
-    let factored = factor::ldl(&m[place..end], k, &mut t[0..square]);
-    match factored {
-        Factored::Bad(_) => {
-            return Scaling::Unscaled(Decline::Inverse);
-        }
-        Factored::Done => {}
-    }
+    factor::ldl(&m[place..end], k, &mut t[0..square]).map_err(|_| Decline::Inverse)?;
     factor::ldl_inverse(&t[0..square], k, &mut m[place..end]);
-    let rooted = factor::cholesky(&mut m[place..end], k);
-    match rooted {
-        Factored::Bad(_) => {
-            return Scaling::Unscaled(Decline::Factor);
-        }
-        Factored::Done => {}
-    }
-    Scaling::Scaled
+    factor::cholesky(&mut m[place..end], k).map_err(|_| Decline::Factor)
 }

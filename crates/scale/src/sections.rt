@@ -13,10 +13,8 @@ pub fn copy_row(from: usize, to: usize, n: usize, m: &mut [f64])
     requires { (from + n ≤ to) × (to + n ≤ length m.old) }
     ensures { m.new ≡ fill_at to n (entry_from m.old from) m.old }
 {
-    let mut j = 0;
-    while j < n {
+    for j in 0..n {
         m[to + j] = m[from + j];
-        j += 1;
     }
 }
 
@@ -26,14 +24,12 @@ pub fn section_into(q: usize, s: usize, k: usize, m: &mut [f64])
     ensures { Wrote (inverse_place q) (k * k) (section_of q (row system_place (q * q) m.old) s k) m.old m.new }
 {
     let place = inverse_at(q);
-    let mut i = 0;
-    while i < k {
+    for i in 0..k {
         let effect = s + i;
         let source = base::offset(effect, q, q);
         let target = base::offset(i, k, k);
         let from = source + s;
         let to = place + target;
         copy_row(from, to, k, m);
-        i += 1;
     }
 }

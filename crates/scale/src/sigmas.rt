@@ -8,29 +8,18 @@ ghost use Rattle.scale.specs.Tells.{one_scale_of};
 use base::EPSILON;
 use quadrature::Decline;
 
-// Sigma, or why there is none.
-#[derive(Clone, Copy)]
-pub enum OneScale {
-    Sigma(f64),
-    NoSigma(Decline),
-}
-
 // From one diagonal entry: the root, then its reciprocal.
-fn sigma_of(entry: f64) -> OneScale
+fn sigma_of(entry: f64) -> Result<f64, Decline>
     ensures { result ≡ one_scale_of entry }
 {
-    if entry <= EPSILON {
-        return OneScale::NoSigma(Decline::Diagonal);
+    if entry <= EPSILON || !base::is_finite(entry) {
+        return Err(Decline::Diagonal);
     }
-    if !base::is_finite(entry) {
-        return OneScale::NoSigma(Decline::Diagonal);
-    }
-    let root = root::sqrt(entry);
-    OneScale::Sigma(1.0 / root)
+    Ok(1.0 / root::sqrt(entry))
 }
 
 // Group g, whose diagonal entry of A stands in m.
-pub fn one_sigma(q: usize, g: usize, m: &[f64]) -> OneScale
+pub fn one_sigma(q: usize, g: usize, m: &[f64]) -> Result<f64, Decline>
     requires { (q ≤ 32) × (g < q) × (q * q ≤ length m.now) }
     ensures { result ≡ one_scale_of (at q (row system_place (q * q) m.now) g g) }
 {

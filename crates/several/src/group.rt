@@ -1,29 +1,16 @@
 // A group of several effects: the log term of a point, and those of all its points.
 ghost use Rattle.std.specs.Prelude.{◌*◌, ◌≤◌, length};
 ghost use Rattle.base.specs.Rows.{row};
-ghost use Rattle.stored.specs.Stored.{sparse};
-ghost use Rattle.agq.specs.Gained.{Room, gain_in};
+ghost use Rattle.agq.specs.Gained.{RoomFor, gain_for};
 ghost use Rattle.several.specs.Several.{Grid, group_effects, group_term_in, PointIn, TermsIn};
 
 use crate::trial::trial_gain;
-use family::{CarriedFamily, CarriedLink};
-use model::Shape;
 use points::{delta, group_penalty, log_weight};
+use rule::Given;
 
 // The log term of a point of the group whose k effects begin at s: log weight + delta, the penalty being the sum of t² - û² over the k.
 pub fn group_point(
-    family: CarriedFamily,
-    link: CarriedLink,
-    shape: Shape,
-    theta: &[f64],
-    starts: &[usize],
-    columns: &[usize],
-    values: &[f64],
-    y: &[f64],
-    weights: &[f64],
-    offset: &[f64],
-    n: usize,
-    q: usize,
+    given: &Given<'_>,
     xbeta: usize,
     r: &mut [f64],
     nodes: &[f64],
@@ -38,21 +25,17 @@ pub fn group_point(
     trial: usize,
     m: &mut [f64],
 ) -> f64
-    requires room { Room shape theta.now starts.now columns.now values.now y.now offset.now n q xbeta r.old trial m.old }
-    requires grid { Grid q s k size l u trial nodes.now m.old }
+    requires room { RoomFor given.now xbeta r.old trial m.old }
+    requires grid { Grid given.now.design.q s k size l u trial nodes.now m.old }
     requires size_in_bounds { size ≤ length node_logs.now }
     ensures { PointIn
         (group_term_in
-        (gain_in family link shape theta.now (sparse starts.now columns.now values.now) y.now
-        weights.now offset.now n q xbeta r.old) s k inv_phi nodes.now node_logs.now size
-        (row l (k * k) m.old) (row u q m.old) (row trial q m.old) point)
-        (group_effects s k nodes.now size (row l (k * k) m.old) (row u q m.old) (row trial q m.old) point) n q xbeta
+        (gain_for given.now xbeta r.old) s k inv_phi nodes.now node_logs.now size
+        (row l (k * k) m.old) (row u given.now.design.q m.old) (row trial given.now.design.q m.old) point)
+        (group_effects s k nodes.now size (row l (k * k) m.old) (row u given.now.design.q m.old) (row trial given.now.design.q m.old) point) given.now.design.n given.now.design.q xbeta
         trial r.old r.new m.old m.new result }
 {
-    let dd = trial_gain(
-        family, link, shape, theta, starts, columns, values, y, weights, offset, n, q, xbeta, r,
-        nodes, size, point, s, k, l, u, trial, m,
-    );
+    let dd = trial_gain(given, xbeta, r, nodes, size, point, s, k, l, u, trial, m);
     let at = trial + s;
     let end = at + k;
     let hat = u + s;
@@ -64,18 +47,7 @@ pub fn group_point(
 
 // The log terms of the points 0 to count - 1 of that group into the first places of terms.
 pub fn group_terms(
-    family: CarriedFamily,
-    link: CarriedLink,
-    shape: Shape,
-    theta: &[f64],
-    starts: &[usize],
-    columns: &[usize],
-    values: &[f64],
-    y: &[f64],
-    weights: &[f64],
-    offset: &[f64],
-    n: usize,
-    q: usize,
+    given: &Given<'_>,
     xbeta: usize,
     r: &mut [f64],
     nodes: &[f64],
@@ -91,23 +63,19 @@ pub fn group_terms(
     m: &mut [f64],
     terms: &mut [f64],
 )
-    requires room { Room shape theta.now starts.now columns.now values.now y.now offset.now n q xbeta r.old trial m.old }
-    requires grid { Grid q s k size l u trial nodes.now m.old }
+    requires room { RoomFor given.now xbeta r.old trial m.old }
+    requires grid { Grid given.now.design.q s k size l u trial nodes.now m.old }
     requires size_in_bounds { (size ≤ length node_logs.now) × (count ≤ length terms.old) }
     ensures { TermsIn
         (group_term_in
-        (gain_in family link shape theta.now (sparse starts.now columns.now values.now) y.now
-        weights.now offset.now n q xbeta r.old) s k inv_phi nodes.now node_logs.now size
-        (row l (k * k) m.old) (row u q m.old) (row trial q m.old)) n q xbeta trial count r.old r.new
+        (gain_for given.now xbeta r.old) s k inv_phi nodes.now node_logs.now size
+        (row l (k * k) m.old) (row u given.now.design.q m.old) (row trial given.now.design.q m.old)) given.now.design.n given.now.design.q xbeta trial count r.old r.new
         m.old m.new terms.old terms.new }
 {
-    let mut i = 0;
-    while i < count {
+    for i in 0..count {
         let term = group_point(
-            family, link, shape, theta, starts, columns, values, y, weights, offset, n, q, xbeta,
-            r, nodes, node_logs, size, i, s, k, inv_phi, l, u, trial, m,
+            given, xbeta, r, nodes, node_logs, size, i, s, k, inv_phi, l, u, trial, m,
         );
         terms[i] = term;
-        i += 1;
     }
 }

@@ -1,4 +1,6 @@
 -- A and its factor, from what the four calls leave. Assumes nothing.
+use Rattle.std.specs.Prelude.{Result, Ok, ⊤}
+use Prim.{tt}
 use mathlib.Core.Path.{◌≡◌, refl, sym, ap, ◌∙◌}
 use mathlib.Core.List.{List}
 use Prim.Native.Nat.{ℕ, ◌+◌, ◌*◌, ◌≤◌}
@@ -20,8 +22,6 @@ use Rattle.model.specs.declared.sizes.Shape.{Shape}
 use Rattle.lambda.specs.Product.{right_column_at, system_at}
 use Rattle.factor.specs.Factor.{ldl_rule, ldl_of, LdlLeaves}
 use Rattle.factor.specs.Triangle.{SameBelow, reach}
-use Rattle.factor.specs.declared.pivots.Factored.{Factored}
-use Rattle.factor.specs.declared.pivots.Factored.TheVariants.{Done}
 use Rattle.factor.proofs.LdlTextbook.{ldl_lower, ldl_end_same, ldl_only}
 use Rattle.rule.specs.Solve.{ztwz_of, right_columns, system_of, factor_of}
 use Rattle.solve.specs.Ready.{Whatever}
@@ -30,7 +30,7 @@ use Rattle.solve.specs.System.{SystemLeaves}
 use Rattle.base.proofs.Rows.{grid_wrote}
 
 -- with one factor found, the front of the slice has its lower triangle
-front_lower : (s : ℕ) (A b X F : List Float) (r : Factored) → s * s ≤ length b → LdlLeaves s A b r X → SameBelow s (ldl_of s A b) F → r ≡ Done
+front_lower : (s : ℕ) (A b X F : List Float) (r : Result ⊤ ℕ) → s * s ≤ length b → LdlLeaves s A b r X → SameBelow s (ldl_of s A b) F → r ≡ (Ok tt)
     → SameBelow s (row 0 (s * s) X) F
 unfolding reach ldl_of
 front_lower s A b X F r h d same e i j l m =
@@ -38,7 +38,7 @@ front_lower s A b X F r h d same e i j l m =
     let n : length X ≡ length b = ap length x ∙ length_by (ldl_rule s A) (s * s) b in
     row_at 0 (s * s) X (omega arith) (i * s + j) (omega (arith, row_fits i s s l)) ∙ ap (λ (k : ℕ). X ! k) (zero-add (i * s + j)) ∙ ap (λ (z : List Float). at s z i j) x ∙ same i j l m
 
-module _ (n q : ℕ) (shape : Shape) (theta : List Float) (zt : Sparse) (w t t' t'' m m' m'' S K A : List Float) (r : Factored) where
+module _ (n q : ℕ) (shape : Shape) (theta : List Float) (zt : Sparse) (w t t' t'' m m' m'' S K A : List Float) (r : Result ⊤ ℕ) where
   pub system_made : q ≡ effects_of shape → q * q ≤ length t → q * q ≤ length m → m' ≡ grid_to q q (ztwz_at zt n w) m → S ≡ row 0 (q * q) m'
       → t' ≡ grid_to q q (right_column_at shape theta S) t → K ≡ row 0 (q * q) t' → m'' ≡ grid_to q q (system_at shape theta K) m' → A ≡ row 0 (q * q) m''
       → LdlLeaves q A t' r t'' → Whatever n shape theta zt (SystemLeaves w t t'' m m'' r)

@@ -1,4 +1,5 @@
 -- The normal matrix's factor and β in parts of the work slices. Assumes nothing.
+use Rattle.std.specs.Prelude.{Result, ⊤}
 use mathlib.Core.Path.{◌≡◌, refl, ap, ◌∙◌}
 use mathlib.Core.List.{List}
 use Prim.Native.Nat.{ℕ, ◌+◌, ◌-◌, ◌*◌, ◌≤◌}
@@ -13,13 +14,12 @@ use Rattle.base.proofs.Rows.{part_wrote, row_length}
 use Rattle.factor.specs.Factor.{cholesky_rule, cholesky_of, CholeskyLeaves}
 use Rattle.factor.specs.Substitution.{cholesky_solve}
 use Rattle.factor.specs.Triangle.{SameBelow, reach}
-use Rattle.factor.specs.declared.pivots.Factored.{Factored}
 use Rattle.factor.proofs.CholeskyTextbook.{cholesky_lower, cholesky_end_same}
 use Rattle.factor.proofs.Solved.{cholesky_solve_same}
 use Rattle.solve.specs.Root.{RootOf, SolvedBeta}
 use Rattle.base.proofs.Rows.{part_is}
 
-pub root_made : (b p e : ℕ) (t ys : List Float) (r : Factored) → e ≡ b + p * p → e ≤ length t → length ys ≡ length (mid_of b (e - b) t)
+pub root_made : (b p e : ℕ) (t ys : List Float) (r : Result ⊤ ℕ) → e ≡ b + p * p → e ≤ length t → length ys ≡ length (mid_of b (e - b) t)
     → CholeskyLeaves p (mid_of b (e - b) t) r ys → RootOf b p t (put_mid b (e - b) t ys) r
 unfolding reach cholesky_of
 root_made b p e t ys r eb h l d N n ab =

@@ -1,4 +1,6 @@
 -- One answer, one content: each contract of this crate leaves no choice, but for what stands above the diagonal of a factor, or where a pivot failed. Assumes nothing.
+use Rattle.std.specs.Prelude.{Result, Ok, ⊤}
+use Prim.{tt}
 use mathlib.Core.Path.{◌≡◌, refl, sym, ap, ◌∙◌}
 use mathlib.Core.List.{List, []}
 use mathlib.Core.Logic.{inl, inr, ⊎_elim}
@@ -18,8 +20,6 @@ use Rattle.model.specs.declared.sizes.Shape.{Shape}
 use Rattle.factor.specs.Factor.{cholesky_of}
 use Rattle.factor.specs.Substitution.{ldl_solve, cholesky_solve}
 use Rattle.factor.specs.Triangle.{SameBelow}
-use Rattle.factor.specs.declared.pivots.Factored.{Factored}
-use Rattle.factor.specs.declared.pivots.Factored.TheVariants.{Done}
 use Rattle.rule.specs.Given.{design_of}
 use Rattle.rule.specs.Solve.{system_of, factor_of, side_of}
 use Rattle.solve.specs.Ready.{Whatever, IsSide, SolvedSide}
@@ -66,18 +66,18 @@ effects_into_unique shape theta at q u m x y h d e =
 
 -- ---- factors
 -- two factorisations at b in two slices agree in all that their contracts give: the answer, the lower triangle where there is a factor, and every other place
-pub record FactorsAgree (b s : ℕ) (x y : List Float) (r k : Factored) : Type 0 where
+pub record FactorsAgree (b s : ℕ) (x y : List Float) (r k : Result ⊤ ℕ) : Type 0 where
   pub answer : r ≡ k
-  pub lower : r ≡ Done → SameBelow s (row b (s * s) x) (row b (s * s) y)
+  pub lower : r ≡ (Ok tt) → SameBelow s (row b (s * s) x) (row b (s * s) y)
   pub outside : (i : ℕ) → Out b (s * s) i → x ! i ≡ y ! i
 
-factors_agree : (b s : ℕ) (F t x y : List Float) (r k : Factored) → r ≡ k → (r ≡ Done → SameBelow s (row b (s * s) x) F) → (k ≡ Done → SameBelow s (row b (s * s) y) F) → Only b (s * s) t x
+factors_agree : (b s : ℕ) (F t x y : List Float) (r k : Result ⊤ ℕ) → r ≡ k → (r ≡ (Ok tt) → SameBelow s (row b (s * s) x) F) → (k ≡ (Ok tt) → SameBelow s (row b (s * s) y) F) → Only b (s * s) t x
     → Only b (s * s) t y → FactorsAgree b s x y r k
 factors_agree b s F t x y r k a l m o p =
     record { answer = a; lower = λ e i j g h. l e i j g h ∙ sym (m (sym a ∙ e) i j g h); outside = λ i z. o.kept i z ∙ sym (p.kept i z) }
 
 -- `factor_system`: also one content of the matrices
-pub factor_system_unique : (n : ℕ) (shape : Shape) (theta : List Float) (zt : Sparse) (w t x y m a b : List Float) (r k : Factored) → effects_of shape * effects_of shape ≤ length m
+pub factor_system_unique : (n : ℕ) (shape : Shape) (theta : List Float) (zt : Sparse) (w t x y m a b : List Float) (r k : Result ⊤ ℕ) → effects_of shape * effects_of shape ≤ length m
     → Whatever n shape theta zt (SystemLeaves w t x m a r) → Whatever n shape theta zt (SystemLeaves w t y m b k) → FactorsAgree 0 (effects_of shape) x y r k × (a ≡ b)
 factor_system_unique n shape theta zt w t x y m a b r k h d e =
     let q = effects_of shape in
@@ -87,7 +87,7 @@ factor_system_unique n shape theta zt w t x y m a b r k h d e =
     (factors_agree 0 q (factor_of D (system_of D w)) t x y r k (one_value f.end g.end) f.lower g.lower f.frame g.frame, wrote_unique 0 (q * q) (system_of D w) m a b (omega arith) f.system g.system)
 
 -- `factor_normal`
-pub factor_normal_unique : (b p : ℕ) (t x y : List Float) (r k : Factored) → b + p * p ≤ length t → RootOf b p t x r → RootOf b p t y k → FactorsAgree b p x y r k
+pub factor_normal_unique : (b p : ℕ) (t x y : List Float) (r k : Result ⊤ ℕ) → b + p * p ≤ length t → RootOf b p t x r → RootOf b p t y k → FactorsAgree b p x y r k
 factor_normal_unique b p t x y r k h d e =
     let N = row b (p * p) t in
     let f = d N (omega (arith, row_length b (p * p) t h)) (λ i j _ _. refl) in

@@ -8,6 +8,7 @@ use Rattle.factor.specs.Substitution.{ldl_solve}
 use Rattle.factor.specs.Triangle.{SameBelow}
 use Rattle.rule.specs.Given.{Design, design_of, q_of}
 use Rattle.rule.specs.Solve.{side_of}
+use Rattle.stored.specs.declared.lent.Sparse.{Sparse as LentSparse}
 
 -- the shape has q effects, theta has its numbers, and Z' has a good row for each effect over n observations
 pub record Ready (shape : Shape) (theta : List Float) (starts columns : List ℕ) (values : List Float) (q n : ℕ) : Type 0 where
@@ -15,6 +16,10 @@ pub record Ready (shape : Shape) (theta : List Float) (starts columns : List ℕ
   pub effects : q ≡ effects_of shape
   pub numbers : theta_length shape ≤ length theta
   pub rows : Rows starts columns values q n
+
+-- the same of Z' as it is lent
+abbrev pub ReadyIn : Shape → List Float → LentSparse → (q n : ℕ) → Type 0
+ReadyIn shape theta z q n = Ready shape theta z.starts.now z.columns.now z.values.now q n
 
 -- P holds of the design of these effects, whatever X and the offset are
 abbrev pub Whatever : ℕ → Shape → List Float → Sparse → (Design → Type 0) → Type 0

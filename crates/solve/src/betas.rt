@@ -2,10 +2,8 @@
 ghost use Rattle.std.specs.Prelude.{◌+◌, ◌*◌, ◌≤◌, length};
 ghost use Rattle.solve.specs.Root.{RootOf, SolvedBeta};
 
-use factor::Factored;
-
 // Cholesky of the normal matrix at `normal` of t, over it.
-pub fn factor_normal(p: usize, normal: usize, t: &mut [f64]) -> Factored
+pub fn factor_normal(p: usize, normal: usize, t: &mut [f64]) -> Result<(), usize>
     requires { normal + p * p ≤ length t.old }
     ensures { RootOf normal p t.old t.new result }
 {

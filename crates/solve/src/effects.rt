@@ -2,13 +2,14 @@
 ghost use Rattle.std.specs.Prelude.{◌≡◌, true, ◌+◌, ◌*◌, ◌≤◌, length};
 ghost use Rattle.base.specs.List.{build};
 ghost use Rattle.base.specs.Rows.{row, Wrote};
-ghost use Rattle.base.specs.Sparse.{Rows};
 ghost use Rattle.linear.specs.Product.{effect_at};
 ghost use Rattle.model.specs.Shape.{effects_of, theta_length, good_shape};
-ghost use Rattle.stored.specs.Stored.{sparse, z_times_at};
+ghost use Rattle.stored.specs.Stored.{z_times_at};
 ghost use Rattle.solve.specs.Effects.{EffectsLeft};
+ghost use Rattle.stored.specs.Lent.{sparse_in, RowsIn};
 
 use model::Shape;
+use stored::Sparse;
 
 // u into the q places of t from spare on: wy less each solved column times its β, which stand in m.
 pub fn solve_u(
@@ -61,23 +62,13 @@ pub fn effects_into(
 }
 
 // Zb into the n places of r from raw on, the b of m.
-pub fn zb_into(
-    starts: &[usize],
-    columns: &[usize],
-    values: &[f64],
-    q: usize,
-    n: usize,
-    b: usize,
-    m: &[f64],
-    raw: usize,
-    r: &mut [f64],
-)
-    requires rows { Rows starts.now columns.now values.now q n }
+pub fn zb_into(zt: &Sparse<'_>, q: usize, n: usize, b: usize, m: &[f64], raw: usize, r: &mut [f64])
+    requires rows { RowsIn zt.now q n }
     requires q_in_bounds { (b + q ≤ length m.now) × (raw + n ≤ length r.old) }
-    ensures { Wrote raw n (build (z_times_at (sparse starts.now columns.now values.now) q (row b q m.now)) n) r.old
+    ensures { Wrote raw n (build (z_times_at (sparse_in zt.now) q (row b q m.now)) n) r.old
         r.new }
 {
     let e = b + q;
     let end = raw + n;
-    stored::z_times(starts, columns, values, q, n, &m[b..e], &mut r[raw..end]);
+    stored::z_times(zt, q, n, &m[b..e], &mut r[raw..end]);
 }

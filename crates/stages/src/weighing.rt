@@ -29,12 +29,10 @@ pub fn targets_into(
         ≡ fill_at working n (target_at offset.now z.now)
         (fill_at weighted n (product_at w.now (build (target_at offset.now z.now) n)) r.old) }
 {
-    let mut i = 0;
-    while i < n {
+    for i in 0..n {
         let target = less_offset(offset, i, z[i]);
         r[weighted + i] = w[i] * target;
         r[working + i] = target;
-        i += 1;
     }
 }
 

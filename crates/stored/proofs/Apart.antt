@@ -3,7 +3,9 @@ use mathlib.Core.Path.{◌≡◌, refl, sym, ◌∙◌}
 use mathlib.Core.List.{List}
 use mathlib.Core.Logic.{⊎_elim}
 use mathlib.Core.Bool.{Bool, true, false, ◌&&◌, and-false}
-use Prim.Native.Nat.{ℕ, zero, suc, ◌+◌, ◌-◌, ◌<◌, ◌≤◌}
+use Prim.Native.Nat.{ℕ, zero, suc, ◌+◌, ◌-◌, ◌<◌, ◌≤◌, min}
+use Rattle.std.specs.Prelude.{Result, Ok, Err}
+use Rattle.std.specs.Result.{OkIff, result_unwrap_or}
 use native.Mathlib.Nat.{sub_self, le_refl, mod-lt, not-suc-le-zero}
 use native.Mathlib.Numerals.{add-one}
 use native.Mathlib.Omega.{arith}
@@ -36,6 +38,18 @@ lesser_below a b =
     (λ (l : b < a). let e : b ≡ lesser a b = lesser_second a b l in (omega arith, omega arith))
     (λ (l : a ≤ b). let e : a ≡ lesser a b = lesser_first a b l in (omega arith, omega arith))
     (lt_or_ge b a)
+
+pub min_lesser : (a b : ℕ) → min a b ≡ lesser a b
+min_lesser a b =
+    ⊎_elim
+    (λ (l : b < a). let e : min a b ≡ b = omega arith in e ∙ lesser_second a b l)
+    (λ (l : a ≤ b). let e : min a b ≡ a = omega arith in e ∙ lesser_first a b l)
+    (lt_or_ge b a)
+
+-- a number that is a byte, or else 255
+pub byte_lesser : {E : Type 0} → (r : Result ℕ E) (x : ℕ) → OkIff r (x < 256) x → result_unwrap_or r 255 ≡ lesser 255 x
+byte_lesser (Ok y) x h = let e : y ≡ min 255 x = omega (arith, h.0, h.1) in e ∙ min_lesser 255 x
+byte_lesser (Err e) x h = let e' : 255 ≡ min 255 x = omega (arith, h) in e' ∙ min_lesser 255 x
 
 -- ---- the least mark of a row
 pub least_none : (columns marks : List ℕ) (b : ℕ) → 255 ≡ least_mark columns b (b - b) marks

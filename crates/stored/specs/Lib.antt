@@ -2,3 +2,4 @@
 pub mod Stored
 pub mod Symmetric
 pub mod Marks
+pub mod Lent

@@ -2,10 +2,12 @@
 #![tactic(auto)]
 
 mod effects;
+mod lent;
 mod marks;
 mod side;
 mod weighted;
 
 pub use effects::z_times;
+pub use lent::Sparse;
 pub use side::zt_times;
 pub use weighted::ztwz;

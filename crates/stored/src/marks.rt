@@ -2,24 +2,11 @@
 ghost use Rattle.std.specs.Prelude.{◌≡◌, ◌-◌, ◌≤◌, length};
 ghost use Rattle.stored.specs.Marks.{lesser, least_mark, lowered};
 
-// The lesser of two marks.
-fn lesser_mark(a: u8, b: u8) -> u8
-    ensures { result ≡ lesser a b }
-{
-    if b < a {
-        return b;
-    }
-    a
-}
-
 // A number as a mark, which is a byte: 255 where it is above that.
 pub fn mark_of(x: usize) -> u8
     ensures { result ≡ lesser 255 x }
 {
-    if x < 255 {
-        return x as u8;
-    }
-    255
+    u8::try_from(x).unwrap_or(u8::MAX)
 }
 
 // The least mark of the observations of the entries from begin to end.
@@ -27,12 +14,10 @@ pub fn least_mark(columns: &[usize], begin: usize, end: usize, marks: &[u8]) -> 
     requires { (begin ≤ end) × (end ≤ length columns.now) × (length marks.now ≡ 512) }
     ensures { result ≡ least_mark columns.now begin (end - begin) marks.now }
 {
-    let mut least = 255;
-    let mut k = begin;
-    while k < end {
+    let mut least = u8::MAX;
+    for k in begin..end {
         let place = columns[k] % 512;
-        least = lesser_mark(least, marks[place]);
-        k += 1;
+        least = least.min(marks[place]);
     }
     least
 }
@@ -42,11 +27,8 @@ pub fn lower_marks(columns: &[usize], begin: usize, end: usize, x: u8, marks: &m
     requires { (begin ≤ end) × (end ≤ length columns.now) × (length marks.old ≡ 512) }
     ensures { marks.new ≡ lowered columns.now begin x (end - begin) marks.old }
 {
-    let mut k = begin;
-    while k < end {
+    for k in begin..end {
         let place = columns[k] % 512;
-        let mark = lesser_mark(marks[place], x);
-        marks[place] = mark;
-        k += 1;
+        marks[place] = marks[place].min(x);
     }
 }

@@ -1,4 +1,6 @@
 -- What a step leaves as it was, and that the work slices still hold the mode. Assumes nothing.
+use Rattle.quadrature.specs.declared.orders.Decline.{Decline}
+use Rattle.std.specs.Prelude.{Result, ⊤}
 use mathlib.Core.Path.{◌≡◌, refl, ◌∙◌}
 use mathlib.Core.List.{List}
 use mathlib.Core.Logic.{inl, inr, ⊎_elim}
@@ -24,7 +26,6 @@ use Rattle.rule.specs.Stop.{Mode}
 use Rattle.agq.specs.Gained.{Room}
 use Rattle.base.proofs.TwoRows.{two_none, two_first, two_second, two_trans, two_row}
 use Rattle.scale.specs.Tells.{ScaleRoom, ScaleLeaves}
-use Rattle.scale.specs.declared.scales.Scaling.{Scaling}
 use Rattle.scale.proofs.SectionCopied.{square_within}
 use Rattle.sums.specs.Stands.{Roomy, Stands}
 use Rattle.sums.specs.Summed.{StepFrame}
@@ -40,7 +41,7 @@ frame_trans a b =
     record { rows_only = only_trans a.rows_only b.rows_only; matrices_only = two_trans a.matrices_only b.matrices_only; terms_only = only_trans a.terms_only b.terms_only }
 
 -- the scale of a block
-pub frame_scaled : (n p q s k : ℕ) (r m m' t t' : List Float) (a : Scaling) → Sizes n p q → s + k ≤ q → ScaleLeaves q s k m m' t t' a → StepFrame n p q r r m m' t t'
+pub frame_scaled : (n p q s k : ℕ) (r m m' t t' : List Float) (a : Result ⊤ Decline) → Sizes n p q → s + k ≤ q → ScaleLeaves q s k m m' t t' a → StepFrame n p q r r m m' t t'
 frame_scaled n p q s k r m m' t t' a z h l =
     record {
       rows_only = only_none (point_row n) (n + n) r;

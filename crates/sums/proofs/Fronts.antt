@@ -1,4 +1,5 @@
 -- What every sum has: its terms at the front of the terms, the rule's nodes, the marks, and a copy of û. Assumes nothing.
+use Rattle.std.specs.Prelude.{Ok, Err}
 use mathlib.Core.Path.{◌≡◌, refl, sym, ap, ◌∙◌}
 use mathlib.Core.List.{List}
 use mathlib.Core.Bool.{true, false}
@@ -38,7 +39,6 @@ use Rattle.agq_rule.specs.Point.{LogRow}
 use Rattle.agq_rule.specs.Steps.{Integrated}
 use Rattle.sums.specs.Stands.{Stands}
 use Rattle.sums.specs.Summed.{summed_by, group_sum_of, tells_then, StepFrame, SumLeft, GroupLeft}
-use Rattle.sums.specs.declared.answers.Summed.TheVariants.{LogSum, NoSum}
 use Rattle.sums.specs.declared.answers.GroupSum.{GroupSum}
 
 -- what was filled from the front on
@@ -159,10 +159,10 @@ module _ (t : List Float) (count : ℕ) (s : Float) (h : count ≤ length t) (e 
   front : log_sum_exp (row 0 count t) ≡ s
   front = sym (e ∙ ap log_sum_exp (front_is count t))
 
-  pub sum_found : finite s ≡ true → record { sum = LogSum s; points = count } ≡ group_sum_of (row 0 count t)
+  pub sum_found : finite s ≡ true → record { sum = Ok s; points = count } ≡ group_sum_of (row 0 count t)
   unfolding group_sum_of summed_by
   sum_found f = rw (front, f, row_length 0 count t (omega arith)) refl
 
-  pub no_sum_found : finite s ≡ false → record { sum = NoSum decline.Sum; points = count } ≡ group_sum_of (row 0 count t)
+  pub no_sum_found : finite s ≡ false → record { sum = Err decline.Sum; points = count } ≡ group_sum_of (row 0 count t)
   unfolding group_sum_of summed_by
   no_sum_found f = rw (front, f, row_length 0 count t (omega arith)) refl

@@ -1,4 +1,5 @@
 -- The log terms of a group with one effect, as they stand at the front of the terms, are the rule's. Assumes nothing.
+use Rattle.std.specs.Prelude.{Result, Ok, Err}
 use mathlib.Core.Path.{◌≡◌, refl, ◌∙◌}
 use mathlib.Core.List.{List}
 use Prim.Native.Nat.{ℕ, ◌+◌, ◌*◌, ◌<◌, ◌≤◌}
@@ -29,14 +30,11 @@ use Rattle.agq_rule.specs.Point.{LogRow}
 use Rattle.agq_rule.specs.Term.{inverse_phi, one_term}
 use Rattle.points.specs.Gain.{mark_at}
 use Rattle.scale.specs.Tells.{entry_from, one_scale_of}
-use Rattle.scale.specs.declared.sigmas.OneScale.{OneScale}
-use Rattle.scale.specs.declared.sigmas.OneScale.TheVariants.{Sigma, NoSigma}
 use Rattle.agq.specs.One.{one_term_at_node, OnesIn}
 use Rattle.agq.proofs.OneRuled.{one_ruled}
 use Rattle.sums.specs.Stands.{Stands, given_with}
 use Rattle.sums.specs.Summed.{group_sum_of, SumLeft, GroupLeft}
 use Rattle.sums.specs.Rules.{one_terms, one_rule}
-use Rattle.sums.specs.declared.answers.Summed.TheVariants.{NoSum}
 use Rattle.sums.specs.declared.answers.GroupSum.{GroupSum}
 use Rattle.sums.proofs.Framed.{frame_none, frame_terms}
 use Rattle.sums.proofs.Fronts.{copied_only, copied_u, copied_trial, marked_row, marked_fixed, marked_devs, sum_made, group_of_sum}
@@ -96,7 +94,7 @@ module _ (family : CarriedFamily) (link : CarriedLink) (shape : Shape) (theta : 
       (frame_terms n p q mark xbeta trial size f r r1 r2 m m1 m2 t t' em ex et few wrote.only made.in_r (rw copied (copied_only n p q u trial r m t lent eu et)) (only_wide trial (q + q) trial (q + q + q) (omega arith) (omega arith) made.in_m) made.terms)
 
 -- ---- a group, from the test of its diagonal entry
-module _ (family : CarriedFamily) (link : CarriedLink) (shape : Shape) (theta : List Float) (zt : Sparse) (y weights offset : List Float) (n p q : ℕ) (o : Order) (g : ℕ) (phi : Float) (r m t : List Float) (s : OneScale)
+module _ (family : CarriedFamily) (link : CarriedLink) (shape : Shape) (theta : List Float) (zt : Sparse) (y weights offset : List Float) (n p q : ℕ) (o : Order) (g : ℕ) (phi : Float) (r m t : List Float) (s : Result Float Decline)
     (eq : q ≡ effects_of shape) (es : s ≡ one_scale_of (at q (row system_place (q * q) m) g g)) where
   abbrev G : List Float → Given
   G = given_with family link shape theta zt y weights offset n p
@@ -104,10 +102,10 @@ module _ (family : CarriedFamily) (link : CarriedLink) (shape : Shape) (theta : 
   entry : (x : List Float) (M : Mode) → Stands (G x) M r m → s ≡ one_scale_of (at (effects_of shape) M.system g g)
   entry x M st = es ∙ rw (eq, st.system) refl
 
-  pub group_declined : (d : Decline) → s ≡ NoSigma d → GroupLeft G (one_rule phi o g) n p q (size_of o) r r m m t t (record { sum = NoSum d; points = 0 })
+  pub group_declined : (d : Decline) → s ≡ Err d → GroupLeft G (one_rule phi o g) n p q (size_of o) r r m m t t (record { sum = Err d; points = 0 })
   group_declined d e =
       record { told = λ x M st rest. one_declined (G x) M phi o g (at (effects_of shape) M.system g g) s d rest (entry x M st) e; few = omega arith; frame = frame_none n p q r m t }
 
-  pub group_summed : (sigma : Float) (r' m' t' : List Float) (a : GroupSum) → s ≡ Sigma sigma → SumLeft G (one_terms phi o g sigma) n p q (size_of o) r r' m m' t t' a → GroupLeft G (one_rule phi o g) n p q (size_of o) r r' m m' t t' a
+  pub group_summed : (sigma : Float) (r' m' t' : List Float) (a : GroupSum) → s ≡ Ok sigma → SumLeft G (one_terms phi o g sigma) n p q (size_of o) r r' m m' t t' a → GroupLeft G (one_rule phi o g) n p q (size_of o) r r' m m' t t' a
   group_summed sigma r' m' t' a e left =
       group_of_sum G (one_terms phi o g sigma) (one_rule phi o g) n p q (size_of o) r r' m m' t t' a left (λ x M st rest h. one_told (G x) M phi o g (at (effects_of shape) M.system g g) s sigma a rest (entry x M st) e h)

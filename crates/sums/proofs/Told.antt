@@ -1,4 +1,5 @@
 -- The rule's words for what the sums answer: points, a log sum or declining, then the rest. Assumes nothing.
+use Rattle.std.specs.Prelude.{Result, Ok, Err}
 use mathlib.Core.Path.{◌≡◌, refl, sym, ap, ◌∙◌}
 use mathlib.Core.List.{List, ◌∷◌, ◌++◌, append-nil}
 use mathlib.Core.Bool.{Bool, true, false}
@@ -19,14 +20,9 @@ use Rattle.rule.specs.Stop.{Mode}
 use Rattle.agq_rule.specs.Scale.{sigma_of, bad_diagonal}
 use Rattle.agq_rule.specs.Term.{one_term}
 use Rattle.agq_rule.specs.Steps.{Integrated, answers, points_before, after_sum, sum_then, terms_then, after_diagonal, one_group}
-use Rattle.agq_rule.specs.declared.answers.Integral.{Integral}
-use Rattle.agq_rule.specs.declared.answers.Integral.TheVariants.{Declined}
 use Rattle.scale.specs.Tells.{one_scale_of}
-use Rattle.scale.specs.declared.sigmas.OneScale.{OneScale}
-use Rattle.scale.specs.declared.sigmas.OneScale.TheVariants.{Sigma, NoSigma}
 use Rattle.scale.proofs.SigmaFound.{sigma_told, none_told}
 use Rattle.sums.specs.Summed.{carry, summed_by, group_sum_of, tells_then, integrated_of}
-use Rattle.sums.specs.declared.answers.Summed.TheVariants.{NoSum}
 use Rattle.sums.specs.declared.answers.GroupSum.{GroupSum}
 
 -- ---- points
@@ -56,20 +52,20 @@ unfolding terms_then sum_then group_sum_of
 terms_told terms rest = ap (points_before (length terms)) (sum_told (finite (log_sum_exp terms)) (log_sum_exp terms) rest)
 
 -- without a scale there is no point
-pub declined_told : (d : Decline) (rest : Float → Integrated) → answers (Declined d) ≡ tells_then (record { sum = NoSum d; points = 0 }) rest
+pub declined_told : (d : Decline) (rest : Float → Integrated) → answers (Err d) ≡ tells_then (record { sum = Err d; points = 0 }) rest
 unfolding carry answers points_before
 declined_told d rest = refl
 
 -- ---- one effect
 
-pub one_declined : (G : Given) (M : Mode) (phi : Float) (o : Order) (g : ℕ) (a : Float) (s : OneScale) (d : Decline) (rest : Float → Integrated) → s ≡ one_scale_of a → s ≡ NoSigma d
-    → one_group G M phi o g a rest ≡ tells_then (record { sum = NoSum d; points = 0 }) rest
+pub one_declined : (G : Given) (M : Mode) (phi : Float) (o : Order) (g : ℕ) (a : Float) (s : Result Float Decline) (d : Decline) (rest : Float → Integrated) → s ≡ one_scale_of a → s ≡ Err d
+    → one_group G M phi o g a rest ≡ tells_then (record { sum = Err d; points = 0 }) rest
 unfolding one_group after_diagonal
 one_declined G M phi o g a s d rest e f =
     let z : (bad_diagonal a ≡ true) × (d ≡ Diagonal) = none_told a d (sym f ∙ e) in
     rw (z.0, z.1) (declined_told Diagonal rest)
 
-pub one_told : (G : Given) (M : Mode) (phi : Float) (o : Order) (g : ℕ) (a : Float) (s : OneScale) (sigma : Float) (A : GroupSum) (rest : Float → Integrated) → s ≡ one_scale_of a → s ≡ Sigma sigma
+pub one_told : (G : Given) (M : Mode) (phi : Float) (o : Order) (g : ℕ) (a : Float) (s : Result Float Decline) (sigma : Float) (A : GroupSum) (rest : Float → Integrated) → s ≡ one_scale_of a → s ≡ Ok sigma
     → A ≡ group_sum_of (build (one_term G M phi o g sigma) (size_of o)) → one_group G M phi o g a rest ≡ tells_then A rest
 unfolding one_group after_diagonal
 one_told G M phi o g a s sigma A rest e f h =
@@ -80,6 +76,6 @@ one_told G M phi o g a s sigma A rest e f h =
 -- ---- a step's answer
 
 -- points, then the answer
-pub step_told : (i : ℕ) (b : Integral) → points_before i (answers b) ≡ integrated_of (record { answer = b; points = i })
+pub step_told : (i : ℕ) (b : Result (Float × Order) Decline) → points_before i (answers b) ≡ integrated_of (record { answer = b; points = i })
 unfolding points_before answers integrated_of
 step_told i b = λ k. record { answer = b; items = append-nil (replicate i a_point) k }

@@ -1,4 +1,7 @@
 -- One answer, where the work slices hold a mode: what the steps and the groups answer is decided by their contracts. Assumes nothing.
+use Rattle.base.specs.Number.{zero_f}
+use Rattle.quadrature.specs.declared.orders.Decline.{Decline}
+use Rattle.std.specs.Prelude.{Result, Ok, Err}
 use mathlib.Core.Path.{◌≡◌, sym, ap, ◌∙◌}
 use mathlib.Core.List.{List, append-nil}
 use Prim.Native.Nat.{ℕ}
@@ -7,15 +10,13 @@ use lib.ListN.{length, replicate, length-replicate}
 use lib.Ieee.{Float}
 use Rattle.base.proofs.Unique.{one_value}
 use Rattle.model.specs.Items.{a_point}
+use Rattle.quadrature.specs.declared.orders.Order.{Order}
 use Rattle.quadrature.specs.declared.orders.Order.TheVariants.{Three}
 use Rattle.rule.specs.Given.{Given}
 use Rattle.rule.specs.Stop.{Mode}
 use Rattle.agq_rule.specs.Steps.{Integrated, answers, points_before}
-use Rattle.agq_rule.specs.declared.answers.Integral.TheVariants.{Deviance}
 use Rattle.sums.specs.Stands.{Stands}
 use Rattle.sums.specs.Summed.{carry, tells_then, integrated_of, SumLeft, GroupLeft, StepLeft}
-use Rattle.sums.specs.declared.answers.Summed.{Summed}
-use Rattle.sums.specs.declared.answers.Summed.TheVariants.{LogSum, NoSum}
 use Rattle.sums.specs.declared.answers.GroupSum.{GroupSum}
 use Rattle.sums.specs.declared.answers.Quadrature.{Quadrature}
 
@@ -43,19 +44,23 @@ sum_unique G term n p q count r r1 r2 m m1 m2 t t1 t2 a b x M s u v = one_value 
 -- ---- a group, with a rest that shows the log sum
 
 shown : Float → Integrated
-shown s = answers (Deviance s Three)
+shown s = answers (Ok (s, Three))
 
-same_sum : (s v : Summed) → (carry s shown).answer ≡ (carry v shown).answer → s ≡ v
+abbrev sum_in : Result (Float × Order) Decline → Float
+sum_in (Ok (s, o)) = s
+sum_in (Err d) = zero_f
+
+same_sum : (s v : Result Float Decline) → (carry s shown).answer ≡ (carry v shown).answer → s ≡ v
 unfolding carry shown answers
-same_sum (LogSum s) (LogSum v) e = let z : s ≡ v = cc in ap LogSum z
-same_sum (LogSum s) (NoSum d) e = let z : ◌≡◌ {A = ℕ} 0 1 = cc in absurd (omega arith)
-same_sum (NoSum d) (LogSum s) e = let z : ◌≡◌ {A = ℕ} 0 1 = cc in absurd (omega arith)
-same_sum (NoSum d) (NoSum f) e = let z : d ≡ f = cc in ap NoSum z
+same_sum (Ok s) (Ok v) e = let z : s ≡ v = ap sum_in e in ap Ok z
+same_sum (Ok s) (Err d) e = let z : ◌≡◌ {A = ℕ} 0 1 = cc in absurd (omega arith)
+same_sum (Err d) (Ok s) e = let z : ◌≡◌ {A = ℕ} 0 1 = cc in absurd (omega arith)
+same_sum (Err d) (Err f) e = let z : d ≡ f = cc in ap Err z
 
-shown_points : (n : ℕ) (s : Summed) → length (points_before n (carry s shown)).items ≡ n
+shown_points : (n : ℕ) (s : Result Float Decline) → length (points_before n (carry s shown)).items ≡ n
 unfolding points_before carry shown answers
-shown_points n (LogSum s) = ap length (append-nil (replicate n a_point)) ∙ points_many n
-shown_points n (NoSum d) = ap length (append-nil (replicate n a_point)) ∙ points_many n
+shown_points n (Ok s) = ap length (append-nil (replicate n a_point)) ∙ points_many n
+shown_points n (Err d) = ap length (append-nil (replicate n a_point)) ∙ points_many n
 
 same_told : (a b : GroupSum) → tells_then a shown ≡ tells_then b shown → (a.sum ≡ b.sum) × (a.points ≡ b.points)
 unfolding points_before

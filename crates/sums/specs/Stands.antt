@@ -12,6 +12,7 @@ use Rattle.linear.specs.Product.{x_beta_at}
 use Rattle.model.specs.declared.sizes.Shape.{Shape}
 use Rattle.rule.specs.Given.{Given, n_of, q_of, design_of, given_of}
 use Rattle.rule.specs.Stop.{Mode}
+use Rattle.rule.specs.declared.given.Given.{Given as LentGiven}
 use Rattle.solve.specs.Ready.{Ready}
 use Rattle.working.specs.Optional.{Optional}
 
@@ -21,6 +22,12 @@ pub record Roomy (n p q : ℕ) (shape : Shape) (theta : List Float) (starts colu
   pub lent : WorkRoom n p q r m t
   pub offset_fits : Optional n offset
   pub y_long : n ≤ length y
+
+-- the same of what is given as it is lent
+abbrev pub RoomyFor : LentGiven → (r m t : List Float) → Type 0
+RoomyFor g r m t =
+    Roomy g.design.n g.design.p g.design.q g.design.shape g.design.theta.now g.design.zt.starts.now g.design.zt.columns.now g.design.zt.values.now
+    g.design.offset.now g.y.now r m t
 
 -- what is given, X being x
 abbrev pub given_with : CarriedFamily → CarriedLink → Shape → (theta : List Float) → Sparse → (y weights offset : List Float) → (n p : ℕ) → (x : List Float) → Given

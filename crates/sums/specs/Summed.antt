@@ -1,4 +1,6 @@
 -- What the sum of a group tells of the written rule, and what it leaves. Document 01, "The inner fit", on stopping. Assumes nothing.
+use Rattle.quadrature.specs.declared.orders.Decline.{Decline}
+use Rattle.std.specs.Prelude.{Result, Ok, Err}
 use Rattle.std.specs.Prelude.{◌≡◌, List, Bool, true, false, ℕ, ◌+◌, ◌*◌, ◌≤◌, length, replicate, Float}
 use Rattle.base.specs.Number.{finite}
 use Rattle.base.specs.List.{build}
@@ -11,23 +13,20 @@ use Rattle.quadrature.specs.declared.orders.Decline.TheVariants as decline
 use Rattle.quadrature.specs.LogSum.{log_sum_exp}
 use Rattle.rule.specs.Given.{Given}
 use Rattle.rule.specs.Stop.{Mode}
-use Rattle.agq_rule.specs.declared.answers.Integral.TheVariants.{Declined}
 use Rattle.agq_rule.specs.Steps.{Integrated, answers, points_before}
 use Rattle.sums.specs.Stands.{Stands}
-use Rattle.sums.specs.declared.answers.Summed.{Summed}
-use Rattle.sums.specs.declared.answers.Summed.TheVariants.{LogSum, NoSum}
 use Rattle.sums.specs.declared.answers.GroupSum.{GroupSum}
 use Rattle.sums.specs.declared.answers.Quadrature.{Quadrature}
 
 -- the rest goes on from a log sum; without one the step declines
-unfoldable pub carry : Summed → (Float → Integrated) → Integrated
-carry (LogSum s) rest = rest s
-carry (NoSum d) rest = answers (Declined d)
+unfoldable pub carry : Result Float Decline → (Float → Integrated) → Integrated
+carry (Ok s) rest = rest s
+carry (Err d) rest = answers (Err d)
 
 -- by the test of a log sum
-unfoldable pub summed_by : Bool → Float → Summed
-summed_by false s = NoSum decline.Sum
-summed_by true s = LogSum s
+unfoldable pub summed_by : Bool → Float → Result Float Decline
+summed_by false s = Err decline.Sum
+summed_by true s = Ok s
 
 -- the log sum of terms, each of them a point
 unfoldable pub group_sum_of : List Float → GroupSum

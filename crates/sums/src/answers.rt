@@ -4,28 +4,20 @@ ghost use Rattle.base.specs.Rows.{row};
 ghost use Rattle.agq_rule.specs.Term.{inverse_phi};
 ghost use Rattle.sums.specs.Summed.{group_sum_of};
 
-use agq_rule::Integral;
 use base::EPSILON;
-use quadrature::{Decline, log_sum_exp};
-
-// A log sum, or why there is none.
-#[derive(Clone, Copy)]
-pub enum Summed {
-    LogSum(f64),
-    NoSum(Decline),
-}
+use quadrature::{Decline, Order, log_sum_exp};
 
 // The log sum of a group, and how many points it took.
 #[derive(Clone, Copy)]
 pub struct GroupSum {
-    pub sum: Summed,
+    pub sum: Result<f64, Decline>,
     pub points: usize,
 }
 
 // What a quadrature step answers, and how many points it took.
 #[derive(Clone, Copy)]
 pub struct Quadrature {
-    pub answer: Integral,
+    pub answer: Result<(f64, Order), Decline>,
     pub points: usize,
 }
 
@@ -42,10 +34,8 @@ pub fn power(size: usize, k: usize) -> usize
     ensures { result ≡ size ^ k }
 {
     let mut power: usize = 1;
-    let mut i = 0;
-    while i < k {
+    for i in 0..k {
         power = power * size;
-        i += 1;
     }
     power
 }
@@ -58,12 +48,12 @@ pub fn log_sum(t: &[f64], count: usize) -> GroupSum
     let s = log_sum_exp(&t[0..count]);
     if base::is_finite(s) {
         return GroupSum {
-            sum: Summed::LogSum(s),
+            sum: Ok(s),
             points: count,
         };
     }
     GroupSum {
-        sum: Summed::NoSum(Decline::Sum),
+        sum: Err(Decline::Sum),
         points: count,
     }
 }

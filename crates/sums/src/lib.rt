@@ -4,5 +4,5 @@
 mod answers;
 mod one;
 
-pub use answers::{GroupSum, Quadrature, Summed, inverse_phi, log_sum, power};
+pub use answers::{GroupSum, Quadrature, inverse_phi, log_sum, power};
 pub use one::one_group;

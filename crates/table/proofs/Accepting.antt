@@ -1,4 +1,5 @@
 -- Each line of the table: which refusal is given exactly when, and what an accepted call has. Assumes nothing.
+use Rattle.std.specs.Prelude.{Result, Ok, Err}
 use mathlib.Core.Path.{◌≡◌, refl, sym, ap, ◌∙◌}
 use mathlib.Core.Bool.{Bool, true, false, ◌&&◌}
 use mathlib.Core.List.{List}
@@ -23,62 +24,60 @@ use Rattle.model.specs.Inputs.{Inputs}
 use Rattle.table.specs.Table.{refuse_unless, table_of}
 use Rattle.table.specs.Facts.{Sound}
 use Rattle.table.specs.declared.verdicts.LentLengths.{LentLengths}
-use Rattle.table.specs.declared.verdicts.Verdict.{Verdict}
-use Rattle.table.specs.declared.verdicts.Verdict.TheVariants.{Accepted, Refused}
 use Rattle.table.proofs.Meant.{count_fits, inputs_fit, results_fit, work_fits, numbers_finite, list_in_range, start_fits_lem}
 
 -- ---- the lines, from the first to the last
 module _ (r : ℕ) (t : Settings) (s : Shape) (I : Inputs) (L : LentLengths) where
-  pub line_1 : good_sizes t s ≡ false → table_of r t s I L ≡ Refused OutOfRange
+  pub line_1 : good_sizes t s ≡ false → table_of r t s I L ≡ Err OutOfRange
   unfolding table_of refuse_unless
   line_1 a = rw a refl
 
   module _ (sizes : good_sizes t s ≡ true) where
-    pub line_8 : good_count r ≡ false → table_of r t s I L ≡ Refused Responses
+    pub line_8 : good_count r ≡ false → table_of r t s I L ≡ Err Responses
     unfolding table_of refuse_unless
     line_8 a = rw (sizes, a) refl
 
     module _ (count : good_count r ≡ true) where
-      pub line_2_inputs : good_inputs r t s I ≡ false → table_of r t s I L ≡ Refused Lengths
+      pub line_2_inputs : good_inputs r t s I ≡ false → table_of r t s I L ≡ Err Lengths
       unfolding table_of refuse_unless
       line_2_inputs a = rw (sizes, count, a) refl
 
       module _ (lent : good_inputs r t s I ≡ true) where
-        pub line_2_results : good_results r t L ≡ false → table_of r t s I L ≡ Refused Lengths
+        pub line_2_results : good_results r t L ≡ false → table_of r t s I L ≡ Err Lengths
         unfolding table_of refuse_unless
         line_2_results a = rw (sizes, count, lent, a) refl
 
         module _ (results : good_results r t L ≡ true) where
-          pub line_7 : good_work t L ≡ false → table_of r t s I L ≡ Refused Work
+          pub line_7 : good_work t L ≡ false → table_of r t s I L ≡ Err Work
           unfolding table_of refuse_unless
           line_7 a = rw (sizes, count, lent, results, a) refl
 
           module _ (work : good_work t L ≡ true) where
-            pub line_6 : good_rows I.starts I.columns t.rows t.n ≡ false → table_of r t s I L ≡ Refused SparseRows
+            pub line_6 : good_rows I.starts I.columns t.rows t.n ≡ false → table_of r t s I L ≡ Err SparseRows
             unfolding table_of refuse_unless
             line_6 a = rw (sizes, count, lent, results, work, a) refl
 
             module _ (rows : good_rows I.starts I.columns t.rows t.n ≡ true) where
-              pub line_3 : good_numbers I ≡ false → table_of r t s I L ≡ Refused NotFinite
+              pub line_3 : good_numbers I ≡ false → table_of r t s I L ≡ Err NotFinite
               unfolding table_of refuse_unless
               line_3 a = rw (sizes, count, lent, results, work, rows, a) refl
 
               module _ (numbers : good_numbers I ≡ true) where
-                pub line_4 : valid_for t.link t.family ≡ false → table_of r t s I L ≡ Refused LinkForFamily
+                pub line_4 : valid_for t.link t.family ≡ false → table_of r t s I L ≡ Err LinkForFamily
                 unfolding table_of refuse_unless
                 line_4 a = rw (sizes, count, lent, results, work, rows, numbers, a) refl
 
                 module _ (valid : valid_for t.link t.family ≡ true) where
-                  pub line_9 : all_in_range I.y (carried_family t.family) ≡ false → table_of r t s I L ≡ Refused ResponseRange
+                  pub line_9 : all_in_range I.y (carried_family t.family) ≡ false → table_of r t s I L ≡ Err ResponseRange
                   unfolding table_of refuse_unless
                   line_9 a = rw (sizes, count, lent, results, work, rows, numbers, valid, a) refl
 
                   module _ (ranged : all_in_range I.y (carried_family t.family) ≡ true) where
-                    pub line_27 : start_fits t.start I.weights (carried_family t.family) ≡ false → table_of r t s I L ≡ Refused StartFit
+                    pub line_27 : start_fits t.start I.weights (carried_family t.family) ≡ false → table_of r t s I L ≡ Err StartFit
                     unfolding table_of refuse_unless
                     line_27 a = rw (sizes, count, lent, results, work, rows, numbers, valid, ranged, a) refl
 
-                    pub past_lines : start_fits t.start I.weights (carried_family t.family) ≡ true → table_of r t s I L ≡ Accepted (carried_family t.family) (carried_link t.link)
+                    pub past_lines : start_fits t.start I.weights (carried_family t.family) ≡ true → table_of r t s I L ≡ Ok ((carried_family t.family), (carried_link t.link))
                     unfolding table_of refuse_unless
                     past_lines a = rw (sizes, count, lent, results, work, rows, numbers, valid, ranged, a) refl
 
@@ -89,31 +88,31 @@ usual_passes weights f = refl
 
 -- ---- an accepted call passed every test
 -- a verdict accepts
-abbrev pub is_accepted : Verdict → Bool
-is_accepted (Accepted f l) = true
-is_accepted (Refused refusal) = false
+abbrev pub is_accepted : Result (CarriedFamily × CarriedLink) Refusal → Bool
+is_accepted (Ok (f, l)) = true
+is_accepted (Err refusal) = false
 
 -- the family of an accepting verdict, f of any other
-abbrev family_in : CarriedFamily → Verdict → CarriedFamily
-family_in f (Accepted g l) = g
-family_in f (Refused refusal) = f
+abbrev family_in : CarriedFamily → Result (CarriedFamily × CarriedLink) Refusal → CarriedFamily
+family_in f (Ok (g, l)) = g
+family_in f (Err refusal) = f
 
 -- the link of an accepting verdict, l of any other
-abbrev link_in : CarriedLink → Verdict → CarriedLink
-link_in l (Accepted f k) = k
-link_in l (Refused refusal) = l
+abbrev link_in : CarriedLink → Result (CarriedFamily × CarriedLink) Refusal → CarriedLink
+link_in l (Ok (f, k)) = k
+link_in l (Err refusal) = l
 
 -- a line that accepts is passed
-passed : (b : Bool) (refusal : Refusal) (rest : Verdict) (f : CarriedFamily) (l : CarriedLink) → refuse_unless b refusal rest ≡ Accepted f l → (b ≡ true) × (rest ≡ Accepted f l)
+passed : (b : Bool) (refusal : Refusal) (rest : Result (CarriedFamily × CarriedLink) Refusal) (f : CarriedFamily) (l : CarriedLink) → refuse_unless b refusal rest ≡ Ok (f, l) → (b ≡ true) × (rest ≡ Ok (f, l))
 unfolding refuse_unless
 passed true refusal rest f l e = (refl, e)
 passed false refusal rest f l e = absurd (ff (ap is_accepted e))
 
 -- an accepting verdict has one family and one link
-pub one_pair : (g f : CarriedFamily) (k l : CarriedLink) → Accepted g k ≡ Accepted f l → (g ≡ f) × (k ≡ l)
+pub one_pair : (g f : CarriedFamily) (k l : CarriedLink) → ◌≡◌ {A = Result (CarriedFamily × CarriedLink) Refusal} (Ok (g, k)) (Ok (f, l)) → (g ≡ f) × (k ≡ l)
 one_pair g f k l e = (ap (family_in f) e, ap (link_in l) e)
 
-pub accepted_sound : (r : ℕ) (t : Settings) (s : Shape) (I : Inputs) (L : LentLengths) (f : CarriedFamily) (l : CarriedLink) → table_of r t s I L ≡ Accepted f l → Sound r t s I L f l
+pub accepted_sound : (r : ℕ) (t : Settings) (s : Shape) (I : Inputs) (L : LentLengths) (f : CarriedFamily) (l : CarriedLink) → table_of r t s I L ≡ Ok (f, l) → Sound r t s I L f l
 unfolding table_of
 accepted_sound r t s I L f l e =
     let a = passed (good_sizes t s) OutOfRange _ f l e in

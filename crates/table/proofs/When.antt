@@ -1,4 +1,5 @@
 -- Each refusal is given exactly when the table says, and a call is accepted exactly when every test is passed; no call is refused with 5. Assumes nothing.
+use Rattle.std.specs.Prelude.{Result, Ok, Err}
 use mathlib.Core.Path.{◌≡◌, refl, sym, ap, ◌∙◌}
 use mathlib.Core.Logic.{◌↔◌, ◌⊎◌, inl, inr, ⊎_elim}
 use mathlib.Core.Bool.{Bool, true, false, ◌&&◌}
@@ -20,14 +21,12 @@ use Rattle.table.specs.Tests.{good_count, good_inputs, good_results, good_work, 
 use Rattle.table.specs.Table.{refuse_unless, table_of}
 use Rattle.table.specs.When.{PastCount, PastAll, GivenWhen, AcceptedWhen}
 use Rattle.table.specs.declared.verdicts.LentLengths.{LentLengths}
-use Rattle.table.specs.declared.verdicts.Verdict.{Verdict}
-use Rattle.table.specs.declared.verdicts.Verdict.TheVariants.{Accepted, Refused}
 use Rattle.table.proofs.Accepting.{is_accepted, one_pair}
 
 -- the refusal of a refusing verdict, x of any other
-abbrev refusal_in : Refusal → Verdict → Refusal
-refusal_in x (Refused y) = y
-refusal_in x (Accepted f l) = x
+abbrev refusal_in : Refusal → Result (CarriedFamily × CarriedLink) Refusal → Refusal
+refusal_in x (Err y) = y
+refusal_in x (Ok (f, l)) = x
 
 -- by what a test says
 by_said : {C : Type 0} (b : Bool) → (b ≡ true → C) → (b ≡ false → C) → C
@@ -36,7 +35,7 @@ by_said false f g = g refl
 
 module _ (r : ℕ) (t : Settings) (s : Shape) (I : Inputs) (L : LentLengths) where
   -- ---- when a line says so, the table gives it
-  given : (x : Refusal) → GivenWhen r t s I L x → table_of r t s I L ≡ Refused x
+  given : (x : Refusal) → GivenWhen r t s I L x → table_of r t s I L ≡ Err x
   unfolding GivenWhen table_of refuse_unless
   given OutOfRange a = rw a refl
   given Responses a = rw (a.0, a.1) refl
@@ -52,7 +51,7 @@ module _ (r : ℕ) (t : Settings) (s : Shape) (I : Inputs) (L : LentLengths) whe
       let p = a.0.0.0 in
       rw (p.0.0.0.0.0, p.0.0.0.0.1, p.0.0.0.1, p.0.0.1, p.0.1, p.1, a.0.0.1, a.0.1, a.1) refl
 
-  accepted : PastAll r t s I L → table_of r t s I L ≡ Accepted (carried_family t.family) (carried_link t.link)
+  accepted : PastAll r t s I L → table_of r t s I L ≡ Ok ((carried_family t.family), (carried_link t.link))
   unfolding table_of refuse_unless
   accepted a =
       let p = a.0.0.0 in
@@ -86,7 +85,7 @@ module _ (r : ℕ) (t : Settings) (s : Shape) (I : Inputs) (L : LentLengths) whe
       (λ x. inl (OutOfRange, x))
 
   -- ---- so exactly when
-  pub refused_when : (x : Refusal) → (table_of r t s I L ≡ Refused x) ↔ GivenWhen r t s I L x
+  pub refused_when : (x : Refusal) → (table_of r t s I L ≡ Err x) ↔ GivenWhen r t s I L x
   refused_when x = (
     λ e.
         ⊎_elim
@@ -96,7 +95,7 @@ module _ (r : ℕ) (t : Settings) (s : Shape) (I : Inputs) (L : LentLengths) whe
     given x,
   )
 
-  pub accepted_when : (f : CarriedFamily) (l : CarriedLink) → (table_of r t s I L ≡ Accepted f l) ↔ AcceptedWhen r t s I L f l
+  pub accepted_when : (f : CarriedFamily) (l : CarriedLink) → (table_of r t s I L ≡ Ok (f, l)) ↔ AcceptedWhen r t s I L f l
   accepted_when f l = (
     λ e.
         ⊎_elim
@@ -107,5 +106,5 @@ module _ (r : ℕ) (t : Settings) (s : Shape) (I : Inputs) (L : LentLengths) whe
   )
 
   -- ---- 5 occurs no longer (document 02, P8)
-  pub never_five : (x : Refusal) → table_of r t s I L ≡ Refused x → refusal_number x ≡ 5 → ⊥
+  pub never_five : (x : Refusal) → table_of r t s I L ≡ Err x → refusal_number x ≡ 5 → ⊥
   never_five x e n = no_five x n

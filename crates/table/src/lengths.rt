@@ -2,10 +2,10 @@
 ghost use Rattle.std.specs.Prelude.{◌≡◌, true, ◌≤◌};
 ghost use Rattle.model.specs.Settings.{good_sizes, Sizes};
 ghost use Rattle.table.specs.Tests.{good_count, absent_or, good_inputs, good_results, good_work};
-ghost use Rattle.model.specs.Inputs.{inputs};
+ghost use Rattle.model.specs.Inputs.{inputs_in};
 
 use crate::verdicts::LentLengths;
-use model::{Settings, Shape};
+use model::{Inputs, Settings, Shape};
 
 // Whether a call may have so many responses.
 pub fn count_ok(responses: usize) -> bool
@@ -28,47 +28,34 @@ fn absent_or(n: usize, length: usize) -> bool
 }
 
 // Whether each lent input is as long as the sizes say.
-pub fn inputs_ok(
-    responses: usize,
-    settings: Settings,
-    shape: Shape,
-    theta: &[f64],
-    y: &[f64],
-    weights: &[f64],
-    offset: &[f64],
-    x: &[f64],
-    starts: &[usize],
-    columns: &[usize],
-    values: &[f64],
-) -> bool
+pub fn inputs_ok(responses: usize, settings: Settings, shape: Shape, lists: &Inputs<'_>) -> bool
     requires { (good_sizes settings shape ≡ true) × (responses ≤ 64) }
     ensures { result
         ≡ good_inputs responses settings shape
-        (inputs theta.now y.now weights.now offset.now x.now starts.now columns.now
-        values.now) }
+        (inputs_in lists.now) }
 {
-    if theta.len() != model::theta_length(shape) {
+    if lists.theta.len() != model::theta_length(shape) {
         return false;
     }
-    if y.len() != responses * settings.n {
+    if lists.y.len() != responses * settings.n {
         return false;
     }
-    if !absent_or(settings.n, weights.len()) {
+    if !absent_or(settings.n, lists.weights.len()) {
         return false;
     }
-    if !absent_or(settings.n, offset.len()) {
+    if !absent_or(settings.n, lists.offset.len()) {
         return false;
     }
-    if x.len() != settings.n * settings.p {
+    if lists.x.len() != settings.n * settings.p {
         return false;
     }
-    if starts.len() != settings.rows + 1 {
+    if lists.starts.len() != settings.rows + 1 {
         return false;
     }
-    if columns.len() != settings.entries {
+    if lists.columns.len() != settings.entries {
         return false;
     }
-    values.len() == settings.entries
+    lists.values.len() == settings.entries
 }
 
 // Whether each lent result is as long as the sizes say.

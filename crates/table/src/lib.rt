@@ -5,4 +5,4 @@ mod lengths;
 mod numbers;
 mod verdicts;
 
-pub use verdicts::{LentLengths, Verdict, verdict_of};
+pub use verdicts::{LentLengths, verdict_of};

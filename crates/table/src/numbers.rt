@@ -46,12 +46,10 @@ pub fn numbers_ok(
 pub fn responses_ok(family: CarriedFamily, y: &[f64]) -> bool
     ensures { result ≡ all_in_range y.now family }
 {
-    let mut i = 0;
-    while i < y.len() {
+    for i in 0..y.len() {
         if !family::in_range(family, y[i]) {
             return false;
         }
-        i += 1;
     }
     true
 }
@@ -60,12 +58,10 @@ pub fn responses_ok(family: CarriedFamily, y: &[f64]) -> bool
 fn weights_ok(weights: &[f64]) -> bool
     ensures { result ≡ none_below weights.now }
 {
-    let mut i = 0;
-    while i < weights.len() {
+    for i in 0..weights.len() {
         if weights[i] < 0.0 {
             return false;
         }
-        i += 1;
     }
     true
 }

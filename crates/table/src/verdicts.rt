@@ -1,12 +1,12 @@
 // The tests of the table, asked in its order.
 ghost use Rattle.std.specs.Prelude.{◌≡◌};
-ghost use Rattle.model.specs.Inputs.{inputs};
+ghost use Rattle.model.specs.Inputs.{inputs_in};
 ghost use Rattle.table.specs.Table.{table_of};
 
 use crate::lengths::{count_ok, inputs_ok, results_ok, work_ok};
 use crate::numbers::{numbers_ok, responses_ok, start_ok};
 use family::{CarriedFamily, CarriedLink};
-use model::{Refusal, Settings, Shape};
+use model::{Inputs, Refusal, Settings, Shape};
 
 // How long the lent results and the lent work slices are.
 #[derive(Clone, Copy)]
@@ -25,68 +25,58 @@ pub struct LentLengths {
     pub terms: usize,
 }
 
-// What becomes of a call: it is fitted by the formulas of its family and link, or refused.
-#[derive(Clone, Copy)]
-pub enum Verdict {
-    Accepted(CarriedFamily, CarriedLink),
-    Refused(Refusal),
-}
-
 // The first test that fails gives the refusal. Each test may rely on those before it: no product is formed of sizes or of a number of responses out of range, and no entry is read past a length.
 pub fn verdict_of(
     responses: usize,
     settings: Settings,
     shape: Shape,
-    theta: &[f64],
-    y: &[f64],
-    weights: &[f64],
-    offset: &[f64],
-    x: &[f64],
-    starts: &[usize],
-    columns: &[usize],
-    values: &[f64],
+    lists: &Inputs<'_>,
     lent: LentLengths,
-) -> Verdict
+) -> Result<(CarriedFamily, CarriedLink), Refusal>
     ensures { result
         ≡ table_of responses settings shape
-        (inputs theta.now y.now weights.now offset.now x.now starts.now columns.now
-        values.now) lent }
+        (inputs_in lists.now) lent }
 {
     if !model::sizes_ok(settings, shape) {
-        return Verdict::Refused(Refusal::OutOfRange);
+        return Err(Refusal::OutOfRange);
     }
     if !count_ok(responses) {
-        return Verdict::Refused(Refusal::Responses);
+        return Err(Refusal::Responses);
     }
-    if !inputs_ok(
-        responses, settings, shape, theta, y, weights, offset, x, starts, columns, values,
-    ) {
-        return Verdict::Refused(Refusal::Lengths);
+    if !inputs_ok(responses, settings, shape, lists) {
+        return Err(Refusal::Lengths);
     }
     if !results_ok(responses, settings, lent) {
-        return Verdict::Refused(Refusal::Lengths);
+        return Err(Refusal::Lengths);
     }
     if !work_ok(settings, lent) {
-        return Verdict::Refused(Refusal::Work);
+        return Err(Refusal::Work);
     }
-    if !base::rows_ok(starts, columns, settings.rows, settings.n) {
-        return Verdict::Refused(Refusal::SparseRows);
+    if !base::rows_ok(lists.starts, lists.columns, settings.rows, settings.n) {
+        return Err(Refusal::SparseRows);
     }
-    if !numbers_ok(theta, y, weights, offset, x, values) {
-        return Verdict::Refused(Refusal::NotFinite);
+    if !numbers_ok(
+        lists.theta,
+        lists.y,
+        lists.weights,
+        lists.offset,
+        lists.x,
+        lists.values,
+    ) {
+        return Err(Refusal::NotFinite);
     }
     let family = settings.family;
     let link = settings.link;
     if !family::valid_for(link, family) {
-        return Verdict::Refused(Refusal::LinkForFamily);
+        return Err(Refusal::LinkForFamily);
     }
     let carried = family::carried_family(family);
-    if !responses_ok(carried, y) {
-        return Verdict::Refused(Refusal::ResponseRange);
+    if !responses_ok(carried, lists.y) {
+        return Err(Refusal::ResponseRange);
     }
     let start = settings.start;
-    if !start_ok(start, carried, weights) {
-        return Verdict::Refused(Refusal::StartFit);
+    if !start_ok(start, carried, lists.weights) {
+        return Err(Refusal::StartFit);
     }
-    Verdict::Accepted(carried, family::carried_link(link))
+    Ok((carried, family::carried_link(link)))
 }

@@ -1,2 +1,2 @@
--- The law of the tables' `match`. Assumes nothing.
+-- A law of a `match` on a number. Assumes nothing.
 pub mod Arms

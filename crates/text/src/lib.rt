@@ -6,17 +6,14 @@ mod specials;
 ghost use Rattle.std.specs.Prelude.{◌≡◌, ◌<◌, ◌≤◌, length};
 ghost use Rattle.text.specs.Hex.{hex_digit, hex_digits};
 
-pub use specials::{SPECIALS, special};
+pub use specials::{SPECIALS, each_special, special};
 
 // The digit d as a byte.
 fn hex_digit(d: u64) -> u8
     requires { d < 16 }
     ensures { result ≡ hex_digit d }
 {
-    if d < 10 {
-        return (48 + d) as u8;
-    }
-    (55 + d) as u8
+    b"0123456789ABCDEF"[d as usize]
 }
 
 // The sixteen digits of n, the highest first.
@@ -25,11 +22,9 @@ pub fn hex16(n: u64) -> [u8; 16]
 {
     let mut out = [0u8; 16];
     let mut rest = n;
-    let mut i = 16;
-    while 0 < i {
-        i -= 1;
+    for i in (0..16).rev() {
         out[i] = hex_digit(rest % 16);
-        rest = rest / 16;
+        rest /= 16;
     }
     out
 }
@@ -54,11 +49,7 @@ pub fn put_count(n: u64) {
 
 // A blank and 1 or 0.
 pub fn put_test(t: bool) {
-    if t {
-        put_count(1);
-    } else {
-        put_count(0);
-    }
+    put_count(u64::from(t));
 }
 
 // The end of a line.
@@ -71,10 +62,8 @@ pub fn put_list(word: &[u8], xs: &[f64], n: usize)
     requires { n ≤ length xs.now }
 {
     put_word(word);
-    let mut i = 0;
-    while i < n {
-        put_double(xs[i]);
-        i += 1;
+    for x in &xs[..n] {
+        put_double(*x);
     }
     end_line();
 }

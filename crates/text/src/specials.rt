@@ -7,7 +7,7 @@ pub const SPECIALS: usize = 24;
 
 // NaN; the infinities, zeros, smallest and largest subnormals, smallest normals and E, of both signs; 1 - E; 1, 2, pi and MAX, of both signs;
 // last two more NaNs.
-const PATTERNS: [u64; 24] = [
+static PATTERNS: [u64; SPECIALS] = [
     0x7ff8_0000_0000_0000,
     0x7ff0_0000_0000_0000,
     0xfff0_0000_0000_0000,
@@ -35,11 +35,18 @@ const PATTERNS: [u64; 24] = [
 ];
 
 // The i-th of them; +0.0 past the last.
+#[tactic(auto, unfolding(crate::specs::Specials::special_of, crate::specs::Specials::special_bits))]
 pub fn special(i: usize) -> f64
     ensures { result ≡ special_of i }
 {
-    if i < 24 {
-        return base::double(PATTERNS[i]);
+    base::double(PATTERNS.get(i).copied().unwrap_or(0))
+}
+
+// `f` at each of them.
+pub fn each_special<F: Fn(f64)>(f: F)
+    requires { F.IsAlwaysCallable f }
+{
+    for i in 0..SPECIALS {
+        f(special(i));
     }
-    0.0
 }

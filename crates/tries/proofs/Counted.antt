@@ -1,4 +1,6 @@
 -- The tries one after another: each is counted by what became of it, and one that is refused leaves the rest of the rule's search. Assumes nothing.
+use Rattle.tries.specs.declared.search.TryRefusal.{TryRefusal}
+use Rattle.std.specs.Prelude.{Result, Ok, Err}
 use mathlib.Core.Path.{◌≡◌, refl, sym, ◌∙◌, ap}
 use mathlib.Core.List.{List, [], ◌∷◌}
 use Prim.Native.Nat.{ℕ, suc, ◌+◌, ◌-◌, ◌≤◌, ◌<◌}
@@ -18,9 +20,6 @@ use Rattle.family.specs.Carried.{link_of}
 use Rattle.family.specs.declared.carried.CarriedLink.{CarriedLink}
 use Rattle.rule.specs.Try.{Trial, refused, try_of, Search, found_move, no_move, item_before, after_try, tries_from, tries_of}
 use Rattle.tries.specs.Told.{Room, trial_in, tell_try, fate_of, TryDone, Brief, found, none, briefly, tries_to, TriesDone}
-use Rattle.tries.specs.declared.search.Try.{Try}
-use Rattle.tries.specs.declared.search.Try.TheVariants.{Accepted}
-use Rattle.tries.specs.declared.search.TriesEnd.TheVariants.{Moved, NoMove}
 use Rattle.base.proofs.TwoRows.{two_row, two_trans, two_none}
 
 -- ---- counts
@@ -102,7 +101,7 @@ module _ (T : Trial) (next mu cap : ℕ) (v : List Float) where
       })
 
   -- no try is left
-  pub ends : (w : List Float) (step : Float) (made : Account) → Going T next mu cap v w step made → cap ≤ made.tries → TriesDone T next mu v w (NoMove made)
+  pub ends : (w : List Float) (step : Float) (made : Account) → Going T next mu cap v w step made → cap ≤ made.tries → TriesDone T next mu v w (Err made)
   ends w step made g h =
       record { says = sym (nothing_left T cap made step h) ∙ g.same; only = g.only; few = hundred made.tries made (omega (arith, g.few, g.capped)) g.parts }
 
@@ -126,7 +125,7 @@ room_kept n q prev next raw mu u w z v x r o =
 
 -- ---- one turn of the loop
 -- a try can be counted
-pub sum_fits : (T : Trial) (next mu cap : ℕ) (v x : List Float) (step : Float) (made a : Account) (t : Try) → Going T next mu cap v x step made → a ≡ one (fate_of t) → SumFits made a
+pub sum_fits : (T : Trial) (next mu cap : ℕ) (v x : List Float) (step : Float) (made a : Account) (t : Result Float TryRefusal) → Going T next mu cap v x step made → a ≡ one (fate_of t) → SumFits made a
 sum_fits T next mu cap v x step made a t g e =
     let p = g.parts in
     let o = one_few (fate_of t) in
@@ -136,11 +135,11 @@ sum_fits T next mu cap v x step made a t g e =
     (record { fits = omega arith; solves = omega arith; tries = omega arith; points = omega arith; eta = omega arith; mean = omega arith; pwrss = omega arith; ok = omega arith })
 
 -- it counts one
-pub counts_one : (made a b : Account) (t : Try) → a ≡ one (fate_of t) → b ≡ made ⊞ a → b.tries ≡ made.tries + 1
+pub counts_one : (made a b : Account) (t : Result Float TryRefusal) → a ≡ one (fate_of t) → b ≡ made ⊞ a → b.tries ≡ made.tries + 1
 unfolding ◌⊞◌
 counts_one made a b t ea eb = rw (eb, ea) (omega (arith, one_try (fate_of t)))
 
-module _ (link : CarriedLink) (n q prev next raw mu : ℕ) (u w z : List Float) (cap : ℕ) (v x y : List Float) (step : Float) (made : Account) (r : Try) (room : Room n q prev next raw mu u w z v) (g : Going (trial_in link n q prev raw u w z v) next mu cap v x step made) (l : made.tries < cap) (d : TryDone (trial_in link n q prev raw u w z x) next mu step x y r) (a b : Account) (ea : a ≡ one (fate_of r)) (eb : b ≡ made ⊞ a) where
+module _ (link : CarriedLink) (n q prev next raw mu : ℕ) (u w z : List Float) (cap : ℕ) (v x y : List Float) (step : Float) (made : Account) (r : Result Float TryRefusal) (room : Room n q prev next raw mu u w z v) (g : Going (trial_in link n q prev raw u w z v) next mu cap v x step made) (l : made.tries < cap) (d : TryDone (trial_in link n q prev raw u w z x) next mu step x y r) (a b : Account) (ea : a ≡ one (fate_of r)) (eb : b ≡ made ⊞ a) where
   -- the try, over the rows as they were at entry
   tried : tell_try r (row next n y) (row mu n y) ≡ try_of (trial_in link n q prev raw u w z v) step
   tried =
@@ -165,7 +164,7 @@ module _ (link : CarriedLink) (n q prev next raw mu : ℕ) (u w z : List Float) 
   parts_more : AtMost (tries_to (made.tries + 1)) with_it
   parts_more = few_more made.tries made (one (fate_of r)) g.parts (one_few (fate_of r))
 
-  pub moved : (p : Float) → r ≡ Accepted p → TriesDone (trial_in link n q prev raw u w z v) next mu v y (Moved p b)
+  pub moved : (p : Float) → r ≡ Ok p → TriesDone (trial_in link n q prev raw u w z v) next mu v y (Ok (p, b))
   unfolding after_try
   moved p e =
       rw with_is

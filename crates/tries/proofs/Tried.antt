@@ -1,4 +1,8 @@
 -- A try by its three tests: what the passes wrote and answered is the rule's try. Assumes nothing.
+use Rattle.std.specs.Prelude.{Ok, Err}
+use Rattle.tries.specs.declared.search.TryRefusal.TheVariants.{Eta}
+use Rattle.tries.specs.declared.search.TryRefusal.TheVariants.{Mean}
+use Rattle.tries.specs.declared.search.TryRefusal.TheVariants.{Pwrss}
 use mathlib.Core.Path.{◌≡◌, sym, ◌∙◌}
 use mathlib.Core.List.{List}
 use mathlib.Core.Logic.{inl, inr, ⊎_elim}
@@ -14,7 +18,6 @@ use Rattle.base.specs.Rows.{row, Apart, Wrote}
 use Rattle.base.proofs.Rows.{only_row, part_row}
 use Rattle.rule.specs.Try.{Trial, candidate_at, candidate_of, fine_eta_at, mean_at, means_of, square_at, add_to, pwrss_of, after_pwrss, try_pwrss, after_means, try_means, after_eta, try_eta, try_of}
 use Rattle.tries.specs.Told.{TryDone}
-use Rattle.tries.specs.declared.search.Try.TheVariants.{EtaRefused, MeanRefused, PwrssRefused, Accepted}
 use Rattle.base.proofs.TwoRows.{two_first, two_of}
 
 module _ (T : Trial) (next mu : ℕ) (step : Float) (v w : List Float) (apart : Apart next T.n mu T.n) (next_in : next + T.n ≤ length v) (mu_in : mu + T.n ≤ length v) (formed : Wrote next T.n (build (candidate_at T.prev T.raw step) T.n) v w) where
@@ -27,7 +30,7 @@ module _ (T : Trial) (next mu : ℕ) (step : Float) (v w : List Float) (apart : 
   fine r t e h = rw held at (sym e ∙ h)
 
   -- refused by the first test
-  pub eta_refused_lem : (r : Bool) → r ≡ all_to T.n (fine_eta_at T.link (row next T.n w)) → r ≡ false → TryDone T next mu step v w EtaRefused
+  pub eta_refused_lem : (r : Bool) → r ≡ all_to T.n (fine_eta_at T.link (row next T.n w)) → r ≡ false → TryDone T next mu step v w (Err Eta)
   unfolding try_of try_eta after_eta
   eta_refused_lem r e h =
       record {
@@ -50,7 +53,7 @@ module _ (T : Trial) (next mu : ℕ) (step : Float) (v w : List Float) (apart : 
     finites r t e h = rw means' at (sym e ∙ h)
 
     -- refused by the second test
-    pub mean_refused_lem : (r : Bool) → r ≡ all_to T.n (finite_at (row mu T.n x)) → r ≡ false → TryDone T next mu step v x MeanRefused
+    pub mean_refused_lem : (r : Bool) → r ≡ all_to T.n (finite_at (row mu T.n x)) → r ≡ false → TryDone T next mu step v x (Err Mean)
     unfolding try_of try_eta after_eta try_means after_means
     mean_refused_lem r e h =
         record {
@@ -67,7 +70,7 @@ module _ (T : Trial) (next mu : ℕ) (step : Float) (v w : List Float) (apart : 
       sum = rw (part_row next T.n x, held') at summed
 
       -- refused by the third test
-      pub pwrss_refused_lem : (r : Bool) → r ≡ finite p → r ≡ false → TryDone T next mu step v x PwrssRefused
+      pub pwrss_refused_lem : (r : Bool) → r ≡ finite p → r ≡ false → TryDone T next mu step v x (Err Pwrss)
       unfolding try_of try_eta after_eta try_means after_means try_pwrss after_pwrss
       pwrss_refused_lem r e h =
           record {
@@ -78,7 +81,7 @@ module _ (T : Trial) (next mu : ℕ) (step : Float) (v w : List Float) (apart : 
           }
 
       -- accepted
-      pub try_accepted : (r : Bool) → r ≡ finite p → r ≡ true → TryDone T next mu step v x (Accepted p)
+      pub try_accepted : (r : Bool) → r ≡ finite p → r ≡ true → TryDone T next mu step v x (Ok p)
       unfolding try_of try_eta after_eta try_means after_means try_pwrss after_pwrss
       try_accepted r e h =
           record {

@@ -1,4 +1,9 @@
 -- One answer, one content: each contract of this crate leaves no choice, but for the two rows where no try was accepted. Assumes nothing.
+use Rattle.tries.specs.declared.search.TryRefusal.{TryRefusal}
+use Rattle.std.specs.Prelude.{Result, Ok, Err}
+use Rattle.tries.specs.declared.search.TryRefusal.TheVariants.{Eta}
+use Rattle.tries.specs.declared.search.TryRefusal.TheVariants.{Mean}
+use Rattle.tries.specs.declared.search.TryRefusal.TheVariants.{Pwrss}
 use mathlib.Core.Path.{◌≡◌, refl, sym, ap, ◌∙◌}
 use mathlib.Core.List.{List, [], ◌∷◌}
 use mathlib.Core.Bool.{Bool}
@@ -19,10 +24,6 @@ use Rattle.model.specs.declared.counts.Account.{Account}
 use Rattle.family.specs.declared.carried.CarriedLink.{CarriedLink}
 use Rattle.rule.specs.Try.{Trial, candidate_at, fine_eta_at, mean_at, square_at, add_to, Tried, refused, moves}
 use Rattle.tries.specs.Told.{tell_try, fate_of, TryDone, Brief, found, none, tell_tries, TriesDone}
-use Rattle.tries.specs.declared.search.Try.{Try}
-use Rattle.tries.specs.declared.search.Try.TheVariants.{EtaRefused, MeanRefused, PwrssRefused, Accepted}
-use Rattle.tries.specs.declared.search.TriesEnd.{TriesEnd}
-use Rattle.tries.specs.declared.search.TriesEnd.TheVariants.{Moved, NoMove}
 
 -- `candidate`
 pub candidate_unique : (n prev next raw : ℕ) (step : Float) (v x y : List Float) → next + n ≤ length v
@@ -73,20 +74,20 @@ both_unique b c n v x y hb hc p q eb ec =
 
 -- ---- `one_try`
 -- the answer that tells of a try
-abbrev answer : Tried → Try
-answer (refused eta_refused) = EtaRefused
-answer (refused mean_refused) = MeanRefused
-answer (refused pwrss_refused) = PwrssRefused
-answer (refused accepted) = EtaRefused
-answer (moves m) = Accepted m.pwrss
+abbrev answer : Tried → Result Float TryRefusal
+answer (refused eta_refused) = (Err Eta)
+answer (refused mean_refused) = (Err Mean)
+answer (refused pwrss_refused) = (Err Pwrss)
+answer (refused accepted) = (Err Eta)
+answer (moves m) = Ok m.pwrss
 
-answer_told : (r : Try) (c m : List Float) → r ≡ answer (tell_try r c m)
-answer_told EtaRefused c m = refl
-answer_told MeanRefused c m = refl
-answer_told PwrssRefused c m = refl
-answer_told (Accepted p) c m = refl
+answer_told : (r : Result Float TryRefusal) (c m : List Float) → r ≡ answer (tell_try r c m)
+answer_told (Err Eta) c m = refl
+answer_told (Err Mean) c m = refl
+answer_told (Err Pwrss) c m = refl
+answer_told (Ok p) c m = refl
 
-module _ (T : Trial) (next mu : ℕ) (step : Float) (v x y : List Float) (r s : Try) (next_in : next + T.n ≤ length v) (mu_in : mu + T.n ≤ length v) (d : TryDone T next mu step v x r) (e : TryDone T next mu step v y s) where
+module _ (T : Trial) (next mu : ℕ) (step : Float) (v x y : List Float) (r s : Result Float TryRefusal) (next_in : next + T.n ≤ length v) (mu_in : mu + T.n ≤ length v) (d : TryDone T next mu step v x r) (e : TryDone T next mu step v y s) where
   pub try_answer_unique : r ≡ s
   try_answer_unique =
       answer_told r (row next T.n x) (row mu T.n x) ∙ ap answer (d.says ∙ sym e.says) ∙ sym (answer_told s (row next T.n y) (row mu T.n y))
@@ -95,18 +96,18 @@ module _ (T : Trial) (next mu : ℕ) (step : Float) (v x y : List Float) (r s : 
   try_rows_unique = both_unique next mu T.n v x y next_in mu_in d.only e.only (d.candidate ∙ sym e.candidate) (d.means ∙ sym e.means)
 
 -- `of_try`
-pub of_try_unique : (t : Try) (r s : Account) → r ≡ tally (a_try (fate_of t) ∷ []) → s ≡ tally (a_try (fate_of t) ∷ []) → r ≡ s
+pub of_try_unique : (t : Result Float TryRefusal) (r s : Account) → r ≡ tally (a_try (fate_of t) ∷ []) → s ≡ tally (a_try (fate_of t) ∷ []) → r ≡ s
 of_try_unique t r s d e = one_value d e
 
 -- ---- `tries`
 -- the answer that tells of a search
-abbrev answers : Brief → TriesEnd
-answers (found m a) = Moved m.pwrss a
-answers (none a) = NoMove a
+abbrev answers : Brief → Result (Float × Account) Account
+answers (found m a) = Ok (m.pwrss, a)
+answers (none a) = Err a
 
-answers_told : (r : TriesEnd) (c m : List Float) → r ≡ answers (tell_tries r c m)
-answers_told (Moved p a) c m = refl
-answers_told (NoMove a) c m = refl
+answers_told : (r : Result (Float × Account) Account) (c m : List Float) → r ≡ answers (tell_tries r c m)
+answers_told (Ok (p, a)) c m = refl
+answers_told (Err a) c m = refl
 
 -- the predictor of the move that was found, c where none was
 abbrev move_row : Brief → List Float → List Float
@@ -118,14 +119,14 @@ abbrev mean_row : Brief → List Float → List Float
 mean_row (found m a) c = m.mu
 mean_row (none a) c = c
 
-module _ (T : Trial) (next mu : ℕ) (v x y : List Float) (r s : TriesEnd) (d : TriesDone T next mu v x r) (e : TriesDone T next mu v y s) where
+module _ (T : Trial) (next mu : ℕ) (v x y : List Float) (r s : Result (Float × Account) Account) (d : TriesDone T next mu v x r) (e : TriesDone T next mu v y s) where
   pub tries_answer_unique : r ≡ s
   tries_answer_unique =
       answers_told r (row next T.n x) (row mu T.n x) ∙ ap answers (d.says ∙ sym e.says) ∙ sym (answers_told s (row next T.n y) (row mu T.n y))
 
 -- where a try was accepted, the rows too
 pub tries_rows_unique : (T : Trial) (next mu : ℕ) (v x y : List Float) (p o : Float) (a b : Account) → next + T.n ≤ length v → mu + T.n ≤ length v
-    → TriesDone T next mu v x (Moved p a) → TriesDone T next mu v y (Moved o b) → x ≡ y
+    → TriesDone T next mu v x (Ok (p, a)) → TriesDone T next mu v y (Ok (o, b)) → x ≡ y
 tries_rows_unique T next mu v x y p o a b hn hm d e =
     both_unique next mu T.n v x y hn hm d.only e.only
     (ap (λ (t : Brief). move_row t v) (d.says ∙ sym e.says))

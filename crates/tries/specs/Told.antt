@@ -1,4 +1,9 @@
 -- What the answers of a try and of the tries say in the rule's words, and what they leave in the work slice. Document 01, "The inner fit", its paragraph on tries; document 02, P9. Assumes nothing.
+use Rattle.tries.specs.declared.search.TryRefusal.{TryRefusal}
+use Rattle.std.specs.Prelude.{Result, Ok, Err}
+use Rattle.tries.specs.declared.search.TryRefusal.TheVariants.{Eta}
+use Rattle.tries.specs.declared.search.TryRefusal.TheVariants.{Mean}
+use Rattle.tries.specs.declared.search.TryRefusal.TheVariants.{Pwrss}
 use Rattle.std.specs.Prelude.{◌≡◌, List, cond, ℕ, ◌+◌, ◌≤◌, length, Float}
 use Rattle.base.specs.Sum.{all_to}
 use Rattle.base.specs.Rows.{row, Apart, OnlyTwo}
@@ -7,10 +12,6 @@ use Rattle.model.specs.Items.{Fate, eta_refused, mean_refused, pwrss_refused, ac
 use Rattle.model.specs.declared.counts.Account.{Account}
 use Rattle.family.specs.declared.carried.CarriedLink.{CarriedLink}
 use Rattle.rule.specs.Try.{Trial, fine_eta_at, candidate_of, means_of, Move, Tried, refused, moves, try_of, Search, found_move, no_move, tries_of}
-use Rattle.tries.specs.declared.search.Try.{Try}
-use Rattle.tries.specs.declared.search.Try.TheVariants.{EtaRefused, MeanRefused, PwrssRefused, Accepted}
-use Rattle.tries.specs.declared.search.TriesEnd.{TriesEnd}
-use Rattle.tries.specs.declared.search.TriesEnd.TheVariants.{Moved, NoMove}
 
 -- ---- the work slice
 
@@ -36,21 +37,21 @@ trial_in link n q prev raw u w z rows = record { link = link; n = n; q = q; prev
 -- ---- a try
 
 -- what became of the candidate c with the means m
-abbrev pub tell_try : Try → List Float → List Float → Tried
-tell_try EtaRefused c m = refused eta_refused
-tell_try MeanRefused c m = refused mean_refused
-tell_try PwrssRefused c m = refused pwrss_refused
-tell_try (Accepted p) c m = moves (record { eta = c; mu = m; pwrss = p })
+abbrev pub tell_try : Result Float TryRefusal → List Float → List Float → Tried
+tell_try (Err Eta) c m = refused eta_refused
+tell_try (Err Mean) c m = refused mean_refused
+tell_try (Err Pwrss) c m = refused pwrss_refused
+tell_try (Ok p) c m = moves (record { eta = c; mu = m; pwrss = p })
 
 -- what became of it, as the items of a run tell it: the first test that it failed, or accepted (document 02, P9)
-abbrev pub fate_of : Try → Fate
-fate_of EtaRefused = eta_refused
-fate_of MeanRefused = mean_refused
-fate_of PwrssRefused = pwrss_refused
-fate_of (Accepted p) = accepted
+abbrev pub fate_of : Result Float TryRefusal → Fate
+fate_of (Err Eta) = eta_refused
+fate_of (Err Mean) = mean_refused
+fate_of (Err Pwrss) = pwrss_refused
+fate_of (Ok p) = accepted
 
 -- a try leaves the candidate in the row at next, and its means in the row at mu where the first test let them be formed
-pub record TryDone (T : Trial) (next mu : ℕ) (step : Float) (before after : List Float) (r : Try) : Type 0 where
+pub record TryDone (T : Trial) (next mu : ℕ) (step : Float) (before after : List Float) (r : Result Float TryRefusal) : Type 0 where
   pub says : tell_try r (row next T.n after) (row mu T.n after) ≡ try_of T step
   pub candidate : row next T.n after ≡ candidate_of T step
   pub means : row mu T.n after ≡ cond (all_to T.n (fine_eta_at T.link (candidate_of T step))) (means_of T (candidate_of T step)) (row mu T.n before)
@@ -69,21 +70,21 @@ briefly (found_move m is) = found m (tally is)
 briefly (no_move is) = none (tally is)
 
 -- what became of the tries, c the last candidate and m its means
-abbrev pub tell_tries : TriesEnd → List Float → List Float → Brief
-tell_tries (Moved p a) c m = found (record { eta = c; mu = m; pwrss = p }) a
-tell_tries (NoMove a) c m = none a
+abbrev pub tell_tries : Result (Float × Account) Account → List Float → List Float → Brief
+tell_tries (Ok (p, a)) c m = found (record { eta = c; mu = m; pwrss = p }) a
+tell_tries (Err a) c m = none a
 
 -- what they count
-abbrev pub made_in : TriesEnd → Account
-made_in (Moved p a) = a
-made_in (NoMove a) = a
+abbrev pub made_in : Result (Float × Account) Account → Account
+made_in (Ok (p, a)) = a
+made_in (Err a) = a
 
 -- the most that k tries count: each part of them no more than all (document 02, P9), and nothing else
 abbrev pub tries_to : ℕ → Account
 tries_to k = record { fits = 0; solves = 0; tries = k; points = 0; eta = k; mean = k; pwrss = k; ok = k }
 
 -- the tries leave an accepted candidate in the row at next and its means in the row at mu
-pub record TriesDone (T : Trial) (next mu : ℕ) (before after : List Float) (r : TriesEnd) : Type 0 where
+pub record TriesDone (T : Trial) (next mu : ℕ) (before after : List Float) (r : Result (Float × Account) Account) : Type 0 where
   pub says : tell_tries r (row next T.n after) (row mu T.n after) ≡ briefly (tries_of T)
   pub only : OnlyTwo next T.n mu T.n before after
   pub few : AtMost (tries_to 100) (made_in r)

@@ -5,4 +5,4 @@ mod passes;
 mod search;
 
 pub use passes::{candidate, fine_etas, finite_row, means, pwrss};
-pub use search::{TriesEnd, Try, one_try, tries};
+pub use search::{TryRefusal, one_try, tries};

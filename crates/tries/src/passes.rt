@@ -13,12 +13,10 @@ pub fn candidate(n: usize, prev: usize, next: usize, raw: usize, step: f64, rows
     requires { (prev + n ≤ length rows.old) × (next + n ≤ length rows.old) × (raw + n ≤ length rows.old) × Apart prev n next n × Apart raw n next n }
     ensures { Wrote next n (build (candidate_at (row prev n rows.old) (row raw n rows.old) step) n) rows.old rows.new }
 {
-    let mut i = 0;
-    while i < n {
+    for i in 0..n {
         let p = rows[prev + i];
         let r = rows[raw + i];
         rows[next + i] = p + (r - p) * step;
-        i += 1;
     }
 }
 
@@ -27,12 +25,10 @@ pub fn fine_etas(link: CarriedLink, n: usize, next: usize, rows: &[f64]) -> bool
     requires { next + n ≤ length rows.now }
     ensures { result ≡ all_to n (fine_eta_at link (row next n rows.now)) }
 {
-    let mut i = 0;
-    while i < n {
+    for i in 0..n {
         if !fine_eta(link, rows[next + i]) {
             return false;
         }
-        i += 1;
     }
     true
 }
@@ -42,11 +38,9 @@ pub fn means(link: CarriedLink, n: usize, next: usize, mu: usize, rows: &mut [f6
     requires { (next + n ≤ length rows.old) × (mu + n ≤ length rows.old) × Apart next n mu n }
     ensures { Wrote mu n (build (mean_at link (row next n rows.old)) n) rows.old rows.new }
 {
-    let mut i = 0;
-    while i < n {
+    for i in 0..n {
         let eta = rows[next + i];
         rows[mu + i] = link_inv(link, eta);
-        i += 1;
     }
 }
 
@@ -65,11 +59,9 @@ pub fn pwrss(n: usize, q: usize, u: &[f64], w: &[f64], z: &[f64], c: &[f64]) -> 
     ensures { result ≡ add_to n (dot_of q u.now u.now) (square_at w.now z.now c.now) }
 {
     let mut sum = base::dot(u, u, q);
-    let mut i = 0;
-    while i < n {
+    for i in 0..n {
         let d = z[i] - c[i];
         sum = sum + w[i] * (d * d);
-        i += 1;
     }
     sum
 }

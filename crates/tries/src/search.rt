@@ -10,20 +10,12 @@ use base::is_finite;
 use family::{CarriedLink, link_of};
 use model::{Account, is_inverse};
 
-// What became of a candidate: the first of the three tests that it failed, or its PWRSS.
+// The first of the three tests that a candidate failed.
 #[derive(Clone, Copy)]
-pub enum Try {
-    EtaRefused,
-    MeanRefused,
-    PwrssRefused,
-    Accepted(f64),
-}
-
-// What became of the tries: the PWRSS of the one that was accepted, if one was, and their account.
-#[derive(Clone, Copy)]
-pub enum TriesEnd {
-    Moved(f64, Account),
-    NoMove(Account),
+pub enum TryRefusal {
+    Eta,
+    Mean,
+    Pwrss,
 }
 
 // The try with a step: the candidate into the row at next, its means into the row at mu, each test over all observations before the next.
@@ -40,25 +32,25 @@ pub fn one_try(
     w: &[f64],
     z: &[f64],
     rows: &mut [f64],
-) -> Try
+) -> Result<f64, TryRefusal>
     requires { Room n q prev next raw mu u.now w.now z.now rows.old }
     ensures { TryDone (trial_in link n q prev raw u.now w.now z.now rows.old) next mu step rows.old
         rows.new result }
 {
     candidate(n, prev, next, raw, step, rows);
     if !fine_etas(link, n, next, rows) {
-        return Try::EtaRefused;
+        return Err(TryRefusal::Eta);
     }
     means(link, n, next, mu, rows);
     if !finite_row(n, mu, rows) {
-        return Try::MeanRefused;
+        return Err(TryRefusal::Mean);
     }
     let end = next + n;
     let p = pwrss(n, q, u, w, z, &rows[next..end]);
     if !is_finite(p) {
-        return Try::PwrssRefused;
+        return Err(TryRefusal::Pwrss);
     }
-    Try::Accepted(p)
+    Ok(p)
 }
 
 // The most tries of one iteration.
@@ -72,16 +64,16 @@ fn tries_cap(link: CarriedLink) -> u64
 }
 
 // The account of one try: beside the tries, the one part that it belongs to.
-fn of_try(t: Try) -> Account
+fn of_try(t: Result<f64, TryRefusal>) -> Account
     ensures { result ≡ tally (a_try (fate_of t) ∷ []) }
 {
     let mut one = Account::none();
     one.tries = 1;
     match t {
-        Try::EtaRefused => one.eta = 1,
-        Try::MeanRefused => one.mean = 1,
-        Try::PwrssRefused => one.pwrss = 1,
-        Try::Accepted(_) => one.ok = 1,
+        Err(TryRefusal::Eta) => one.eta = 1,
+        Err(TryRefusal::Mean) => one.mean = 1,
+        Err(TryRefusal::Pwrss) => one.pwrss = 1,
+        Ok(_) => one.ok = 1,
     }
     one
 }
@@ -99,7 +91,7 @@ pub fn tries(
     w: &[f64],
     z: &[f64],
     rows: &mut [f64],
-) -> TriesEnd
+) -> Result<(f64, Account), Account>
     requires { Room n q prev next raw mu u.now w.now z.now rows.old }
     ensures { TriesDone (trial_in link n q prev raw u.now w.now z.now rows.old) next mu rows.old
         rows.new result }
@@ -110,15 +102,10 @@ pub fn tries(
     while made.tries < cap {
         let t = one_try(link, n, q, prev, next, raw, mu, step, u, w, z, rows);
         made = made.plus(of_try(t));
-        match t {
-            Try::Accepted(p) => {
-                return TriesEnd::Moved(p, made);
-            }
-            Try::EtaRefused => {}
-            Try::MeanRefused => {}
-            Try::PwrssRefused => {}
+        if let Ok(pwrss) = t {
+            return Ok((pwrss, made));
         }
         step = step * 0.5;
     }
-    TriesEnd::NoMove(made)
+    Err(made)
 }

@@ -26,10 +26,6 @@ use Rattle.working.specs.Optional.{Optional}
 pub optional_at : (n i : ℕ) (l : List Float) → Optional n l → i < n → Optional (i + 1) l
 optional_at n i l o h = ⊎_elim (λ (e : length l ≡ 0). inl e) (λ (m : n ≤ length l). inr (omega arith)) o
 
--- and it has, where it is not empty
-pub present : (i : ℕ) (l : List Float) → Optional (i + 1) l → (length l ≡ 0 → ⊥) → i < length l
-present i l o h = ⊎_elim (λ (e : length l ≡ 0). absurd (h e)) (λ (m : i + 1 ≤ length l). omega arith) o
-
 -- the raw predictor at an observation whose entry of Zb is still there
 pub raw_entry : (offset x : List Float) (p : ℕ) (beta b s : List Float) (i o : ℕ) (d : Float) → s ≡ fill_to i (raw_at offset x p beta b) b → o ≡ i * p → d ≡ sum_to p (product_from x o beta)
     → plus_offset offset i (d ⊕ (s ! i)) ≡ raw_at offset x p beta b i

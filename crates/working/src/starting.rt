@@ -11,6 +11,7 @@ use family_lists::weight_at;
 use model::Start;
 
 // The mean that a response y with weight wt starts from. The family matters for the usual start alone.
+#[tactic(auto, unfolding(rule::specs::Run::start_mean))]
 fn start_mean(start: Start, family: CarriedFamily, wt: f64, y: f64) -> f64
     ensures { result ≡ start_mean start family wt y }
 {
@@ -32,11 +33,9 @@ pub fn start_means(
     requires { (n ≤ length y.now) × (n ≤ length out.old) }
     ensures { out.new ≡ fill_to n (start_mean_at start family y.now weights.now) out.old }
 {
-    let mut i = 0;
-    while i < n {
+    for i in 0..n {
         let wt = weight_at(weights, i);
         out[i] = start_mean(start, family, wt, y[i]);
-        i += 1;
     }
 }
 
@@ -52,10 +51,8 @@ pub fn start_eta(
     requires { (Optional n offset.now) × (Apart mu_at n eta_at n) × (mu_at + n ≤ length rows.old) × (eta_at + n ≤ length rows.old) }
     ensures { Wrote eta_at n (build (start_eta_at link offset.now (row mu_at n rows.old)) n) rows.old rows.new }
 {
-    let mut i = 0;
-    while i < n {
+    for i in 0..n {
         let eta = link_fun(link, rows[mu_at + i]);
         rows[eta_at + i] = plus_offset(offset, i, eta);
-        i += 1;
     }
 }

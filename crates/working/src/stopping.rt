@@ -24,11 +24,9 @@ pub fn mode_deviances(
     ensures { Wrote dev_at n (build (dev_resid_at family y.now (row mu_at n rows.old) weights.now) n) rows.old
         rows.new }
 {
-    let mut i = 0;
-    while i < n {
+    for i in 0..n {
         let wt = weight_at(weights, i);
         rows[dev_at + i] = dev_resid(family, y[i], rows[mu_at + i], wt);
-        i += 1;
     }
 }
 
@@ -38,22 +36,22 @@ pub fn deviance_sum(devs: &[f64], n: usize) -> f64
     ensures { result ≡ deviance_sum n devs.now }
 {
     let mut sum = 0.0;
-    let mut i = 0;
-    while i < n {
+    for i in 0..n {
         sum = sum + devs[i];
-        i += 1;
     }
     sum
 }
 
 // The fit term: with dispersion it is `aic` less 2, which counts every response and weight that is lent.
+#[tactic(auto, unfolding(rule::specs::Stop::fit_term))]
 pub fn fit_term(family: CarriedFamily, y: &[f64], mu: &[f64], weights: &[f64], dev: f64) -> f64
     ensures { result ≡ fit_term family y.now mu.now weights.now dev }
 {
     if uses_dispersion(family) {
-        return aic_of(family, y, mu, weights, dev) - 2.0;
+        aic_of(family, y, mu, weights, dev) - 2.0
+    } else {
+        dev
     }
-    dev
 }
 
 // The sum of the logarithms of the pivots' sizes.
@@ -62,11 +60,9 @@ pub fn log_pivots(factor: &[f64], q: usize) -> f64
     ensures { result ≡ log_pivots q factor.now }
 {
     let mut sum = 0.0;
-    let mut i = 0;
-    while i < q {
+    for i in 0..q {
         let o = base::offset(i, q, q);
         sum = sum + ln(abs(factor[o + i]));
-        i += 1;
     }
     sum
 }

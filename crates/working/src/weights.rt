@@ -16,12 +16,7 @@ fn met_slope(link: CarriedLink, eta: f64, mu: f64) -> f64
     ensures { result ≡ mu_eta link eta }
 {
     match link {
-        CarriedLink::Logit => {
-            if EPSILON < mu && mu < 1.0 - EPSILON {
-                return max(mu * (1.0 - mu), EPSILON);
-            }
-            mu_eta(link, eta)
-        }
+        CarriedLink::Logit if EPSILON < mu && mu < 1.0 - EPSILON => max(mu * (1.0 - mu), EPSILON),
         CarriedLink::Log => mu,
         _ => mu_eta(link, eta),
     }
@@ -33,9 +28,10 @@ fn slope(link: CarriedLink, eta: f64, mu: f64, met: bool) -> f64
     ensures { result ≡ mu_eta link eta }
 {
     if met {
-        return met_slope(link, eta, mu);
+        met_slope(link, eta, mu)
+    } else {
+        mu_eta(link, eta)
     }
-    mu_eta(link, eta)
 }
 
 // w of every observation into t from w_at on, z from z_at on. The derivative is evaluated once for both; met says that mu are eta's means.
@@ -59,14 +55,12 @@ pub fn working_rows(
         ≡ fill_at z_at n (working_response_at link y.now eta.now mu.now)
         (fill_at w_at n (working_weight_at family link weights.now phi eta.now mu.now) t.old) }
 {
-    let mut i = 0;
-    while i < n {
+    for i in 0..n {
         let e = eta[i];
         let m = mu[i];
         let me = slope(link, e, m, met);
         let wt = weight_at(weights, i);
         t[w_at + i] = working_weight(phi, wt, me, variance(family, m));
         t[z_at + i] = working_response(e, y[i], m, me);
-        i += 1;
     }
 }

@@ -12,7 +12,7 @@ use Rattle.blocks.proofs.shape_of.Goals as goal
 
 pub loop-i-init : goal.loop-i-init
 unfolding placed_to
-loop-i-init c = (omega arith, c.blank-shape.ensures)
+loop-i-init c = c.blank-shape.ensures
 
 -- one block more
 one_more : (bs : List Block) (n : ℕ) → placed_to bs (n + 1) ≡ put_at (placed_to bs n) n (get_or bs n no_block)
@@ -27,15 +27,13 @@ all_placed bs = refl
 pub loop-i-preserved : goal.loop-i-preserved
 loop-i-preserved c =
     let bs = c.args.blocks.now in
-    let i = c.loop-i.i in (
-      omega arith,
-      c.put-shape.ensures
-          ∙ ap (λ (s : Shape). put_at s i c.block_or.result) c.loop-i.invariant.1
-          ∙ ap (put_at (placed_to bs i) i) c.block_or.ensures
-          ∙ sym (one_more bs i),
-    )
+    let i = c.loop-i.i in
+    c.put-shape.ensures
+    ∙ ap (λ (s : Shape). put_at s i c.block_or.result) c.loop-i.invariant
+    ∙ ap (put_at (placed_to bs i) i) c.block_or.ensures
+    ∙ sym (one_more bs i)
 
 pub returns : goal.returns
 returns c =
     let e : c.loop-i.i ≡ 8 = omega arith in
-    c.loop-i.invariant.1 ∙ ap (placed_to c.args.blocks.now) e ∙ all_placed c.args.blocks.now
+    c.loop-i.invariant ∙ ap (placed_to c.args.blocks.now) e ∙ all_placed c.args.blocks.now

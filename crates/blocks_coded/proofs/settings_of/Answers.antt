@@ -3,10 +3,10 @@ use mathlib.Core.Path.{sym, ◌∙◌}
 use Rattle.blocks_coded.specs.Coded.{with_family, settings_of}
 use Rattle.blocks_coded.proofs.settings_of.Goals as goal
 
-pub returns-in-Found : goal.returns-in-Found
+pub returns-in-Some : goal.returns-in-Some
 unfolding settings_of with_family
-returns-in-Found c = rw (sym c.family_coded.ensures ∙ c.in-Found.is) c.with_link.ensures
+returns-in-Some c = rw (sym c.family_coded.ensures ∙ c.in-Some.is) c.with_link.ensures
 
-pub returns-in-NoSuch : goal.returns-in-NoSuch
+pub returns-in-None : goal.returns-in-None
 unfolding settings_of with_family
-returns-in-NoSuch c = rw (sym c.family_coded.ensures ∙ c.in-NoSuch.is) c.without_name.ensures
+returns-in-None c = rw (sym c.family_coded.ensures ∙ c.in-None.is) c.without_name.ensures

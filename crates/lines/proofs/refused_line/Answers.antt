@@ -1,18 +1,13 @@
 -- `lines::refused_line` meets its contract: its pieces stand behind one another from the front on. Assumes nothing.
 use native.Mathlib.Omega.{arith}
-use Rattle.lines.specs.Lines.{pairs_text, line_of, refused_line}
+use borrow.Author.Rules.{rules}
+use Rattle.lines.specs.Lines.{pairs_text, line_of, refused_line, Written}
 use Rattle.lines.proofs.Pieces.{pair_and, from_front}
 use Rattle.lines.proofs.refused_line.Goals as goal
-
-pub put_pair-placed-requires : goal.put_pair-placed-requires
-put_pair-placed-requires c = omega (arith, c.put_pair-told.ensures.few)
-
-pub put_bytes-requires : goal.put_bytes-requires
-put_bytes-requires c = omega (arith, c.put_pair-placed.ensures.few, c.put_pair-told.ensures.few)
 
 pub returns : goal.returns
 unfolding pairs_text line_of refused_line
 returns c =
-    let a = c.put_pair-told.ensures in
-    let b = c.put_pair-placed.ensures in
-    from_front (pair_and a (pair_and b c.put_bytes.ensures (omega (arith, a.few))) (omega arith))
+    let w : Written (refused_line c.args.fault.number c.args.fault.byte) c.args.out.now c.put.new.self.at c.put.new.self.out.now =
+    from_front (pair_and c.pair.ensures.paired (pair_and c.pair-2.ensures.paired c.put.ensures.appended (omega arith)) (omega arith)) in
+    search (rules, w.0, w.1)

@@ -2,18 +2,13 @@
 use mathlib.Core.Path.{◌≡◌}
 use native.Mathlib.Omega.{arith}
 use lib.ListN.{length-set}
-use borrow.Author.Rules.{rules}
 use Rattle.lines.specs.Decimals.{decimals}
 use Rattle.lines.proofs.DigitLaws.{digit_stored}
 use Rattle.lines.proofs.twenty.Goals as goal
 
-pub loop-i-init : goal.loop-i-init
-unfolding decimals
-loop-i-init c = search rules
-
 pub loop-i-preserved : goal.loop-i-preserved
-loop-i-preserved c = (omega arith, simp length-set (omega arith), digit_stored _ _ _ _ c.loop-i-test.true (omega arith) c.loop-i.invariant.2)
+loop-i-preserved c = (simp length-set (omega arith), digit_stored _ _ _ _ (omega arith) (omega arith) c.loop-i.invariant.1)
 
 pub returns : goal.returns
 unfolding decimals
-returns c = let z : c.loop-i.i ≡ 0 = omega arith in rw z at c.loop-i.invariant.2
+returns c = let z : c.loop-i.i ≡ 0 = omega arith in rw z at c.loop-i.invariant.1

@@ -1,36 +1,18 @@
--- `names::named` meets its contract: its tests are those of the definition, link by link.
-use mathlib.Core.Path.{sym, ◌∙◌}
-use Rattle.names.specs.Names.{named_among}
+-- `names::named` meets its contract: no link before the one to come has the name.
+use mathlib.Core.Path.{refl, sym}
+use mathlib.Core.Bool.{true≢false}
+use mathlib.Core.List.{map}
+use native.Mathlib.Omega.{arith}
+use Rattle.model.specs.declared.names.Link.TheVariants.{Logit}
+use Rattle.names.specs.Names.{all_links, lower_of}
+use Rattle.names.proofs.Spelled.{named_here, named_behind, named_by_none}
 use Rattle.names.proofs.named.Goals as goal
 
-pub returns-then-spells : goal.returns-then-spells
-unfolding named_among
-returns-then-spells c = rw (sym c.spells.ensures ∙ c.if-spells.true)
+pub returns-then-eq_ignore_ascii_case : goal.returns-then-eq_ignore_ascii_case
+returns-then-eq_ignore_ascii_case c = named_here all_links c.loop-link.link-index Logit c.args.word.now _ c.text.ensures (omega arith) (c.if-eq_ignore_ascii_case.ensures.test.0 refl) c.loop-link.invariant
 
-pub returns-then-spells-2 : goal.returns-then-spells-2
-unfolding named_among
-returns-then-spells-2 c = rw (sym c.spells.ensures ∙ c.if-spells.false, sym c.spells-2.ensures ∙ c.if-spells-2.true)
-
-pub returns-then-spells-3 : goal.returns-then-spells-3
-unfolding named_among
-returns-then-spells-3 c = rw (sym c.spells.ensures ∙ c.if-spells.false, sym c.spells-2.ensures ∙ c.if-spells-2.false, sym c.spells-3.ensures ∙ c.if-spells-3.true)
-
-pub returns-then-spells-4 : goal.returns-then-spells-4
-unfolding named_among
-returns-then-spells-4 c = rw (sym c.spells.ensures ∙ c.if-spells.false, sym c.spells-2.ensures ∙ c.if-spells-2.false, sym c.spells-3.ensures ∙ c.if-spells-3.false, sym c.spells-4.ensures ∙ c.if-spells-4.true)
-
-pub returns-then-spells-5 : goal.returns-then-spells-5
-unfolding named_among
-returns-then-spells-5 c = rw (sym c.spells.ensures ∙ c.if-spells.false, sym c.spells-2.ensures ∙ c.if-spells-2.false, sym c.spells-3.ensures ∙ c.if-spells-3.false, sym c.spells-4.ensures ∙ c.if-spells-4.false, sym c.spells-5.ensures ∙ c.if-spells-5.true)
-
-pub returns-then-spells-6 : goal.returns-then-spells-6
-unfolding named_among
-returns-then-spells-6 c = rw (sym c.spells.ensures ∙ c.if-spells.false, sym c.spells-2.ensures ∙ c.if-spells-2.false, sym c.spells-3.ensures ∙ c.if-spells-3.false, sym c.spells-4.ensures ∙ c.if-spells-4.false, sym c.spells-5.ensures ∙ c.if-spells-5.false, sym c.spells-6.ensures ∙ c.if-spells-6.true)
-
-pub returns-then-spells-7 : goal.returns-then-spells-7
-unfolding named_among
-returns-then-spells-7 c = rw (sym c.spells.ensures ∙ c.if-spells.false, sym c.spells-2.ensures ∙ c.if-spells-2.false, sym c.spells-3.ensures ∙ c.if-spells-3.false, sym c.spells-4.ensures ∙ c.if-spells-4.false, sym c.spells-5.ensures ∙ c.if-spells-5.false, sym c.spells-6.ensures ∙ c.if-spells-6.false, sym c.spells-7.ensures ∙ c.if-spells-7.true)
+pub loop-link-preserved : goal.loop-link-preserved
+loop-link-preserved c = named_behind all_links c.loop-link.link-index Logit c.args.word.now _ c.text.ensures (omega arith) (λ e. true≢false (sym (c.if-eq_ignore_ascii_case.ensures.test.1 e))) c.loop-link.invariant
 
 pub returns : goal.returns
-unfolding named_among
-returns c = rw (sym c.spells.ensures ∙ c.if-spells.false, sym c.spells-2.ensures ∙ c.if-spells-2.false, sym c.spells-3.ensures ∙ c.if-spells-3.false, sym c.spells-4.ensures ∙ c.if-spells-4.false, sym c.spells-5.ensures ∙ c.if-spells-5.false, sym c.spells-6.ensures ∙ c.if-spells-6.false, sym c.spells-7.ensures ∙ c.if-spells-7.false)
+returns c = named_by_none all_links c.loop-link.link-index (map lower_of c.args.word.now) (omega arith) c.loop-link.invariant

@@ -4,12 +4,7 @@ use Rattle.text.proofs.Digits.{digit_stored}
 use mathlib.Core.Path.{◌≡◌}
 use native.Mathlib.Omega.{arith}
 use Rattle.text.specs.Hex.{hex_digits}
-use borrow.Author.Rules.{rules}
 use Rattle.text.proofs.hex16.Goals as goal
-
-pub loop-i-init : goal.loop-i-init
-unfolding hex_digits
-loop-i-init c = search rules
 
 pub loop-i-preserved : goal.loop-i-preserved
 loop-i-preserved c = (omega arith, simp length-set (omega arith), rw c.hex_digit.ensures (digit_stored _ _ _ _ c.loop-i-test.true (omega arith) c.loop-i.invariant.2))

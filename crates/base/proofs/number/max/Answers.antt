@@ -1,16 +1,14 @@
 -- `base::max` meets its contract: the two tests are the two sides of the definition's `or`.
 use mathlib.Core.Path.{sym, ◌∙◌}
 use Rattle.base.specs.Number.{max_f}
+use Rattle.base.proofs.Doubles.{ff}
 use Rattle.base.proofs.number.max.Goals as goal
-
-pub returns-then-b-a : goal.returns-then-b-a
-unfolding max_f
-returns-then-b-a c = rw c.if-b-a.true
+use Rattle.base.proofs.number.max.Goals.{then-b-a, else-b-a}
 
 pub returns-then-is_nan : goal.returns-then-is_nan
 unfolding max_f
-returns-then-is_nan c = rw (c.if-b-a.false, sym c.is_nan.ensures ∙ c.if-is_nan.true)
+returns-then-is_nan c = elim c.if-b-a.branch [ then-b-a w ↦ rw w.if-b-a.true | else-b-a w ↦ rw (w.if-b-a.false, sym w.is_nan.ensures ∙ sym w.value-is ∙ c.if-is_nan.true) ]
 
-pub returns : goal.returns
+pub returns-else-is_nan : goal.returns-else-is_nan
 unfolding max_f
-returns c = rw (c.if-b-a.false, sym c.is_nan.ensures ∙ c.if-is_nan.false)
+returns-else-is_nan c = elim c.if-b-a.branch [ then-b-a w ↦ absurd (ff (sym c.if-is_nan.false ∙ w.value-is ∙ w.if-b-a.true)) | else-b-a w ↦ rw (w.if-b-a.false, sym w.is_nan.ensures ∙ sym w.value-is ∙ c.if-is_nan.false) ]

@@ -1,36 +1,18 @@
--- `base::columns_ok` meets its contract: before entry t the entries before it passed, and one that fails settles it.
-use mathlib.Core.Path.{sym, ◌∙◌}
-use mathlib.Core.Bool.{true}
+-- `base::columns_ok` meets its contract: `all` asks of each entry of the row what the definition asks.
+use mathlib.Core.Path.{refl, ◌∙◌}
 use Prim.Native.Nat.{◌-◌}
 use native.Mathlib.Omega.{arith}
-use Rattle.base.specs.Sparse.{column_fits, good_columns}
-use Rattle.base.proofs.Sums.{all_fails, all_step}
-use Rattle.base.proofs.Loops.{loops}
 use borrow.Author.Rules.{rules}
+use borrow.Author.Tests.{tests}
+use Rattle.std.proofs.lemmas.Iterator.{YieldsList-from_range}
+use Rattle.std.proofs.lemmas.Iterator.Search.{all_from_yields_List}
+use Rattle.base.specs.Sparse.{column_fits, good_columns}
+use Rattle.base.proofs.Every.{every_index}
 use Rattle.base.proofs.sparse.columns_ok.Goals as goal
-
-pub overflow_sub-count : goal.overflow_sub-count
-overflow_sub-count c = search (rules, loops)
-
-pub loop-t-init : goal.loop-t-init
-loop-t-init c = search (rules, loops)
-
-pub column_fits-requires : goal.column_fits-requires
-column_fits-requires c = search (rules, loops)
-
-pub returns-then-not-column_fits : goal.returns-then-not-column_fits
-unfolding good_columns
-returns-then-not-column_fits c = all_fails _ _ _ c.loop-t-test.true (sym c.column_fits.ensures ∙ c.if-not-column_fits.true)
-
-pub overflow_add-t : goal.overflow_add-t
-overflow_add-t c = search (rules, loops)
-
-pub loop-t-smaller : goal.loop-t-smaller
-loop-t-smaller c = search (rules, loops)
-
-pub loop-t-preserved : goal.loop-t-preserved
-loop-t-preserved c = (omega arith, all_step _ _ c.loop-t.invariant.1 (sym c.column_fits.ensures ∙ c.if-not-column_fits.false))
 
 pub returns : goal.returns
 unfolding good_columns
-returns c = search (rules, loops)
+returns c =
+    let count = c.args.e - c.args.b in
+    let fits = column_fits c.args.columns.now c.args.n c.args.b in
+    all_from_yields_List fits _ _ _ c.all.ensures.ran (YieldsList-from_range 0 count count refl (omega arith)) (λ x b q k. search (rules, tests)) ∙ every_index fits count

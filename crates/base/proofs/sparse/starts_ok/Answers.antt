@@ -1,67 +1,30 @@
--- `base::starts_ok` meets its contract: the two ends are tested first, then before row a no earlier row fell.
-use mathlib.Core.Bool.{true}
-use Prim.Native.Nat.{◌-◌}
+-- `base::starts_ok` meets its contract: the two ends are tested first, then that no row falls.
+use mathlib.Core.Path.{refl, sym, ◌∙◌}
 use native.Mathlib.Omega.{arith}
-use borrow.Author.Tests.{eq-eqb, ne_eqb, le-leb, lt-leb}
-use Rattle.base.specs.Sparse.{not_falling, good_starts}
-use Rattle.base.proofs.Sums.{all_fails, all_step, all_end}
-use Rattle.base.proofs.Loops.{loops}
 use borrow.Author.Rules.{rules}
+use borrow.Author.Tests.{eq-eqb, ne_eqb, tests}
+use Rattle.std.proofs.lemmas.Iterator.{YieldsList-from_range}
+use Rattle.std.proofs.lemmas.Iterator.Search.{all_from_yields_List}
+use Rattle.base.specs.Sparse.{not_falling, good_starts}
+use Rattle.base.proofs.Doubles.{ff}
+use Rattle.base.proofs.Every.{every_index}
 use Rattle.base.proofs.sparse.starts_ok.Goals as goal
-
-pub bounds-starts-0 : goal.bounds-starts-0
-bounds-starts-0 c = search (rules, loops)
-
-pub returns-then-starts-ne0 : goal.returns-then-starts-ne0
-unfolding good_starts
-returns-then-starts-ne0 c = rw (ne_eqb _ 0 c.if-starts-ne0.true)
-
-pub offset_bounds-starts-rows : goal.offset_bounds-starts-rows
-offset_bounds-starts-rows c = search (rules, loops)
-
-pub bounds-starts-rows : goal.bounds-starts-rows
-bounds-starts-rows c = search (rules, loops)
+use Rattle.base.proofs.sparse.starts_ok.Goals.{then-starts-eq0, else-starts-eq0}
 
 pub returns-then-starts-rows : goal.returns-then-starts-rows
-unfolding good_starts
-returns-then-starts-rows c = rw (eq-eqb _ 0 c.if-starts-ne0.false, ne_eqb _ _ c.if-starts-rows.true)
-
-pub loop-a-init : goal.loop-a-init
-loop-a-init c = search (rules, loops)
-
-pub overflow_add-a : goal.overflow_add-a
-overflow_add-a c = search (rules, loops)
-
-pub offset_bounds-starts-a : goal.offset_bounds-starts-a
-offset_bounds-starts-a c = search (rules, loops)
-
-pub bounds-starts-a : goal.bounds-starts-a
-bounds-starts-a c = search (rules, loops)
-
-pub offset_bounds-starts-a-in-loop-a : goal.offset_bounds-starts-a-in-loop-a
-offset_bounds-starts-a-in-loop-a c = search (rules, loops)
-
-pub bounds-starts-a-in-loop-a : goal.bounds-starts-a-in-loop-a
-bounds-starts-a-in-loop-a c = search (rules, loops)
-
-pub returns-then-starts-a : goal.returns-then-starts-a
 unfolding good_starts not_falling
-returns-then-starts-a c =
-    rw (eq-eqb _ 0 c.if-starts-ne0.false, eq-eqb _ _ c.if-starts-rows.false)
-    (all_fails _ _ _ c.loop-a-test.true (lt-leb _ _ c.if-starts-a.true))
+returns-then-starts-rows c =
+    let kept = not_falling c.args.starts.now in
+    let asked = all_from_yields_List kept _ _ c.all.result c.all.ensures.ran (YieldsList-from_range 0 c.args.rows c.args.rows refl (omega arith)) (λ x b q k. search (rules, tests)) ∙ every_index kept c.args.rows in
+    elim c.if-starts-eq0.branch [
+      | then-starts-eq0 w ↦ rw (eq-eqb _ 0 w.if-starts-eq0.true, sym w.value-is ∙ c.if-starts-rows.true) asked
+      | else-starts-eq0 w ↦ absurd (ff (sym (ne_eqb _ 0 w.if-starts-eq0.false) ∙ sym w.value-is ∙ c.if-starts-rows.true))
+    ]
 
-pub overflow_add-a-in-loop-a : goal.overflow_add-a-in-loop-a
-overflow_add-a-in-loop-a c = search (rules, loops)
-
-pub loop-a-smaller : goal.loop-a-smaller
-loop-a-smaller c = search (rules, loops)
-
-pub loop-a-preserved : goal.loop-a-preserved
-unfolding not_falling
-loop-a-preserved c = (omega arith, all_step _ _ c.loop-a.invariant.1 (le-leb _ _ c.if-starts-a.false))
-
-pub returns : goal.returns
+pub returns-else-starts-rows : goal.returns-else-starts-rows
 unfolding good_starts
-returns c =
-    rw (eq-eqb _ 0 c.if-starts-ne0.false, eq-eqb _ _ c.if-starts-rows.false)
-    (all_end _ _ _ c.loop-a.invariant.1 (omega arith) (omega arith))
+returns-else-starts-rows c =
+    elim c.if-starts-eq0.branch [
+      | then-starts-eq0 w ↦ rw (eq-eqb _ 0 w.if-starts-eq0.true, sym w.value-is ∙ c.if-starts-rows.false) c.if-starts-rows.false
+      | else-starts-eq0 w ↦ rw (ne_eqb _ 0 w.if-starts-eq0.false) c.if-starts-rows.false
+    ]

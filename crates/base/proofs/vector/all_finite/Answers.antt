@@ -1,36 +1,15 @@
--- `base::all_finite` meets its contract: before turn i the first i numbers passed, and one that fails settles it.
-use Rattle.base.proofs.Sums.{all_fails, all_step}
-use native.Mathlib.Omega.{arith}
-use mathlib.Core.Path.{sym, ◌∙◌}
-use mathlib.Core.Bool.{true}
-use Prim.Native.Nat.{◌-◌}
-use Rattle.base.proofs.Loops.{loops}
+-- `base::all_finite` meets its contract: `all` asks of each of the first n entries whether it is finite.
+use mathlib.Core.Path.{◌∙◌}
+use lib.ListN.{take}
 use borrow.Author.Rules.{rules}
+use borrow.Author.Tests.{tests}
+use Rattle.std.proofs.lemmas.Iterator.{YieldsList-from_slice}
+use Rattle.std.proofs.lemmas.Iterator.Search.{all_from_yields_List}
+use Rattle.base.specs.Number.{finite}
+use Rattle.base.proofs.Every.{every_entry}
 use Rattle.base.proofs.vector.all_finite.Goals as goal
 
-pub loop-i-init : goal.loop-i-init
-loop-i-init c = search (rules, loops)
-
-pub offset_bounds-a-i : goal.offset_bounds-a-i
-offset_bounds-a-i c = search (rules, loops)
-
-pub bounds-a-i : goal.bounds-a-i
-bounds-a-i c = search (rules, loops)
-
-pub is_finite-requires : goal.is_finite-requires
-is_finite-requires c = search (rules, loops)
-
-pub returns-then-not-is_finite : goal.returns-then-not-is_finite
-returns-then-not-is_finite c = all_fails _ _ _ c.loop-i-test.true (sym c.is_finite.ensures ∙ c.if-not-is_finite.true)
-
-pub overflow_add-i : goal.overflow_add-i
-overflow_add-i c = search (rules, loops)
-
-pub loop-i-smaller : goal.loop-i-smaller
-loop-i-smaller c = search (rules, loops)
-
-pub loop-i-preserved : goal.loop-i-preserved
-loop-i-preserved c = (omega arith, all_step _ _ c.loop-i.invariant.1 (sym c.is_finite.ensures ∙ c.if-not-is_finite.false))
-
 pub returns : goal.returns
-returns c = search (rules, loops)
+returns c =
+    all_from_yields_List finite _ _ _ c.all.ensures.ran (YieldsList-from_slice (take c.args.n c.args.a.now) cc) (λ x b q k. search (rules, tests))
+    ∙ every_entry finite c.args.a.now c.args.n c.requires

@@ -1,35 +1,13 @@
--- `base::copy` meets its contract: before turn i the first i places hold the first i numbers.
-use Prim.Native.Nat.{◌-◌}
-use Rattle.base.proofs.Loops.{loops}
-use borrow.Author.Rules.{rules}
+-- `base::copy` meets its contract: the front of out is the front of a.
+use native.Mathlib.Omega.{arith}
+use lib.ListN.{length-take}
+use lib.Ieee.{nan}
+use Rattle.std.proofs.lemmas.List.{get_or-take}
+use Rattle.base.specs.List.{entry_of}
+use Rattle.base.proofs.Every.{front_filled}
 use Rattle.base.proofs.vector.copy.Goals as goal
 
-pub loop-i-init : goal.loop-i-init
-loop-i-init c = search (rules, loops)
-
-pub offset_bounds-a-i : goal.offset_bounds-a-i
-offset_bounds-a-i c = search (rules, loops)
-
-pub bounds-a-i : goal.bounds-a-i
-bounds-a-i c = search (rules, loops)
-
-pub offset_bounds-out-i : goal.offset_bounds-out-i
-offset_bounds-out-i c = search (rules, loops)
-
-pub bounds-out-i : goal.bounds-out-i
-bounds-out-i c = search (rules, loops)
-
-pub overflow_add-i : goal.overflow_add-i
-overflow_add-i c = search (rules, loops)
-
-pub loop-i-smaller : goal.loop-i-smaller
-loop-i-smaller c = search (rules, loops)
-
-pub loop-i-preserved : goal.loop-i-preserved
-loop-i-preserved c = search (rules, loops)
-
-pub shape_of-out : goal.shape_of-out
-shape_of-out c = search (rules, loops)
-
 pub returns : goal.returns
-returns c = search (rules, loops)
+returns c =
+    rw c.copy_from_slice.ensures.after
+    (front_filled c.args.n (entry_of c.args.a.now) c.args.out.now _ c.requires.1 (omega (arith, length-take c.args.n c.args.a.now, c.requires.0)) (λ i l. get_or-take c.args.n c.args.a.now i nan l))

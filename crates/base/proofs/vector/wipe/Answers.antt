@@ -1,29 +1,17 @@
--- `base::wipe` meets its contract: before turn i the first i places are +0.0.
-use Prim.Native.Nat.{◌-◌}
-use Rattle.base.proofs.Loops.{loops}
-use borrow.Author.Rules.{rules}
+-- `base::wipe` meets its contract: the front of out is +0.0 n times.
+use mathlib.Core.Path.{◌≡◌}
+use native.Mathlib.Omega.{arith}
+use lib.ListN.{length, take, length-take, length-replicate}
+use lib.Ieee.{nan}
+use Rattle.std.proofs.lemmas.List.{get_or-replicate}
+use Rattle.base.specs.Number.{zero_f}
+use Rattle.base.specs.List.{zero_at}
+use Rattle.base.proofs.Every.{front_filled}
 use Rattle.base.proofs.vector.wipe.Goals as goal
 
-pub loop-i-init : goal.loop-i-init
-loop-i-init c = search (rules, loops)
-
-pub offset_bounds-out-i : goal.offset_bounds-out-i
-offset_bounds-out-i c = search (rules, loops)
-
-pub bounds-out-i : goal.bounds-out-i
-bounds-out-i c = search (rules, loops)
-
-pub overflow_add-i : goal.overflow_add-i
-overflow_add-i c = search (rules, loops)
-
-pub loop-i-smaller : goal.loop-i-smaller
-loop-i-smaller c = search (rules, loops)
-
-pub loop-i-preserved : goal.loop-i-preserved
-loop-i-preserved c = search (rules, loops)
-
-pub shape_of-out : goal.shape_of-out
-shape_of-out c = search (rules, loops)
-
 pub returns : goal.returns
-returns c = search (rules, loops)
+returns c =
+    let n = c.args.n in
+    let whole : length (take n c.args.out.now) ≡ n = omega (arith, length-take n c.args.out.now, c.requires) in
+    rw (c.fill.ensures.after, whole)
+    (front_filled n zero_at c.args.out.now _ c.requires (length-replicate n zero_f) (λ i l. get_or-replicate n i zero_f nan l))

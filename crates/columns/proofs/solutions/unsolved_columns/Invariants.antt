@@ -1,13 +1,8 @@
 -- `columns::unsolved_columns` meets its contract: before turn a the first a columns stand one behind the other.
 use mathlib.Core.Path.{◌≡◌}
-use Prim.Native.Nat.{◌≤◌, ◌-◌}
-use lib.ListN.{length}
 use Rattle.base.specs.List.{grid_to}
 use Rattle.columns.specs.Pieces.{unsolved_at}
 use Rattle.columns.proofs.solutions.unsolved_columns.Given as goal
 
 abbrev pub invariant-loop-a : goal.invariant-loop-a
-invariant-loop-a l = (l.a ≤ l.p) × (length l.out ≡ length l.initial.out) × (l.out ≡ grid_to l.a l.q (unsolved_at l.shape l.theta l.s l.p l.q) l.initial.out)
-
-abbrev pub decreases-loop-a : goal.decreases-loop-a
-decreases-loop-a l = l.p - l.a
+invariant-loop-a l = l.out ≡ grid_to l.a l.q (unsolved_at l.shape l.theta l.s l.p l.q) l.initial.out

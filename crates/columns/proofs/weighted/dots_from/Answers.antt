@@ -8,16 +8,16 @@ use Rattle.columns.proofs.weighted.dots_from.Goals as goal
 pub returns-then-p-lt2 : goal.returns-then-p-lt2
 returns-then-p-lt2 c =
     let a = c.args in
-    columns_further (weighted_dot a.x.now a.p a.n a.w.now a.v.now) a.p a.b a.b 1 a.out.now _ (omega arith) (omega arith) (omega arith) (omega arith) c.one_dot.ensures
+    columns_further (weighted_dot a.x.now a.p a.n a.w.now a.v.now) a.p a.b a.b 1 a.out.now _ (omega arith) (omega arith) (omega arith) (omega arith) c.some_dots.ensures
 
 pub returns-then-p-lt6 : goal.returns-then-p-lt6
 returns-then-p-lt6 c =
     let a = c.args in
     let within = begin_within a.b a.p 2 _ (omega arith) (omega arith) (omega arith) c.begin_at-o.ensures in
-    columns_further (weighted_dot a.x.now a.p a.n a.w.now a.v.now) a.p a.b _ 2 a.out.now _ within.0 within.1 within.2 (omega arith) c.two_dots.ensures
+    columns_further (weighted_dot a.x.now a.p a.n a.w.now a.v.now) a.p a.b _ 2 a.out.now _ within.0 within.1 within.2 (omega arith) c.some_dots-then-p-lt6.ensures
 
 pub returns : goal.returns
 returns c =
     let a = c.args in
     let within = begin_within a.b a.p 6 _ (omega arith) (omega arith) (omega arith) c.begin_at-o-2.ensures in
-    columns_further (weighted_dot a.x.now a.p a.n a.w.now a.v.now) a.p a.b _ 6 a.out.now _ within.0 within.1 within.2 (omega arith) c.six_dots.ensures
+    columns_further (weighted_dot a.x.now a.p a.n a.w.now a.v.now) a.p a.b _ 6 a.out.now _ within.0 within.1 within.2 (omega arith) c.some_dots-2.ensures

@@ -1,6 +1,6 @@
 -- `columns::entry_sums` meets its contract: before entry k each sum is that of the row's entries before it; an entry's column is one of the n observations.
 use mathlib.Core.Path.{◌≡◌}
-use Prim.Native.Nat.{◌≤◌, ◌-◌}
+use Prim.Native.Nat.{◌≤◌}
 use lib.ListN.{length}
 use Rattle.base.specs.List.{build}
 use Rattle.base.specs.Sparse.{Rising}
@@ -8,7 +8,4 @@ use Rattle.columns.specs.Weighted.{entries_side, starting_at}
 use Rattle.columns.proofs.weighted.entry_sums.Given as goal
 
 abbrev pub invariant-loop-k : goal.invariant-loop-k
-invariant-loop-k l = (l.begin ≤ l.k) × (l.k ≤ l.end) × (Rising l.columns l.n l.begin l.end) × (length l.sums ≡ length l.initial.sums) × (length l.sums ≡ l.count) × (l.sums ≡ build (starting_at (entries_side l.columns l.values l.x l.p l.w l.begin l.k) l.b) l.count)
-
-abbrev pub decreases-loop-k : goal.decreases-loop-k
-decreases-loop-k l = l.end - l.k
+invariant-loop-k l = (l.begin ≤ l.k) × (l.k ≤ l.end) × (Rising l.zt.columns.now l.n l.begin l.end) × (length l.sums ≡ l.count) × (l.sums ≡ build (starting_at (entries_side l.zt.columns.now l.zt.values.now l.x l.p l.w l.begin l.k) l.b) l.count)

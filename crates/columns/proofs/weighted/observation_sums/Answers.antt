@@ -1,6 +1,5 @@
 -- `columns::observation_sums` meets its contract: before turn i each sum is that of the first i observations, and the products of a sum do not depend on the order of their factors.
 use mathlib.Core.Path.{refl, ap, ◌∙◌}
-use Prim.Native.Nat.{◌-◌}
 use lib.ListN.{length, length-replicate}
 use Rattle.base.specs.Number.{zero_f}
 use Rattle.columns.proofs.WeightedSums.{dots_none, dots_step, dots_end}
@@ -11,34 +10,7 @@ pub loop-i-init : goal.loop-i-init
 loop-i-init c =
     let a = c.args in
     let none = c.requires.count_bound.1 in
-    (omega arith, omega arith, ap length none ∙ length-replicate a.count zero_f, dots_none a.x.now a.p a.w.now a.v.now a.b a.count _ none)
-
-pub offset-o-requires : goal.offset-o-requires
-offset-o-requires c = omega arith
-
-pub offset_bounds-w-i : goal.offset_bounds-w-i
-offset_bounds-w-i c = omega arith
-
-pub bounds-w-i : goal.bounds-w-i
-bounds-w-i c = omega arith
-
-pub offset_bounds-v-i : goal.offset_bounds-v-i
-offset_bounds-v-i c = omega arith
-
-pub bounds-v-i : goal.bounds-v-i
-bounds-v-i c = omega arith
-
-pub overflow_add-o : goal.overflow_add-o
-overflow_add-o c = omega arith
-
-pub add_weighted-requires : goal.add_weighted-requires
-add_weighted-requires c = omega arith
-
-pub overflow_add-i : goal.overflow_add-i
-overflow_add-i c = omega arith
-
-pub loop-i-smaller : goal.loop-i-smaller
-loop-i-smaller c = omega arith
+    (ap length none ∙ length-replicate a.count zero_f, dots_none a.x.now a.p a.w.now a.v.now a.b a.count _ none)
 
 pub loop-i-preserved : goal.loop-i-preserved
 loop-i-preserved c =
@@ -46,13 +18,10 @@ loop-i-preserved c =
     let a = c.args in
     let place = c.offset-o.ensures.0 in
     let added = c.add_weighted.ensures in
-    (omega arith, omega arith, omega arith, dots_step a.x.now a.p a.w.now a.v.now a.b a.count loop.i _ _ loop.sums _ place refl loop.invariant.3 added)
-
-pub shape_of-sums : goal.shape_of-sums
-shape_of-sums c = omega arith
+    (omega arith, dots_step a.x.now a.p a.w.now a.v.now a.b a.count loop.i _ _ loop.sums _ place refl loop.invariant.1 added)
 
 pub returns : goal.returns
 returns c =
     let a = c.args in
     let loop = c.loop-i in
-    dots_end a.x.now a.p a.w.now a.v.now a.b a.count a.n loop.i _ (omega arith) (omega arith) loop.invariant.3
+    dots_end a.x.now a.p a.w.now a.v.now a.b a.count a.n loop.i _ (omega arith) (omega arith) loop.invariant.1

@@ -1,6 +1,5 @@
 -- `columns::observation_sums` meets its contract: before turn i each sum is that of the first i observations, and the products of a sum do not depend on the order of their factors.
 use mathlib.Core.Path.{◌≡◌}
-use Prim.Native.Nat.{◌≤◌, ◌-◌}
 use lib.ListN.{length}
 use Rattle.base.specs.List.{build}
 use Rattle.columns.specs.Weighted.{starting_at}
@@ -8,7 +7,4 @@ use Rattle.columns.proofs.WeightedSums.{dot_to}
 use Rattle.columns.proofs.weighted.observation_sums.Given as goal
 
 abbrev pub invariant-loop-i : goal.invariant-loop-i
-invariant-loop-i l = (l.i ≤ l.n) × (length l.sums ≡ length l.initial.sums) × (length l.sums ≡ l.count) × (l.sums ≡ build (starting_at (dot_to l.x l.p l.w l.v l.i) l.b) l.count)
-
-abbrev pub decreases-loop-i : goal.decreases-loop-i
-decreases-loop-i l = l.n - l.i
+invariant-loop-i l = (length l.sums ≡ l.count) × (l.sums ≡ build (starting_at (dot_to l.x l.p l.w l.v l.i) l.b) l.count)

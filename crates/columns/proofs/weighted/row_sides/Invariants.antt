@@ -7,7 +7,7 @@ use Rattle.columns.specs.Weighted.{entries_side}
 use Rattle.columns.proofs.weighted.row_sides.Given as goal
 
 abbrev pub invariant-loop-b : goal.invariant-loop-b
-invariant-loop-b l = (l.b ≤ l.p) × (length l.out ≡ length l.initial.out) × (l.out ≡ fill_to l.b (entries_side l.columns l.values l.x l.p l.w l.begin l.end) l.initial.out)
+invariant-loop-b l = (l.b ≤ l.p) × (length l.out ≡ length l.initial.out) × (l.out ≡ fill_to l.b (entries_side l.zt.columns.now l.zt.values.now l.x l.p l.w l.begin l.end) l.initial.out)
 
 abbrev pub decreases-loop-b : goal.decreases-loop-b
 decreases-loop-b l = l.p - l.b

@@ -5,40 +5,19 @@ use Rattle.columns.proofs.WeightedSums.{columns_further}
 use native.Mathlib.Omega.{arith}
 use Rattle.columns.proofs.weighted.sides_from.Goals as goal
 
-pub one_side-requires : goal.one_side-requires
-one_side-requires c = record {
-  rising = c.requires.rising;
-  columns_len = omega arith;
-  b_bound = omega arith;
-}
-
 pub returns-then-p-lt2 : goal.returns-then-p-lt2
 returns-then-p-lt2 c =
     let a = c.args in
-    columns_further (entries_side a.columns.now a.values.now a.x.now a.p a.w.now a.begin a.end) a.p a.b a.b 1 a.out.now _ (omega arith) (omega arith) (omega arith) (omega arith) c.one_side.ensures
-
-pub two_sides-requires : goal.two_sides-requires
-two_sides-requires c = record {
-  rising = c.requires.rising;
-  columns_len = omega arith;
-  b_bound = omega arith;
-}
+    columns_further (entries_side a.zt.now.columns.now a.zt.now.values.now a.x.now a.p a.w.now a.begin a.end) a.p a.b a.b 1 a.out.now _ (omega arith) (omega arith) (omega arith) (omega arith) c.some_sides.ensures
 
 pub returns-then-p-lt6 : goal.returns-then-p-lt6
 returns-then-p-lt6 c =
     let a = c.args in
     let within = begin_within a.b a.p 2 _ (omega arith) (omega arith) (omega arith) c.begin_at-o.ensures in
-    columns_further (entries_side a.columns.now a.values.now a.x.now a.p a.w.now a.begin a.end) a.p a.b _ 2 a.out.now _ within.0 within.1 within.2 (omega arith) c.two_sides.ensures
-
-pub six_sides-requires : goal.six_sides-requires
-six_sides-requires c = record {
-  rising = c.requires.rising;
-  columns_len = omega arith;
-  b_bound = omega arith;
-}
+    columns_further (entries_side a.zt.now.columns.now a.zt.now.values.now a.x.now a.p a.w.now a.begin a.end) a.p a.b _ 2 a.out.now _ within.0 within.1 within.2 (omega arith) c.some_sides-then-p-lt6.ensures
 
 pub returns : goal.returns
 returns c =
     let a = c.args in
     let within = begin_within a.b a.p 6 _ (omega arith) (omega arith) (omega arith) c.begin_at-o-2.ensures in
-    columns_further (entries_side a.columns.now a.values.now a.x.now a.p a.w.now a.begin a.end) a.p a.b _ 6 a.out.now _ within.0 within.1 within.2 (omega arith) c.six_sides.ensures
+    columns_further (entries_side a.zt.now.columns.now a.zt.now.values.now a.x.now a.p a.w.now a.begin a.end) a.p a.b _ 6 a.out.now _ within.0 within.1 within.2 (omega arith) c.some_sides-2.ensures

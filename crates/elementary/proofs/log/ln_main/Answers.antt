@@ -2,7 +2,6 @@
 use Rattle.std.proofs.Common.{◌≡◌, ℕ, ◌+◌, ◌%◌, false, arith}
 use lib.Ieee.{binary64, nan_bits}
 use Rattle.base.proofs.Doubles.{no_nan_pattern}
-use Rattle.elementary.specs.Log.{ln_main}
 use Rattle.elementary.proofs.log.ln_main.Goals as goal
 
 z_number : (t : ℕ) → nan_bits binary64 (0x3fe6_0000_0000_0000 + t % 0x0010_0000_0000_0000) ≡ false
@@ -10,7 +9,3 @@ z_number t = no_nan_pattern (0x3fe6_0000_0000_0000 + t % 0x0010_0000_0000_0000) 
 
 pub float_from_bits-z : goal.float_from_bits-z
 float_from_bits-z c = rw z_number tt
-
-pub returns : goal.returns
-unfolding ln_main
-returns c = rw (c.ln_row.ensures, c.nearest_u64_to_f64.ensures, c.pattern.ensures)

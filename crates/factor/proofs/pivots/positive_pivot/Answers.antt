@@ -6,5 +6,5 @@ use Rattle.factor.proofs.pivots.positive_pivot.Goals as goal
 pub returns-then-d : goal.returns-then-d
 returns-then-d c = c.is_finite.ensures ∙ positive_above _ c.if-d.true
 
-pub returns : goal.returns
-returns c = positive_not _ c.if-d.false
+pub returns-else-d : goal.returns-else-d
+returns-else-d c = c.if-d.false ∙ positive_not _ c.if-d.false

@@ -6,5 +6,5 @@ use Rattle.factor.proofs.pivots.usable_pivot.Goals as goal
 pub returns-then-is_finite : goal.returns-then-is_finite
 returns-then-is_finite c = usable_finite _ (sym c.is_finite.ensures ∙ c.if-is_finite.true)
 
-pub returns : goal.returns
-returns c = usable_not _ (sym c.is_finite.ensures ∙ c.if-is_finite.false)
+pub returns-else-is_finite : goal.returns-else-is_finite
+returns-else-is_finite c = c.if-is_finite.false ∙ usable_not _ (sym c.is_finite.ensures ∙ c.if-is_finite.false)

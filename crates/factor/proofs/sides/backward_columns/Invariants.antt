@@ -12,6 +12,3 @@ use Rattle.factor.proofs.sides.backward_columns.Given as goal
 
 abbrev pub invariant-loop-i : goal.invariant-loop-i
 invariant-loop-i l = (l.i ≤ l.s) × (length l.x ≡ length l.initial.x) × (l.x ≡ each_column (fill_down (unit_backward_rule l.s l.l) l.s (l.s - l.i)) l.s l.count l.initial.x) × (l.fine ≡ true → (a k : ℕ) → a < l.count → l.i ≤ k → k < l.s → finite (at l.s l.x a k) ≡ true)
-
-abbrev pub decreases-loop-i : goal.decreases-loop-i
-decreases-loop-i l = l.i

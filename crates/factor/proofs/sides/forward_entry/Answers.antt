@@ -1,5 +1,4 @@
 -- `factor::forward_entry` meets its contract: the sum is the rule's, as zeros stand before `head`.
-use lib.ListN.{length-set}
 use native.Mathlib.Omega.{arith}
 use Rattle.factor.proofs.SubstitutionSteps.{across_products, unit_forward_entry}
 use Rattle.factor.proofs.sides.forward_entry.Goals as goal
@@ -9,9 +8,6 @@ sum_behind-sum-requires c =
     let a = c.args in
     let offset = c.offset-o in
     (omega arith, omega arith, omega arith, across_products a.s a.l.now a.i offset.result a.x.now offset.ensures.0 a.head c.requires.4)
-
-pub bounds-x-i-3 : goal.bounds-x-i-3
-bounds-x-i-3 c = simp length-set (omega arith)
 
 pub returns : goal.returns
 returns c = record { list = rw c.sum_behind-sum.ensures (unit_forward_entry _ _ _ _ _ c.offset-o.ensures.0); fine = c.is_finite.ensures }

@@ -8,6 +8,3 @@ use Rattle.factor.proofs.substitution.backward.Given as goal
 
 abbrev pub invariant-loop-i : goal.invariant-loop-i
 invariant-loop-i l = (l.i ≤ l.s) × (length l.x ≡ length l.initial.x) × (l.x ≡ fill_down (backward_rule l.s l.l) l.s (l.s - l.i) l.initial.x)
-
-abbrev pub decreases-loop-i : goal.decreases-loop-i
-decreases-loop-i l = l.i

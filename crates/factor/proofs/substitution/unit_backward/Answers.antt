@@ -1,6 +1,5 @@
 -- `factor::unit_backward` meets its contract: with i entries left, those from i on are the rule's.
 use Rattle.base.proofs.InPlace.{down_end}
-use Prim.Native.Nat.{◌-◌}
 use native.Mathlib.Omega.{arith}
 use lib.ListN.{length-set}
 use Rattle.factor.specs.Substitution.{unit_backward}
@@ -12,32 +11,8 @@ use Rattle.factor.proofs.substitution.unit_backward.Goals as goal
 pub loop-i-init : goal.loop-i-init
 loop-i-init c = search (rules, inplace)
 
-pub overflow_sub-i : goal.overflow_sub-i
-overflow_sub-i c = search (rules, inplace)
-
-pub sum_below-below-requires : goal.sum_below-below-requires
-sum_below-below-requires c = search (rules, inplace)
-
-pub offset_bounds-x-i : goal.offset_bounds-x-i
-offset_bounds-x-i c = search (rules, inplace)
-
-pub bounds-x-i : goal.bounds-x-i
-bounds-x-i c = search (rules, inplace)
-
-pub offset_bounds-x-i-in-loop-i : goal.offset_bounds-x-i-in-loop-i
-offset_bounds-x-i-in-loop-i c = search (rules, inplace)
-
-pub bounds-x-i-in-loop-i : goal.bounds-x-i-in-loop-i
-bounds-x-i-in-loop-i c = search (rules, inplace)
-
-pub loop-i-smaller : goal.loop-i-smaller
-loop-i-smaller c = search (rules, inplace)
-
 pub loop-i-preserved : goal.loop-i-preserved
 loop-i-preserved c = (omega arith, simp length-set (omega arith), rw c.sum_below-below.ensures (unit_backward_step _ _ _ _ _ c.loop-i.i (omega arith) (omega arith) c.loop-i.invariant.2))
-
-pub shape_of-x : goal.shape_of-x
-shape_of-x c = search (rules, inplace)
 
 pub returns : goal.returns
 unfolding unit_backward

@@ -1,12 +1,8 @@
--- `family::binomial_deviance` meets its contract: its test is the definition's.
-use Rattle.base.proofs.Doubles.{no_quotient}
+-- `family::binomial_deviance` meets its contract: outside the range the constant is NaN.
+use lib.Ieee.{of_bits}
 use Rattle.family.specs.Family.{dev_resid}
 use Rattle.family.proofs.families.binomial_deviance.Goals as goal
 
-pub returns-then-is_proportion : goal.returns-then-is_proportion
-unfolding dev_resid
-returns-then-is_proportion c = rw (c.binomial_term.ensures, c.inside.ensures, ← c.is_proportion.ensures, c.if-is_proportion.true)
-
-pub returns : goal.returns
-unfolding dev_resid
-returns c = rw (← c.is_proportion.ensures, c.if-is_proportion.false) no_quotient
+pub returns-else-is_proportion : goal.returns-else-is_proportion
+unfolding dev_resid of_bits
+returns-else-is_proportion c = rw (← c.is_proportion.ensures, c.if-is_proportion.false)

@@ -1,13 +1,12 @@
 -- `groups::product_step` meets its contract: the row is the order's, and before group g, what the groups before it told is points before what the rule says of the rest.
-use mathlib.Core.Path.{refl, ◌∙◌}
-use Prim.Native.Nat.{◌-◌}
+use mathlib.Core.Path.{refl}
 use native.Mathlib.Omega.{arith}
 use lib.ListN.{replicate}
 use Rattle.base.specs.Number.{zero_f}
 use Rattle.stored.specs.Stored.{sparse}
 use Rattle.sums.proofs.Framed.{roomy_kept}
 use Rattle.sums.proofs.Grids.{logs_room, logs_of}
-use Rattle.groups.proofs.Looped.{effects_within, groups_few, begun, room_left, goes_on, declines, ends}
+use Rattle.groups.proofs.Looped.{effects_within, begun, room_left, goes_on, declines, ends}
 use Rattle.groups.proofs.product.product_step.Goals as goal
 
 pub log_weights-requires : goal.log_weights-requires
@@ -16,81 +15,51 @@ log_weights-requires c = logs_room _ _ (replicate 11 zero_f) c.gh_rule-rule.ensu
 pub loop-g-init : goal.loop-g-init
 loop-g-init c =
     let args = c.args in
-    begun args.family args.link args.shape args.theta.now (sparse args.starts.now args.columns.now args.values.now) args.y.now
-    args.weights.now args.offset.now args.n args.p args.q args.order args.groups args.k args.phi _ _ _
-
-pub group-a-requires : goal.group-a-requires
-group-a-requires c = record {
-  roomy = roomy_kept c.requires.roomy c.loop-g.invariant.frame.rows_only.len c.loop-g.invariant.frame.matrices_only.len
-      c.loop-g.invariant.frame.terms_only.len;
-  k_bound = (
-    effects_within c.args.q c.args.groups c.args.k c.loop-g.g c.args.order c.requires.grouped
-        c.loop-g-test.true,
-    c.requires.grouped.capped,
-    logs_of _ _ _ c.gh_rule-rule.ensures refl _ c.log_weights.ensures,
-  );
-}
+    begun args.given.now.family args.given.now.link args.given.now.design.shape args.given.now.design.theta.now (sparse args.given.now.design.zt.starts.now args.given.now.design.zt.columns.now args.given.now.design.zt.values.now) args.given.now.y.now
+    args.given.now.weights.now args.given.now.design.offset.now args.given.now.design.n args.given.now.design.p args.given.now.design.q args.order args.groups args.k args.phi _ _ _
 
 pub overflow_add-points : goal.overflow_add-points
 overflow_add-points c =
     let args = c.args in
     omega (
       arith,
-      room_left args.family args.link args.shape args.theta.now (sparse args.starts.now args.columns.now args.values.now)
-          args.y.now args.weights.now args.offset.now args.n args.p args.q args.order args.groups args.k args.phi _ _ _
+      room_left args.given.now.family args.given.now.link args.given.now.design.shape args.given.now.design.theta.now (sparse args.given.now.design.zt.starts.now args.given.now.design.zt.columns.now args.given.now.design.zt.values.now)
+          args.given.now.y.now args.given.now.weights.now args.given.now.design.offset.now args.given.now.design.n args.given.now.design.p args.given.now.design.q args.order args.groups args.k args.phi _ _ _
           c.requires.roomy.ready.effects c.requires.roomy.lent c.requires.grouped _ _ _ _ _ _ c.loop-g.invariant _ c.group-a.ensures.few
           c.loop-g-test.true,
     )
 
-pub shape_of-r-in-NoSum : goal.shape_of-r-in-NoSum
-shape_of-r-in-NoSum c = c.group-a.ensures.frame.rows_only.len ∙ c.loop-g.invariant.frame.rows_only.len
-
-pub shape_of-m-in-NoSum : goal.shape_of-m-in-NoSum
-shape_of-m-in-NoSum c = c.group-a.ensures.frame.matrices_only.len ∙ c.loop-g.invariant.frame.matrices_only.len
-
-pub shape_of-t-in-NoSum : goal.shape_of-t-in-NoSum
-shape_of-t-in-NoSum c = c.group-a.ensures.frame.terms_only.len ∙ c.loop-g.invariant.frame.terms_only.len
-
-pub returns-in-NoSum : goal.returns-in-NoSum
-returns-in-NoSum c =
+pub returns-in-Err : goal.returns-in-Err
+returns-in-Err c =
     let args = c.args in
-    declines args.family args.link args.shape args.theta.now (sparse args.starts.now args.columns.now args.values.now) args.y.now
-    args.weights.now args.offset.now args.n args.p args.q args.order args.groups args.k args.phi _ _ _
+    declines args.given.now.family args.given.now.link args.given.now.design.shape args.given.now.design.theta.now (sparse args.given.now.design.zt.starts.now args.given.now.design.zt.columns.now args.given.now.design.zt.values.now) args.given.now.y.now
+    args.given.now.weights.now args.given.now.design.offset.now args.given.now.design.n args.given.now.design.p args.given.now.design.q args.order args.groups args.k args.phi _ _ _
     c.requires.roomy.ready.effects c.requires.roomy.lent c.requires.grouped _ _ _ _ _ _ c.loop-g.invariant c.loop-g-test.true _ _ _ _
-    c.group-a.ensures args.fit _ c.in-NoSum.is
-
-pub overflow_add-g : goal.overflow_add-g
-overflow_add-g c =
-    omega (
-      arith,
-      c.loop-g-test.true,
-      groups_few c.args.q c.args.groups c.args.k c.args.order c.requires.roomy.lent.sizes.q_some
-          c.requires.roomy.lent.sizes.q_few c.requires.grouped,
-    )
-
-pub loop-g-smaller : goal.loop-g-smaller
-loop-g-smaller c = omega (arith, c.loop-g-test.true)
+    c.group-a.ensures args.fit _ c.in-Err.is
 
 pub loop-g-preserved : goal.loop-g-preserved
 loop-g-preserved c =
     let args = c.args in
-    goes_on args.family args.link args.shape args.theta.now (sparse args.starts.now args.columns.now args.values.now) args.y.now
-    args.weights.now args.offset.now args.n args.p args.q args.order args.groups args.k args.phi _ _ _
+    goes_on args.given.now.family args.given.now.link args.given.now.design.shape args.given.now.design.theta.now (sparse args.given.now.design.zt.starts.now args.given.now.design.zt.columns.now args.given.now.design.zt.values.now) args.given.now.y.now
+    args.given.now.weights.now args.given.now.design.offset.now args.given.now.design.n args.given.now.design.p args.given.now.design.q args.order args.groups args.k args.phi _ _ _
     c.requires.roomy.ready.effects c.requires.roomy.lent c.requires.grouped _ _ _ _ _ _ c.loop-g.invariant c.loop-g-test.true _ _ _ _
-    c.group-a.ensures _ c.in-LogSum.is
-
-pub shape_of-r : goal.shape_of-r
-shape_of-r c = c.loop-g.invariant.frame.rows_only.len
-
-pub shape_of-m : goal.shape_of-m
-shape_of-m c = c.loop-g.invariant.frame.matrices_only.len
-
-pub shape_of-t : goal.shape_of-t
-shape_of-t c = c.loop-g.invariant.frame.terms_only.len
+    c.group-a.ensures _ c.in-Ok.is
 
 pub returns : goal.returns
 returns c =
     let args = c.args in
-    ends args.family args.link args.shape args.theta.now (sparse args.starts.now args.columns.now args.values.now) args.y.now
-    args.weights.now args.offset.now args.n args.p args.q args.order args.groups args.k args.phi _ _ _
+    ends args.given.now.family args.given.now.link args.given.now.design.shape args.given.now.design.theta.now (sparse args.given.now.design.zt.starts.now args.given.now.design.zt.columns.now args.given.now.design.zt.values.now) args.given.now.y.now
+    args.given.now.weights.now args.given.now.design.offset.now args.given.now.design.n args.given.now.design.p args.given.now.design.q args.order args.groups args.k args.phi _ _ _
     c.requires.roomy.ready.effects c.requires.roomy.lent c.requires.grouped _ _ _ _ _ _ c.loop-g.invariant args.fit c.loop-g-test.false
+
+pub group-a-requires : goal.group-a-requires
+group-a-requires c = record {
+  roomy = roomy_kept c.requires.roomy c.loop-g.invariant.frame.rows_only.len c.loop-g.invariant.frame.matrices_only.len
+      c.loop-g.invariant.frame.terms_only.len;
+  k_bound = (
+    effects_within c.args.given.now.design.q c.args.groups c.args.k c.loop-g.g c.args.order c.requires.grouped
+        c.loop-g-test.true,
+    c.requires.grouped.capped,
+    logs_of _ _ _ c.gh_rule-rule.ensures refl _ c.log_weights.ensures,
+  );
+}

@@ -1,38 +1,27 @@
 -- `inner::joint_at` meets its contract: the step is made with the order that the rule chooses, after Xβ stands in its row.
 use mathlib.Core.Path.{sym, ◌∙◌}
 use Rattle.quadrature.proofs.OrderFacts.{joint_within}
-use Rattle.inner.proofs.Stepped.{roomy, joint_declined, joint_made}
+use Rattle.inner.proofs.Stepped.{joint_declined, joint_made}
 use Rattle.inner.proofs.quadratures.joint_at.Goals as goal
 
-pub fixed_row-requires : goal.fixed_row-requires
-fixed_row-requires c = (c.requires.lent.sizes, c.requires.x_long, c.requires.lent.rows_long, c.requires.lent.matrices_long)
+pub joint_step-requires-clause-q_bound : goal.joint_step-requires-clause-q_bound
+joint_step-requires-clause-q_bound c = (joint_within c.args.wish c.args.given.now.design.q _ (sym c.resolve_gh_order_joint-choice.ensures ∙ c.in-Ok.is)).1
 
-pub joint_step-requires : goal.joint_step-requires
-joint_step-requires c = record {
-  roomy = roomy c.requires c.fixed_row.ensures.only.len;
-  q_bound = (joint_within c.args.wish c.args.q _ (sym c.resolve_gh_order_joint-choice.ensures ∙ c.in-Use.is)).1;
-}
-
-pub returns-in-Without : goal.returns-in-Without
-returns-in-Without c =
+pub returns-in-Err : goal.returns-in-Err
+returns-in-Err c =
     let args = c.args in
-    joint_declined args.family args.link args.shape args.theta.now _ args.y.now args.weights.now args.offset.now args.n args.p
-    args.q args.x.now args.wish args.phi args.fit _ c.requires.ready.effects
-    (sym c.resolve_gh_order_joint-choice.ensures ∙ c.in-Without.is) _ _ _ _ c.declined.ensures
+    let g = args.given.now in
+    let d = g.design in
+    joint_declined g.family g.link d.shape d.theta.now _ g.y.now g.weights.now d.offset.now d.n d.p
+    d.q d.x.now args.wish args.phi args.fit _ c.requires.ready.effects
+    (sym c.resolve_gh_order_joint-choice.ensures ∙ c.in-Err.is) _ _ _ _ c.declined.ensures
 
-pub shape_of-r : goal.shape_of-r
-shape_of-r c = c.joint_step.ensures.frame.rows_only.len ∙ c.fixed_row.ensures.only.len
-
-pub shape_of-m : goal.shape_of-m
-shape_of-m c = c.joint_step.ensures.frame.matrices_only.len
-
-pub shape_of-t : goal.shape_of-t
-shape_of-t c = c.joint_step.ensures.frame.terms_only.len
-
-pub returns-in-Use : goal.returns-in-Use
-returns-in-Use c =
+pub returns-in-Ok : goal.returns-in-Ok
+returns-in-Ok c =
     let args = c.args in
-    joint_made args.family args.link args.shape args.theta.now _ args.y.now args.weights.now args.offset.now args.n args.p
-    args.q args.x.now args.wish args.phi args.fit c.requires.ready.effects _ args.r.now _ _ args.m.now _ args.t.now _ _
-    c.requires.lent.rows_long c.fixed_row.ensures (sym c.resolve_gh_order_joint-choice.ensures ∙ c.in-Use.is)
+    let g = args.given.now in
+    let d = g.design in
+    joint_made g.family g.link d.shape d.theta.now _ g.y.now g.weights.now d.offset.now d.n d.p
+    d.q d.x.now args.wish args.phi args.fit c.requires.ready.effects _ args.r.now _ _ args.m.now _ args.t.now _ _
+    c.requires.lent.rows_long c.fixed_row.ensures (sym c.resolve_gh_order_joint-choice.ensures ∙ c.in-Ok.is)
     c.joint_step.ensures

@@ -1,38 +1,27 @@
 -- `inner::product_at` meets its contract: the step is made with the order that the rule chooses, after Xβ stands in its row.
 use mathlib.Core.Path.{sym, ◌∙◌}
-use Rattle.inner.proofs.Stepped.{roomy, grouped, product_declined, product_made}
+use Rattle.inner.proofs.Stepped.{grouped, product_declined, product_made}
 use Rattle.inner.proofs.quadratures.product_at.Goals as goal
 
-pub fixed_row-requires : goal.fixed_row-requires
-fixed_row-requires c = (c.requires.asked.lent.sizes, c.requires.asked.x_long, c.requires.asked.lent.rows_long, c.requires.asked.lent.matrices_long)
+pub product_step-requires-clause-grouped : goal.product_step-requires-clause-grouped
+product_step-requires-clause-grouped c = grouped c.args.wish c.args.given.now.design.q c.args.groups c.args.k _ c.requires.k_value
+    (sym c.resolve_gh_order_product-choice.ensures ∙ c.in-Ok.is)
 
-pub product_step-requires : goal.product_step-requires
-product_step-requires c = record {
-  roomy = roomy c.requires.asked c.fixed_row.ensures.only.len;
-  grouped = grouped c.args.wish c.args.q c.args.groups c.args.k _ c.requires.k_value
-      (sym c.resolve_gh_order_product-choice.ensures ∙ c.in-Use.is);
-}
-
-pub returns-in-Without : goal.returns-in-Without
-returns-in-Without c =
+pub returns-in-Err : goal.returns-in-Err
+returns-in-Err c =
     let args = c.args in
-    product_declined args.family args.link args.shape args.theta.now _ args.y.now args.weights.now args.offset.now args.n args.p
-    args.q args.x.now args.wish args.phi args.fit args.groups args.k _
-    (sym c.resolve_gh_order_product-choice.ensures ∙ c.in-Without.is) _ _ _ _ c.declined.ensures
+    let g = args.given.now in
+    let d = g.design in
+    product_declined g.family g.link d.shape d.theta.now _ g.y.now g.weights.now d.offset.now d.n d.p
+    d.q d.x.now args.wish args.phi args.fit args.groups args.k _
+    (sym c.resolve_gh_order_product-choice.ensures ∙ c.in-Err.is) _ _ _ _ c.declined.ensures
 
-pub shape_of-r : goal.shape_of-r
-shape_of-r c = c.product_step.ensures.frame.rows_only.len ∙ c.fixed_row.ensures.only.len
-
-pub shape_of-m : goal.shape_of-m
-shape_of-m c = c.product_step.ensures.frame.matrices_only.len
-
-pub shape_of-t : goal.shape_of-t
-shape_of-t c = c.product_step.ensures.frame.terms_only.len
-
-pub returns-in-Use : goal.returns-in-Use
-returns-in-Use c =
+pub returns-in-Ok : goal.returns-in-Ok
+returns-in-Ok c =
     let args = c.args in
-    product_made args.family args.link args.shape args.theta.now _ args.y.now args.weights.now args.offset.now args.n args.p
-    args.q args.x.now args.wish args.phi args.fit c.requires.asked.ready.effects _ args.r.now _ _ args.m.now _ args.t.now _ _
+    let g = args.given.now in
+    let d = g.design in
+    product_made g.family g.link d.shape d.theta.now _ g.y.now g.weights.now d.offset.now d.n d.p
+    d.q d.x.now args.wish args.phi args.fit c.requires.asked.ready.effects _ args.r.now _ _ args.m.now _ args.t.now _ _
     c.requires.asked.lent.rows_long c.fixed_row.ensures args.groups args.k
-    (sym c.resolve_gh_order_product-choice.ensures ∙ c.in-Use.is) c.product_step.ensures
+    (sym c.resolve_gh_order_product-choice.ensures ∙ c.in-Ok.is) c.product_step.ensures

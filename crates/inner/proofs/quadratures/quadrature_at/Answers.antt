@@ -3,41 +3,21 @@ use borrow.Author.Tests.{eq-eqb, ne_eqb}
 use Rattle.inner.proofs.Stepped.{groups_all, by_product, by_joint}
 use Rattle.inner.proofs.quadratures.quadrature_at.Goals as goal
 
-pub product_at-requires : goal.product_at-requires
-product_at-requires c = record {
-  asked = c.requires;
-  k_value = groups_all c.args.shape c.args.q (eq-eqb _ _ c.if-shape-eq1.true) c.requires.ready.effects;
-}
+pub product_at-requires-clause-k_value : goal.product_at-requires-clause-k_value
+product_at-requires-clause-k_value c = groups_all c.args.given.now.design.shape c.args.given.now.design.q (eq-eqb _ _ c.if-design-eq1.true) c.requires.ready.effects
 
-pub shape_of-r-then-shape-eq1 : goal.shape_of-r-then-shape-eq1
-shape_of-r-then-shape-eq1 c = c.product_at.ensures.rows_only.len
-
-pub shape_of-m-then-shape-eq1 : goal.shape_of-m-then-shape-eq1
-shape_of-m-then-shape-eq1 c = c.product_at.ensures.matrices_only.len
-
-pub shape_of-t-then-shape-eq1 : goal.shape_of-t-then-shape-eq1
-shape_of-t-then-shape-eq1 c = c.product_at.ensures.terms_only.len
-
-pub returns-then-shape-eq1 : goal.returns-then-shape-eq1
-returns-then-shape-eq1 c =
+pub returns-then-design-eq1 : goal.returns-then-design-eq1
+returns-then-design-eq1 c =
     let args = c.args in
-    by_product args.family args.link args.shape args.theta.now _ args.y.now args.weights.now args.offset.now args.n args.p args.q
-    args.x.now args.wish args.phi args.fit _ _ _ _ _ _ _ (eq-eqb _ _ c.if-shape-eq1.true) c.product_at.ensures
-
-pub joint_at-requires : goal.joint_at-requires
-joint_at-requires c = c.requires
-
-pub shape_of-r : goal.shape_of-r
-shape_of-r c = c.joint_at.ensures.rows_only.len
-
-pub shape_of-m : goal.shape_of-m
-shape_of-m c = c.joint_at.ensures.matrices_only.len
-
-pub shape_of-t : goal.shape_of-t
-shape_of-t c = c.joint_at.ensures.terms_only.len
+    let g = args.given.now in
+    let d = g.design in
+    by_product g.family g.link d.shape d.theta.now _ g.y.now g.weights.now d.offset.now d.n d.p d.q
+    d.x.now args.wish args.phi args.fit _ _ _ _ _ _ _ (eq-eqb _ _ c.if-design-eq1.true) c.product_at.ensures
 
 pub returns : goal.returns
 returns c =
     let args = c.args in
-    by_joint args.family args.link args.shape args.theta.now _ args.y.now args.weights.now args.offset.now args.n args.p args.q
-    args.x.now args.wish args.phi args.fit _ _ _ _ _ _ _ (ne_eqb _ _ c.if-shape-eq1.false) c.joint_at.ensures
+    let g = args.given.now in
+    let d = g.design in
+    by_joint g.family g.link d.shape d.theta.now _ g.y.now g.weights.now d.offset.now d.n d.p d.q
+    d.x.now args.wish args.phi args.fit _ _ _ _ _ _ _ (ne_eqb _ _ c.if-design-eq1.false) c.joint_at.ensures

@@ -1,14 +1,6 @@
 -- `iteration::step` meets its contract: the tries are handed the rows that the layout names.
-use native.Mathlib.Omega.{arith}
-use Rattle.layout.proofs.Inside.{z_in, unsolved_in}
 use Rattle.iteration.proofs.StepMade.{step_room, stepped}
 use Rattle.iteration.proofs.steps.step.Goals as goal
-
-pub slice_bounds-tries-end-2 : goal.slice_bounds-tries-end-2
-slice_bounds-tries-end-2 c = omega (arith, c.z_at-z.ensures, z_in c.requires.sizes c.args.t.now c.z_at-z.ensures c.requires.terms_long)
-
-pub slice_bounds-tries-end-3 : goal.slice_bounds-tries-end-3
-slice_bounds-tries-end-3 c = omega (arith, unsolved_in c.requires.sizes c.args.t.now c.unsolved_at-unsolved.ensures c.requires.terms_long)
 
 pub tries-requires : goal.tries-requires
 tries-requires c =

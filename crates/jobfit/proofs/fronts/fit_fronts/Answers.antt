@@ -3,21 +3,10 @@ use mathlib.Core.Path.{◌∙◌}
 use Rattle.jobfit.proofs.Lent.{done_parts}
 use Rattle.jobfit.proofs.fronts.fit_fronts.Goals as goal
 
-pub shape_of-rows : goal.shape_of-rows
-shape_of-rows c = c.fit_results.auto.rows
-
-pub shape_of-matrices : goal.shape_of-matrices
-shape_of-matrices c = c.fit_results.auto.matrices
-
-pub shape_of-terms : goal.shape_of-terms
-shape_of-terms c = c.fit_results.auto.terms
-
-pub shape_of-results : goal.shape_of-results
-shape_of-results c = c.fit_results.auto.results
-
 pub returns : goal.returns
 returns c =
     let a = c.args in
+    let l = a.lists.now in
     c.fit_results.ensures
-    ∙ done_parts a.header a.shape a.theta.now a.y.now a.weights.now a.offset.now a.x.now a.starts.now a.columns.now
-    a.values.now a.rows.now a.matrices.now a.terms.now a.results.now
+    ∙ done_parts a.header a.shape l.theta.now l.y.now l.weights.now l.offset.now l.x.now l.starts.now l.columns.now
+    l.values.now a.rows.now a.matrices.now a.terms.now a.results.now

@@ -3,10 +3,10 @@ use mathlib.Core.Path.{refl}
 use Rattle.joint.specs.Joint.{joint_by, joint_answer}
 use Rattle.joint.proofs.steps.joint_answer.Goals as goal
 
-pub returns-in-NoSum : goal.returns-in-NoSum
+pub returns-in-Err : goal.returns-in-Err
 unfolding joint_answer joint_by
-returns-in-NoSum c = rw c.in-NoSum.is refl
+returns-in-Err c = rw c.in-Err.is refl
 
-pub returns-in-LogSum : goal.returns-in-LogSum
+pub returns-in-Ok : goal.returns-in-Ok
 unfolding joint_answer joint_by
-returns-in-LogSum c = rw c.in-LogSum.is refl
+returns-in-Ok c = rw c.in-Ok.is refl

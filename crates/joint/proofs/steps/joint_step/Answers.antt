@@ -1,46 +1,19 @@
 -- `joint::joint_step` meets its contract: the scale of A is the rule's, and so is the sum.
-use mathlib.Core.Path.{refl, ◌∙◌}
-use native.Mathlib.Omega.{arith}
 use Rattle.stored.specs.Stored.{sparse}
-use Rattle.sums.proofs.Framed.{roomy_kept, scale_room}
 use Rattle.joint.proofs.JointSummed.{joint_unscaled, joint_scaled}
 use Rattle.joint.proofs.steps.joint_step.Goals as goal
 
-pub block_scale-requires : goal.block_scale-requires
-block_scale-requires c = scale_room 0 c.args.q c.requires.roomy.lent (omega arith)
-
-pub joint_sums-a-requires : goal.joint_sums-a-requires
-joint_sums-a-requires c = record {
-  roomy = roomy_kept c.requires.roomy refl c.block_scale.ensures.matrices_only.len c.block_scale.ensures.terms_only.len;
-  q_bound = c.requires.q_bound;
-}
-
-pub shape_of-m-in-Unscaled : goal.shape_of-m-in-Unscaled
-shape_of-m-in-Unscaled c = c.block_scale.ensures.matrices_only.len
-
-pub shape_of-t-in-Unscaled : goal.shape_of-t-in-Unscaled
-shape_of-t-in-Unscaled c = c.block_scale.ensures.terms_only.len
-
-pub returns-in-Unscaled : goal.returns-in-Unscaled
-returns-in-Unscaled c =
+pub returns-in-Err : goal.returns-in-Err
+returns-in-Err c =
     let args = c.args in
-    joint_unscaled args.family args.link args.shape args.theta.now (sparse args.starts.now args.columns.now args.values.now)
-    args.y.now args.weights.now args.offset.now args.n args.p args.q args.order args.phi args.fit _ _ _ _ _ _
-    c.requires.roomy.ready.effects c.requires.roomy.lent c.block_scale.ensures _ c.in-Unscaled.is
+    joint_unscaled args.given.now.family args.given.now.link args.given.now.design.shape args.given.now.design.theta.now (sparse args.given.now.design.zt.starts.now args.given.now.design.zt.columns.now args.given.now.design.zt.values.now)
+    args.given.now.y.now args.given.now.weights.now args.given.now.design.offset.now args.given.now.design.n args.given.now.design.p args.given.now.design.q args.order args.phi args.fit _ _ _ _ _ _
+    c.requires.roomy.ready.effects c.requires.roomy.lent c.block_scale.ensures _ c.in-Err.is
 
-pub shape_of-r : goal.shape_of-r
-shape_of-r c = c.joint_sums-a.ensures.frame.rows_only.len
-
-pub shape_of-m-in-Scaled : goal.shape_of-m-in-Scaled
-shape_of-m-in-Scaled c = c.joint_sums-a.ensures.frame.matrices_only.len ∙ c.block_scale.ensures.matrices_only.len
-
-pub shape_of-t-in-Scaled : goal.shape_of-t-in-Scaled
-shape_of-t-in-Scaled c = c.joint_sums-a.ensures.frame.terms_only.len ∙ c.block_scale.ensures.terms_only.len
-
-pub returns-in-Scaled : goal.returns-in-Scaled
-returns-in-Scaled c =
+pub returns-in-Ok : goal.returns-in-Ok
+returns-in-Ok c =
     let args = c.args in
-    joint_scaled args.family args.link args.shape args.theta.now (sparse args.starts.now args.columns.now args.values.now)
-    args.y.now args.weights.now args.offset.now args.n args.p args.q args.order args.phi args.fit _ _ _ _ _ _
-    c.requires.roomy.ready.effects c.requires.roomy.lent c.block_scale.ensures _ _ _ _ _ c.requires.q_bound c.in-Scaled.is
+    joint_scaled args.given.now.family args.given.now.link args.given.now.design.shape args.given.now.design.theta.now (sparse args.given.now.design.zt.starts.now args.given.now.design.zt.columns.now args.given.now.design.zt.values.now)
+    args.given.now.y.now args.given.now.weights.now args.given.now.design.offset.now args.given.now.design.n args.given.now.design.p args.given.now.design.q args.order args.phi args.fit _ _ _ _ _ _
+    c.requires.roomy.ready.effects c.requires.roomy.lent c.block_scale.ensures _ _ _ _ _ c.requires.q_bound c.in-Ok.is
     c.joint_sums-a.ensures c.joint_answer.ensures

@@ -4,7 +4,6 @@ use native.Mathlib.Omega.{arith}
 use lib.ListN.{length, replicate}
 use Rattle.base.specs.Number.{zero_f}
 use Rattle.base.proofs.Fills.{length_fill}
-use Rattle.layout.proofs.Inside.{mark_in}
 use Rattle.stored.specs.Stored.{sparse}
 use Rattle.sums.proofs.Framed.{room_of}
 use Rattle.sums.proofs.Fronts.{rule_size, rule_nodes, rule_logs_long}
@@ -12,65 +11,38 @@ use Rattle.sums.proofs.Grids.{grid_of, logs_room, logs_of, count_few, count_in_l
 use Rattle.joint.proofs.JointSummed.{joint_made}
 use Rattle.joint.proofs.steps.joint_sums.Goals as goal
 
-pub mark_row-mark-requires : goal.mark_row-mark-requires
-mark_row-mark-requires c = c.requires.roomy.lent.sizes.n_few
-
-pub mark_all-requires : goal.mark_all-requires
-mark_all-requires c = mark_in c.requires.roomy.lent.sizes c.args.r.now c.mark_row-mark.ensures c.requires.roomy.lent.rows_long
-
-pub u_at-u-requires : goal.u_at-u-requires
-u_at-u-requires c = (c.requires.roomy.lent.sizes.p_few, c.requires.roomy.lent.sizes.q_few)
-
-pub trial_u_at-trial-requires : goal.trial_u_at-trial-requires
-trial_u_at-trial-requires c = (c.requires.roomy.lent.sizes.p_few, c.requires.roomy.lent.sizes.q_few)
-
-pub inverse_at-l-requires : goal.inverse_at-l-requires
-inverse_at-l-requires c = c.requires.roomy.lent.sizes.q_few
-
-pub xbeta_row-xbeta-requires : goal.xbeta_row-xbeta-requires
-xbeta_row-xbeta-requires c = c.requires.roomy.lent.sizes.n_few
-
 pub log_weights-requires : goal.log_weights-requires
 log_weights-requires c = logs_room _ _ (replicate 11 zero_f) c.gh_rule-rule.ensures refl
 
 pub power-count-requires : goal.power-count-requires
-power-count-requires c = power_room _ _ c.args.q c.gh_rule-rule.ensures c.requires.q_bound
-
-pub joint_terms-requires : goal.joint_terms-requires
-joint_terms-requires c = record {
-  room = room_of _ _ c.requires.roomy c.xbeta_row-xbeta.ensures c.trial_u_at-trial.ensures c.mark_all.ensures.only.len refl;
-  grid = grid_of _ _ 0 c.args.q _ _ _ _ c.gh_rule-rule.ensures c.requires.roomy.lent refl (omega arith) c.inverse_at-l.ensures
-      c.u_at-u.ensures c.trial_u_at-trial.ensures;
-  size_in_bounds = (
-    rule_logs_long _ _ c.gh_rule-rule.ensures (logs_of _ _ _ c.gh_rule-rule.ensures refl _ c.log_weights.ensures),
-    count_in_lem c.args.order _ c.args.q 7000 _ c.args.t.now c.gh_rule-rule.ensures c.requires.q_bound
-        c.power-count.ensures (omega arith) c.requires.roomy.lent.terms_long,
-  );
-}
+power-count-requires c = power_room _ _ c.args.given.now.design.q c.gh_rule-rule.ensures c.requires.q_bound
 
 pub log_sum-requires : goal.log_sum-requires
 log_sum-requires c =
     rw (ap length c.joint_terms.ensures.terms ∙ length_fill _ _ _)
-    (count_in_lem c.args.order _ c.args.q 7000 _ c.args.t.now c.gh_rule-rule.ensures c.requires.q_bound c.power-count.ensures
+    (count_in_lem c.args.order _ c.args.given.now.design.q 7000 _ c.args.t.now c.gh_rule-rule.ensures c.requires.q_bound c.power-count.ensures
     (omega arith) c.requires.roomy.lent.terms_long)
-
-pub shape_of-r : goal.shape_of-r
-shape_of-r c = c.joint_terms.ensures.in_r.len ∙ c.mark_all.ensures.only.len
-
-pub shape_of-m : goal.shape_of-m
-shape_of-m c = c.joint_terms.ensures.in_m.len
-
-pub shape_of-t : goal.shape_of-t
-shape_of-t c = ap length c.joint_terms.ensures.terms ∙ length_fill _ _ _
 
 pub returns : goal.returns
 returns c =
     let args = c.args in
-    joint_made args.family args.link args.shape args.theta.now (sparse args.starts.now args.columns.now args.values.now) args.y.now
-    args.weights.now args.offset.now args.n args.p args.q args.order args.phi _ _ _ _ _ _ _ _ _ _ _ _ _ args.m.now args.m.now _ _
+    joint_made args.given.now.family args.given.now.link args.given.now.design.shape args.given.now.design.theta.now (sparse args.given.now.design.zt.starts.now args.given.now.design.zt.columns.now args.given.now.design.zt.values.now) args.given.now.y.now
+    args.given.now.weights.now args.given.now.design.offset.now args.given.now.design.n args.given.now.design.p args.given.now.design.q args.order args.phi _ _ _ _ _ _ _ _ _ _ _ _ _ args.m.now args.m.now _ _
     _ _ c.requires.roomy.ready.effects c.requires.roomy.lent
-    (count_few args.order _ args.q 7000 _ c.gh_rule-rule.ensures c.requires.q_bound c.power-count.ensures) c.mark_row-mark.ensures
+    (count_few args.order _ args.given.now.design.q 7000 _ c.gh_rule-rule.ensures c.requires.q_bound c.power-count.ensures) c.mark_row-mark.ensures
     c.u_at-u.ensures c.trial_u_at-trial.ensures c.inverse_at-l.ensures c.xbeta_row-xbeta.ensures
     c.inverse_phi-inv.ensures (rule_size _ _ c.gh_rule-rule.ensures) (rule_nodes _ _ c.gh_rule-rule.ensures)
     (logs_of _ _ _ c.gh_rule-rule.ensures refl _ c.log_weights.ensures) c.log_sum.ensures c.power-count.ensures
     c.mark_all.ensures c.joint_terms.ensures
+
+pub joint_terms-requires : goal.joint_terms-requires
+joint_terms-requires c = record {
+  room = room_of _ _ c.requires.roomy c.xbeta_row-xbeta.ensures c.trial_u_at-trial.ensures c.mark_all.ensures.only.len refl;
+  grid = grid_of _ _ 0 c.args.given.now.design.q _ _ _ _ c.gh_rule-rule.ensures c.requires.roomy.lent refl (omega arith) c.inverse_at-l.ensures
+      c.u_at-u.ensures c.trial_u_at-trial.ensures;
+  size_in_bounds = (
+    rule_logs_long _ _ c.gh_rule-rule.ensures (logs_of _ _ _ c.gh_rule-rule.ensures refl _ c.log_weights.ensures),
+    count_in_lem c.args.order _ c.args.given.now.design.q 7000 _ c.args.t.now c.gh_rule-rule.ensures c.requires.q_bound
+        c.power-count.ensures (omega arith) c.requires.roomy.lent.terms_long,
+  );
+}

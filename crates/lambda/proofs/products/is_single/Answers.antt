@@ -8,6 +8,6 @@ pub returns-then-shape-eq1 : goal.returns-then-shape-eq1
 unfolding is_single
 returns-then-shape-eq1 c = rw (eq-eqb _ _ c.if-shape-eq1.true) refl
 
-pub returns : goal.returns
+pub returns-else-shape-eq1 : goal.returns-else-shape-eq1
 unfolding is_single
-returns c = rw (ne_eqb _ _ c.if-shape-eq1.false) refl
+returns-else-shape-eq1 c = rw (ne_eqb _ _ c.if-shape-eq1.false) refl

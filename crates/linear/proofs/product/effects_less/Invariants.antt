@@ -1,13 +1,9 @@
 -- `linear::effects_less` meets its contract: before turn i the first i places hold their entries of u.
 use mathlib.Core.Path.{◌≡◌}
-use Prim.Native.Nat.{◌≤◌, ◌-◌}
 use lib.ListN.{length}
 use Rattle.base.specs.List.{fill_to}
 use Rattle.linear.specs.Product.{effect_at}
 use Rattle.linear.proofs.product.effects_less.Given as goal
 
 abbrev pub invariant-loop-i : goal.invariant-loop-i
-invariant-loop-i l = (l.i ≤ l.q) × (length l.out ≡ length l.initial.out) × (l.out ≡ fill_to l.i (effect_at l.wy l.solved l.q l.p l.beta) l.initial.out)
-
-abbrev pub decreases-loop-i : goal.decreases-loop-i
-decreases-loop-i l = l.q - l.i
+invariant-loop-i l = (length l.out ≡ length l.initial.out) × (l.out ≡ fill_to l.i (effect_at l.wy l.solved l.q l.p l.beta) l.initial.out)

@@ -8,6 +8,7 @@ use Rattle.many.proofs.lent.verdict_fronts.Goals as goal
 pub returns : goal.returns
 returns c =
     let a = c.args in
+    let l = a.lists.now in
     c.verdict_of.ensures
     ∙ ap (λ (I : Inputs). table_of a.responses a.header.settings a.shape I a.lent)
-    (fronts_many a.header a.theta.now a.y.now a.weights.now a.offset.now a.x.now a.starts.now a.columns.now a.values.now)
+    (fronts_many a.header l.theta.now l.y.now l.weights.now l.offset.now l.x.now l.starts.now l.columns.now l.values.now)

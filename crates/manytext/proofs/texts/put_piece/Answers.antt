@@ -1,11 +1,6 @@
 -- `manytext::put_piece` meets its contract: each kind of piece has its own text. Assumes nothing.
-use Rattle.manytext.proofs.Written.{responses_fit, responses_text, refusal_text}
+use Rattle.manytext.proofs.Written.{responses_text, refusal_text}
 use Rattle.manytext.proofs.texts.put_piece.Goals as goal
-
-pub put_part-requires : goal.put_part-requires
-put_part-requires c =
-    let fits = responses_fit _ _ _ c.in-Responses.is _ _ _ c.requires.1 c.requires.2 in
-    (c.requires.0, fits.0, fits.1)
 
 pub returns-in-Refusal : goal.returns-in-Refusal
 returns-in-Refusal c = refusal_text _ _ _ c.in-Refusal.is _ _ _ _ _ _ c.refused_line.ensures

@@ -1,8 +1,7 @@
--- `normal::quantile::distant_part` meets its contract: the same operations in the same order, and each decimal is the definition's bits.
-use mathlib.Core.Path.{refl}
-use Rattle.normal.specs.Quantile.{distant_part}
+-- `normal::quantile::distant_part` meets its contract: Horner's rule does the same operations in the same order, and each decimal is the definition's bits.
+use Rattle.normal.specs.Quantile.{horner_of, part_of, distant_part}
 use Rattle.normal.proofs.quantile.distant_part.Goals as goal
 
 pub returns : goal.returns
-unfolding distant_part
-returns c = refl
+unfolding horner_of part_of distant_part
+returns c = rw c.part.ensures

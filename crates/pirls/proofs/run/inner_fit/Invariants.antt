@@ -1,15 +1,10 @@
 -- `pirls::inner_fit` meets its contract: what is left of the rule's run ends as the whole does, and what was counted is what was done.
-use Prim.Native.Nat.{◌-◌}
 use Rattle.base.specs.Rows.{row}
 use Rattle.layout.specs.WorkRows.{mu_row}
-use Rattle.stored.specs.Stored.{sparse}
-use Rattle.rule.specs.Given.{design_of, given_of}
+use Rattle.rule.specs.Lent.{given_in}
 use Rattle.pirls.proofs.Turns.{Going}
 use Rattle.pirls.proofs.run.inner_fit.Given as goal
 
 abbrev pub invariant-loop-k : goal.invariant-loop-k
-invariant-loop-k l = Going (given_of l.family l.link l.y l.weights (design_of l.n l.p l.shape l.theta l.offset l.x (sparse l.starts l.columns l.values))) l.phi l.limit (row (mu_row l.n) l.n l.initial.r) l.initial.r l.r l.initial.m l.m l.initial.t l.t l.old
+invariant-loop-k l = Going (given_in l.given) l.phi l.limit (row (mu_row l.given.design.n) l.given.design.n l.initial.r) l.initial.r l.r l.initial.m l.m l.initial.t l.t l.old
     l.in_second l.k l.account
-
-abbrev pub decreases-loop-k : goal.decreases-loop-k
-decreases-loop-k l = l.limit - l.k

@@ -1,5 +1,4 @@
 -- `points::point_means` meets its contract: before turn i the first i entries of the row are formed, and the entry that is read next is as it was lent.
-use Prim.Native.Nat.{◌-◌}
 use lib.ListN.{length-set}
 use Rattle.base.proofs.Rows.{fillat_wrote}
 use Rattle.points.proofs.Entered.{means_step}
@@ -11,36 +10,9 @@ use Rattle.points.proofs.gains.point_means.Goals as goal
 pub loop-i-init : goal.loop-i-init
 loop-i-init c = search (rules, loops)
 
-pub mean_over-mean-requires : goal.mean_over-mean-requires
-mean_over-mean-requires c =
-    let l = c.loop-i.invariant.1 in
-    (omega (arith, c.loop-i-test.true), c.requires.0, omega (arith, c.requires.1, l), omega (arith, c.requires.2, l), omega (arith, c.requires.3, l))
-
-pub overflow_add-r : goal.overflow_add-r
-overflow_add-r c = search (rules, loops)
-
-pub offset_bounds-r-zb : goal.offset_bounds-r-zb
-offset_bounds-r-zb c = search (rules, loops)
-
-pub bounds-r-zb : goal.bounds-r-zb
-bounds-r-zb c = search (rules, loops)
-
-pub overflow_add-i : goal.overflow_add-i
-overflow_add-i c = search (rules, loops)
-
-pub loop-i-smaller : goal.loop-i-smaller
-loop-i-smaller c = search (rules, loops)
-
 pub loop-i-preserved : goal.loop-i-preserved
 loop-i-preserved c =
-    let a = c.args in (
-      omega arith,
-      simp length-set (omega arith),
-      means_step a.link a.offset.now a.n a.xbeta a.zb a.mark _ a.r.now _ _ c.requires.1 c.requires.2 c.requires.3 c.requires.4 c.requires.5 c.loop-i-test.true c.loop-i.invariant.2 c.mean_over-mean.ensures,
-    )
-
-pub shape_of-r : goal.shape_of-r
-shape_of-r c = search (rules, loops)
+    let a = c.args in (simp length-set (omega arith), means_step a.link a.offset.now a.n a.xbeta a.zb a.mark _ a.r.now _ _ c.requires.1 c.requires.2 c.requires.3 c.requires.4 c.requires.5 c.loop-i-test.true c.loop-i.invariant.1 c.mean_over-mean.ensures)
 
 pub returns : goal.returns
-returns c = fillat_wrote _ _ _ _ _ _ c.loop-i.invariant.2 (omega arith) (omega arith) (omega arith)
+returns c = fillat_wrote _ _ _ _ _ _ c.loop-i.invariant.1 (omega arith) (omega arith) (omega arith)

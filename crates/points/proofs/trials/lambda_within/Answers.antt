@@ -1,7 +1,6 @@
 -- `points::lambda_within` meets its contract: before column j each place of the row at b holds what the first j columns make of it, and u is as it was lent.
 use mathlib.Core.Path.{refl, ap, ◌∙◌}
 use mathlib.Core.List.{List}
-use Prim.Native.Nat.{◌-◌}
 use native.Mathlib.Omega.{arith}
 use lib.Ieee.{Float}
 use Rattle.base.specs.List.{build}
@@ -12,43 +11,10 @@ use Rattle.lambda.proofs.ColumnPlaces.{column_rows, column_theta}
 use Rattle.points.proofs.Within.{within_none, within_step, within_only, within_all}
 use Rattle.points.proofs.trials.lambda_within.Goals as goal
 
-pub overflow_add-e : goal.overflow_add-e
-overflow_add-e c = omega arith
-
-pub offset_bounds-m-b : goal.offset_bounds-m-b
-offset_bounds-m-b c = omega arith
-
-pub slice_bounds-wipe-count : goal.slice_bounds-wipe-count
-slice_bounds-wipe-count c = omega arith
-
-pub slice_bounds-wipe-start : goal.slice_bounds-wipe-start
-slice_bounds-wipe-start c = omega arith
-
-pub slice_bounds-wipe-end : goal.slice_bounds-wipe-end
-slice_bounds-wipe-end c = omega arith
-
-pub wipe-requires : goal.wipe-requires
-wipe-requires c = omega arith
-
 pub loop-j-init : goal.loop-j-init
 loop-j-init c =
     let w = filled_part c.args.b c.args.q _ _ c.args.m.now c.wipe.new.out refl (omega (arith, c.requires.q_in_bounds)) c.wipe.auto.out c.wipe.ensures in
-    (omega arith, refl, only_none _ _ _, within_none c.args.shape c.args.theta.now c.args.q c.args.u c.args.b _ c.requires.shape_value.1 (omega (arith, c.requires.q_in_bounds, w.only.len)) w.row', omega (arith, c.requires.q_in_bounds, w.only.len), omega (arith, c.requires.q_in_bounds, w.only.len))
-
-pub column_of-c-requires : goal.column_of-c-requires
-column_of-c-requires c = (c.requires.shape_value.0, omega (arith, c.requires.shape_value.1, c.loop-j-test.true))
-
-pub overflow_add-x : goal.overflow_add-x
-overflow_add-x c = omega arith
-
-pub offset_bounds-m-u : goal.offset_bounds-m-u
-offset_bounds-m-u c = omega arith
-
-pub bounds-m-u : goal.bounds-m-u
-bounds-m-u c = omega arith
-
-pub overflow_add-at : goal.overflow_add-at
-overflow_add-at c = omega arith
+    (refl, only_none _ _ _, within_none c.args.shape c.args.theta.now c.args.q c.args.u c.args.b _ c.requires.shape_value.1 (omega (arith, c.requires.q_in_bounds, w.only.len)) w.row', omega (arith, c.requires.q_in_bounds, w.only.len), omega (arith, c.requires.q_in_bounds, w.only.len))
 
 pub add_column-requires : goal.add_column-requires
 add_column-requires c =
@@ -56,13 +22,7 @@ add_column-requires c =
     let r = in_range_lem c.args.shape c.requires.shape_value.0 in
     let theta = column_theta c.args.shape l.j r (omega (arith, c.requires.shape_value.1, c.loop-j-test.true)) in
     let rows = column_rows c.args.shape l.j r (omega (arith, c.requires.shape_value.1, c.loop-j-test.true)) in
-    rw c.column_of-c.ensures (omega (arith, theta, c.requires.shape_value.2), omega (arith, rows, l.invariant.1, c.requires.shape_value.1, c.requires.q_in_bounds))
-
-pub overflow_add-j : goal.overflow_add-j
-overflow_add-j c = omega arith
-
-pub loop-j-smaller : goal.loop-j-smaller
-loop-j-smaller c = omega arith
+    rw c.column_of-c.ensures (omega (arith, theta, c.requires.shape_value.2), omega (arith, rows, l.invariant.0, c.requires.shape_value.1, c.requires.q_in_bounds))
 
 pub loop-j-preserved : goal.loop-j-preserved
 loop-j-preserved c =
@@ -70,12 +30,9 @@ loop-j-preserved c =
     let l = c.loop-j in
     let r = in_range_lem a.shape c.requires.shape_value.0 in
     let made = rw c.column_of-c.ensures at c.add_column.ensures in
-    let only = within_only a.shape a.theta.now a.q a.u a.b _ c.requires.shape_value.1 l.invariant.4 l.invariant.5 c.requires.q_in_bounds.2 r l.j c.loop-j-test.true l.m l.invariant.2 l.invariant.3 in
-    let step = within_step a.shape a.theta.now a.q a.u a.b _ c.requires.shape_value.1 l.invariant.4 l.invariant.5 c.requires.q_in_bounds.2 r l.j c.loop-j-test.true l.m l.invariant.2 l.invariant.3 in
-    (omega (arith, c.loop-j-test.true), rw made only.len, rw made only, rw made step, l.invariant.4, l.invariant.5)
-
-pub shape_of-m : goal.shape_of-m
-shape_of-m c = omega arith
+    let only = within_only a.shape a.theta.now a.q a.u a.b _ c.requires.shape_value.1 l.invariant.3 l.invariant.4 c.requires.q_in_bounds.2 r l.j c.loop-j-test.true l.m l.invariant.1 l.invariant.2 in
+    let step = within_step a.shape a.theta.now a.q a.u a.b _ c.requires.shape_value.1 l.invariant.3 l.invariant.4 c.requires.q_in_bounds.2 r l.j c.loop-j-test.true l.m l.invariant.1 l.invariant.2 in
+    (rw made only.len, rw made only, rw made step, l.invariant.3, l.invariant.4)
 
 pub returns : goal.returns
 returns c =
@@ -83,6 +40,6 @@ returns c =
     let l = c.loop-j in
     let w = filled_part a.b a.q _ _ a.m.now c.wipe.new.out refl (omega (arith, c.requires.q_in_bounds)) c.wipe.auto.out c.wipe.ensures in
     record {
-      row' = within_all a.shape a.theta.now a.q a.u a.b _ c.requires.shape_value.1 l.invariant.4 l.j l.m l.invariant.0 (omega arith) l.invariant.3 ∙ ap (λ (U : List Float). build (lambda_times_at a.shape a.theta.now U) a.q) (only_row a.u a.q a.b a.q c.requires.q_in_bounds.2 c.requires.q_in_bounds.0 w.only);
-      only = only_trans w.only l.invariant.2;
+      row' = within_all a.shape a.theta.now a.q a.u a.b _ c.requires.shape_value.1 l.invariant.3 l.j l.m l.auto.j-end (omega arith) l.invariant.2 ∙ ap (λ (U : List Float). build (lambda_times_at a.shape a.theta.now U) a.q) (only_row a.u a.q a.b a.q c.requires.q_in_bounds.2 c.requires.q_in_bounds.0 w.only);
+      only = only_trans w.only l.invariant.1;
     }

@@ -9,8 +9,8 @@ returns-then-is_finite c =
     rw (c.ln.ensures, c.exp_sum.ensures)
     (log_sum_value _ _ c.largest-m.ensures (sym c.is_finite.ensures ∙ c.if-is_finite.true))
 
-pub returns : goal.returns
+pub returns-else-is_finite : goal.returns-else-is_finite
 unfolding neg
-returns c =
+returns-else-is_finite c =
     rw c.infinity.ensures
     (sym (log_sum_not_finite _ _ c.largest-m.ensures (sym c.is_finite.ensures ∙ c.if-is_finite.false)))

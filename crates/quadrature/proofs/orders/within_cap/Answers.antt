@@ -3,21 +3,20 @@ use native.Mathlib.Omega.{arith}
 use Rattle.quadrature.specs.Orders.{within_cap}
 use Rattle.quadrature.proofs.Powers.{power_none, power_step, power_past, power_small}
 use mathlib.Core.Path.{◌≡◌}
-use Prim.Native.Nat.{◌-◌}
 use Rattle.quadrature.proofs.orders.within_cap.Goals as goal
 
-pub loop-i-init : goal.loop-i-init
-loop-i-init c = (omega arith, power_none _, omega arith)
+pub loop-turn-init : goal.loop-turn-init
+loop-turn-init c = (power_none _, omega arith)
 
 pub returns-then-cap-power : goal.returns-then-cap-power
-returns-then-cap-power c = power_past _ _ _ _ _ c.requires.0 (omega arith) c.loop-i.invariant.1 c.if-cap-power.true
+returns-then-cap-power c = power_past _ _ _ _ _ c.requires.0 (omega arith) c.loop-turn.invariant.0 c.if-cap-power.true
 
 pub overflow_mul-power : goal.overflow_mul-power
-overflow_mul-power c = omega (arith, power_small c.args.size c.args.cap c.loop-i.power c.requires.1 c.requires.2 c.if-cap-power.false)
+overflow_mul-power c = omega (arith, power_small c.args.size c.args.cap c.loop-turn.power c.requires.1 c.requires.2 c.if-cap-power.false)
 
-pub loop-i-preserved : goal.loop-i-preserved
-loop-i-preserved c = (omega arith, power_step _ _ _ c.loop-i.invariant.1, power_small c.args.size c.args.cap c.loop-i.power c.requires.1 c.requires.2 c.if-cap-power.false)
+pub loop-turn-preserved : goal.loop-turn-preserved
+loop-turn-preserved c = (power_step _ _ _ c.loop-turn.invariant.0, power_small c.args.size c.args.cap c.loop-turn.power c.requires.1 c.requires.2 c.if-cap-power.false)
 
 pub returns : goal.returns
 unfolding within_cap
-returns c = let e : c.loop-i.i ≡ c.args.dims = omega arith in rw (c.loop-i.invariant.1, e)
+returns c = let e : c.loop-turn._turn ≡ c.args.dims = omega arith in rw (c.loop-turn.invariant.0, e)

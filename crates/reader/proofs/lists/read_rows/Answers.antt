@@ -1,17 +1,15 @@
 -- `reader::read_rows` meets its contract: before each row the place, the entries so far and the three lists are the definition's. Assumes nothing.
-use mathlib.Core.Path.{◌≡◌, refl, ◌∙◌}
+use mathlib.Core.Path.{◌≡◌, refl}
 use mathlib.Core.List.{List}
-use Prim.Native.Nat.{ℕ, ◌+◌, ◌*◌, ◌-◌, ◌≤◌, ◌<◌}
+use Prim.Native.Nat.{ℕ, ◌+◌, ◌*◌, ◌≤◌, ◌<◌}
 use native.Mathlib.Omega.{arith}
 use lib.Ieee.{Float}
-use lib.ListN.{length, length-set, set}
+use lib.ListN.{length, set}
 use borrow.Author.Rules.{rules}
-use Rattle.base.specs.List.{build}
-use Rattle.base.proofs.Fills.{build_length}
 use Rattle.job.specs.Lists.{counts, join_to, laid}
-use Rattle.job.specs.Format.{short, row_at, start_of, column_read, value_read}
+use Rattle.job.specs.Format.{short, row_at, start_of}
 use Rattle.job.specs.Job.{columns_of, values_of}
-use Rattle.job.proofs.ListLaws.{counts_none, counts_step, counts_length_lem, behind_length}
+use Rattle.job.proofs.ListLaws.{counts_none, counts_step}
 use Rattle.reader.proofs.RowReads.{row_fits, at_step, e_step, columns_step, values_step, join_none}
 use Rattle.reader.proofs.lists.read_rows.Goals.{In-loop-r}
 use Rattle.reader.proofs.lists.read_rows.Goals as goal
@@ -26,11 +24,11 @@ ended s r q e b w bc wc bv wv g m h i j k =
 
 room : (c : In-loop-r) → (c.loop-r.at + 2 + 10 * short c.args.s.now c.loop-r.at ≤ length c.args.s.now)
     × (c.loop-r.e + short c.args.s.now c.loop-r.at ≤ 6553)
-room c = let l = c.loop-r.invariant in row_fits c.args.s.now _ _ _ _ c.requires.s_len_bound.0 c.requires.s_len_bound.2 c.loop-r-test.true l.1 l.2
+room c = let l = c.loop-r.invariant in row_fits c.args.s.now _ _ _ _ c.requires.s_len_bound.0 c.requires.s_len_bound.2 c.loop-r-test.true l.0 l.1
 
 pub loop-r-init : goal.loop-r-init
 unfolding row_at start_of
-loop-r-init c = (omega arith, c.requires.s_len_bound.1, refl, refl, refl, refl, counts_none _ _, join_none _ _, join_none _ _)
+loop-r-init c = (c.requires.s_len_bound.1, refl, counts_none _ _, join_none _ _, join_none _ _)
 
 pub overflow_mul-at : goal.overflow_mul-at
 overflow_mul-at c = omega (arith, (room c).0)
@@ -41,46 +39,29 @@ field_at-n-requires c = omega (arith, (room c).0)
 pub read_row-requires : goal.read_row-requires
 read_row-requires c =
     let n = c.field_at-n.ensures.0 in
-    (search rules, omega (arith, (room (goal.at.read_row-requires c).In-loop-r).0, n), omega (arith, (room (goal.at.read_row-requires c).In-loop-r).1, n), omega (arith, (room (goal.at.read_row-requires c).In-loop-r).1, n))
+    let r = room (goal.at.read_row-requires c).In-loop-r in
+    (search rules, omega (arith, r.0, n), omega (arith, r.1, n), omega (arith, r.1, n))
 
 pub overflow_add-e : goal.overflow_add-e
 overflow_add-e c = omega (arith, (room (goal.at.overflow_add-e c).In-loop-r).1, c.field_at-n.ensures.0)
-
-pub overflow_add-at : goal.overflow_add-at
-overflow_add-at c = omega (arith, (room (goal.at.overflow_add-at c).In-loop-r).0, c.field_at-n.ensures.0)
-
-pub overflow_mul-at-in-loop-r : goal.overflow_mul-at-in-loop-r
-overflow_mul-at-in-loop-r c = omega (arith, (room (goal.at.overflow_mul-at-in-loop-r c).In-loop-r).0, c.field_at-n.ensures.0)
 
 pub overflow_add-at-in-loop-r : goal.overflow_add-at-in-loop-r
 overflow_add-at-in-loop-r c = omega (arith, (room (goal.at.overflow_add-at-in-loop-r c).In-loop-r).0, c.field_at-n.ensures.0)
 
 pub loop-r-preserved : goal.loop-r-preserved
 loop-r-preserved c =
-    let a = c.args in
+    let s = c.args.s.now in
     let l = c.loop-r.invariant in
     let n = c.field_at-n.ensures.0 in
-    let at = c.loop-r in
-    let k = c.field_at-n.result in
-    let fits = room (goal.at.loop-r-preserved c).In-loop-r in
     let w = c.read_row.ensures in (
-      omega arith,
-      at_step a.s.now _ _ _ l.1 n,
-      e_step a.s.now _ _ _ _ l.1 n l.2,
-      simp length-set (omega arith),
-      rw w.0
-          (behind_length at.e k (counts (column_read a.s.now at.at) k) at.columns (counts_length_lem (column_read a.s.now at.at) k)
-          (omega (arith, fits.1, n, l.4)) ∙ l.4),
-      rw w.1
-          (behind_length at.e k (build (value_read a.s.now at.at) k) at.values (build_length (value_read a.s.now at.at) k)
-          (omega (arith, fits.1, n, l.5)) ∙ l.5),
-      counts_step (start_of a.s.now) _ _ _ _ l.2 (omega arith) l.6,
-      columns_step a.s.now _ _ _ _ _ _ _ l.1 n l.2 l.7 w.0,
-      values_step a.s.now _ _ _ _ _ _ _ l.1 n l.2 l.8 w.1,
+      at_step s _ _ _ l.0 n,
+      e_step s _ _ _ _ l.0 n l.1,
+      counts_step (start_of s) _ _ _ _ l.1 (omega arith) l.2,
+      columns_step s _ _ _ _ _ _ _ l.0 n l.1 l.3 w.0,
+      values_step s _ _ _ _ _ _ _ l.0 n l.1 l.4 w.1,
     )
 
 pub returns : goal.returns
 returns c =
-    let a = c.args in
     let l = c.loop-r.invariant in
-    ended a.s.now _ _ _ _ _ _ _ _ _ (omega (arith, l.0, c.loop-r-test.false)) (omega arith) l.2 l.6 l.7 l.8
+    ended c.args.s.now _ _ _ _ _ _ _ _ _ (omega arith) (omega arith) l.1 l.2 l.3 l.4

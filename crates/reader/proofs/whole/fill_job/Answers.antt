@@ -52,30 +52,6 @@ read_rows-requires c =
       q_in_bounds = rw c.requires.c_value.0 (omega (arith, f.small.effects, r.starts_room), r.columns_room, r.values_room);
     }
 
-pub shape_of-theta : goal.shape_of-theta
-shape_of-theta c = c.read_numbers.auto.out
-
-pub shape_of-y : goal.shape_of-y
-shape_of-y c = c.read_numbers-2.auto.out
-
-pub shape_of-weights : goal.shape_of-weights
-shape_of-weights c = c.read_numbers-3.auto.out
-
-pub shape_of-offset : goal.shape_of-offset
-shape_of-offset c = c.read_numbers-4.auto.out
-
-pub shape_of-x : goal.shape_of-x
-shape_of-x c = c.read_numbers-5.auto.out
-
-pub shape_of-starts : goal.shape_of-starts
-shape_of-starts c = c.read_rows.auto.starts
-
-pub shape_of-columns : goal.shape_of-columns
-shape_of-columns c = c.read_rows.auto.columns
-
-pub shape_of-values : goal.shape_of-values
-shape_of-values c = c.read_rows.auto.values
-
 pub returns : goal.returns
 returns c =
     let p = c.requires.c_value.1 in

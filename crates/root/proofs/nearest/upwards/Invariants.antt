@@ -1,14 +1,11 @@
 -- `root::nearest::upwards` meets its contract: the first number whose half more is past the root is nearest to it, since the one before was not; the loop makes at most four turns.
-use Rattle.std.proofs.Common.{◌-◌, ◌≤◌, arith}
+use Rattle.std.proofs.Common.{◌+◌, ◌-◌, ◌≤◌, arith}
 use Rattle.root.specs.Near.{Short}
 use Rattle.root.proofs.nearest.upwards.Given as goal
 
 abbrev pub invariant-loop-k : goal.invariant-loop-k
-invariant-loop-k l = Short l.s l.r
+invariant-loop-k l = Short l.s (l.q + l.k)
 
-abbrev pub decreases-loop-k : goal.decreases-loop-k
-decreases-loop-k l = 4 - l.k
-
--- at most four turns, from whatever state: the measure falls each turn
-pub turns_few : (l : goal.Live-loop-k) → decreases-loop-k l ≤ 4
+-- at most four turns, from whatever state: what is left of the range
+pub turns_few : (l : goal.Live-loop-k) → 4 - l.k ≤ 4
 turns_few l = omega arith

@@ -3,10 +3,10 @@ use mathlib.Core.Path.{refl}
 use Rattle.rounds.specs.Totals.{fit_from}
 use Rattle.rounds.proofs.totals.fit_from.Goals as goal
 
-pub returns-in-Stopped : goal.returns-in-Stopped
+pub returns-in-Ok : goal.returns-in-Ok
 unfolding fit_from
-returns-in-Stopped c = rw (c.fitted.ensures, c.in-Stopped.is) refl
+returns-in-Ok c = rw (c.fitted.ensures, c.in-Ok.is) refl
 
-pub returns-in-Failed : goal.returns-in-Failed
+pub returns-in-Err : goal.returns-in-Err
 unfolding fit_from
-returns-in-Failed c = rw (c.unfitted.ensures, c.in-Failed.is) refl
+returns-in-Err c = rw (c.unfitted.ensures, c.in-Err.is) refl

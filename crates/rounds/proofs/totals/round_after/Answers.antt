@@ -3,10 +3,10 @@ use mathlib.Core.Path.{refl}
 use Rattle.rounds.specs.Totals.{round_after}
 use Rattle.rounds.proofs.totals.round_after.Goals as goal
 
-pub returns-in-Stopped : goal.returns-in-Stopped
+pub returns-in-Ok : goal.returns-in-Ok
 unfolding round_after
-returns-in-Stopped c = rw (c.round_of.ensures, c.in-Stopped.is) refl
+returns-in-Ok c = rw (c.round_of.ensures, c.in-Ok.is) refl
 
-pub returns-in-Failed : goal.returns-in-Failed
+pub returns-in-Err : goal.returns-in-Err
 unfolding round_after
-returns-in-Failed c = rw c.in-Failed.is refl
+returns-in-Err c = rw c.in-Err.is refl

@@ -7,23 +7,11 @@ use Rattle.agq.specs.Gained.{gain_in}
 use Rattle.several.proofs.Terms.{joint_made}
 use Rattle.several.proofs.all.joint_point.Goals as goal
 
-pub overflow_add-end : goal.overflow_add-end
-overflow_add-end c = omega (arith, c.requires.grid.in_m)
-
-pub offset_bounds-m-trial : goal.offset_bounds-m-trial
-offset_bounds-m-trial c = omega (arith, c.requires.grid.in_m)
-
-pub offset_bounds-m-trial-2 : goal.offset_bounds-m-trial-2
-offset_bounds-m-trial-2 c = omega (arith, c.requires.grid.in_m)
-
-pub log_weight-weight-requires : goal.log_weight-weight-requires
-log_weight-weight-requires c = (c.requires.grid.some, c.requires.size_in_bounds)
-
 pub returns : goal.returns
 returns c =
     let a = c.args in
     joint_made
-    (gain_in a.family a.link a.shape a.theta.now (sparse a.starts.now a.columns.now a.values.now) a.y.now a.weights.now
-    a.offset.now a.n a.q a.xbeta a.r.now) a.n a.q a.xbeta a.size a.l a.u a.trial a.point a.nodes.now
+    (gain_in a.given.now.family a.given.now.link a.given.now.design.shape a.given.now.design.theta.now (sparse a.given.now.design.zt.starts.now a.given.now.design.zt.columns.now a.given.now.design.zt.values.now) a.given.now.y.now a.given.now.weights.now
+    a.given.now.design.offset.now a.given.now.design.n a.given.now.design.q a.xbeta a.r.now) a.given.now.design.n a.given.now.design.q a.xbeta a.size a.l a.u a.trial a.point a.nodes.now
     a.node_logs.now a.inv_phi a.hats a.r.now _ a.m.now _ c.requires.grid _ c.trial_gain-dd.ensures _ _ _ _
-    (part_is a.trial a.q _ _ refl) c.dot-squares.ensures c.log_weight-weight.ensures c.delta.ensures
+    (part_is a.trial a.given.now.design.q _ _ refl) c.dot-squares.ensures c.log_weight-weight.ensures c.delta.ensures

@@ -8,49 +8,28 @@ use Rattle.several.proofs.Turns.{terms_none, terms_end, terms_length_lem, group_
 use Rattle.several.proofs.group.group_terms.Goals as goal
 
 pub loop-i-init : goal.loop-i-init
-loop-i-init c = (omega arith, terms_none, only_none _ _ _)
+loop-i-init c = (terms_none, only_none _ _ _)
 
 pub group_point-term-requires : goal.group_point-term-requires
 group_point-term-requires c =
     let a = c.args in
     let at = c.loop-i in
     record {
-      room = room_kept a.shape a.theta.now a.starts.now a.columns.now a.values.now a.y.now a.offset.now a.n a.q a.xbeta
-          a.r.now at.r a.trial a.m.now at.m at.invariant.1.in_r.len at.invariant.1.in_m.len c.requires.room;
-      grid = grid_kept a.q a.s a.k a.size a.l a.u a.trial a.nodes.now a.m.now at.m at.invariant.1.in_m.len c.requires.grid;
+      room = room_kept a.given.now.design.shape a.given.now.design.theta.now a.given.now.design.zt.starts.now a.given.now.design.zt.columns.now a.given.now.design.zt.values.now a.given.now.y.now a.given.now.design.offset.now a.given.now.design.n a.given.now.design.q a.xbeta
+          a.r.now at.r a.trial a.m.now at.m at.invariant.0.in_r.len at.invariant.0.in_m.len c.requires.room;
+      grid = grid_kept a.given.now.design.q a.s a.k a.size a.l a.u a.trial a.nodes.now a.m.now at.m at.invariant.0.in_m.len c.requires.grid;
       size_in_bounds = c.requires.size_in_bounds.0;
     }
-
-pub offset_bounds-terms-i : goal.offset_bounds-terms-i
-offset_bounds-terms-i c = omega (arith, c.loop-i-test.true, c.requires.size_in_bounds.1)
-
-pub bounds-terms-i : goal.bounds-terms-i
-bounds-terms-i c = omega (arith, c.loop-i-test.true, c.requires.size_in_bounds.1, terms_length_lem c.loop-i.invariant.1)
-
-pub overflow_add-i : goal.overflow_add-i
-overflow_add-i c = omega (arith, c.loop-i-test.true, c.requires.size_in_bounds.1)
-
-pub loop-i-smaller : goal.loop-i-smaller
-loop-i-smaller c = omega (arith, c.loop-i-test.true)
 
 pub loop-i-preserved : goal.loop-i-preserved
 loop-i-preserved c =
     let a = c.args in
     let at = c.loop-i in
-    let p = group_turn a.family a.link a.shape a.theta.now (sparse a.starts.now a.columns.now a.values.now) a.y.now
-    a.weights.now a.offset.now a.n a.q a.xbeta a.r.now at.r c.requires.room.in_r a.size a.l a.u a.trial a.nodes.now
-    a.node_logs.now a.inv_phi a.m.now at.m a.terms.now at.terms at.i a.s a.k c.requires.grid at.invariant.1 at.invariant.2 _ _ _
+    let p = group_turn a.given.now.family a.given.now.link a.given.now.design.shape a.given.now.design.theta.now (sparse a.given.now.design.zt.starts.now a.given.now.design.zt.columns.now a.given.now.design.zt.values.now) a.given.now.y.now
+    a.given.now.weights.now a.given.now.design.offset.now a.given.now.design.n a.given.now.design.q a.xbeta a.r.now at.r c.requires.room.in_r a.size a.l a.u a.trial a.nodes.now
+    a.node_logs.now a.inv_phi a.m.now at.m a.terms.now at.terms at.i a.s a.k c.requires.grid at.invariant.0 at.invariant.1 _ _ _
     c.group_point-term.ensures in
-    (omega (arith, c.loop-i-test.true), p.0, p.1)
-
-pub shape_of-r : goal.shape_of-r
-shape_of-r c = c.loop-i.invariant.1.in_r.len
-
-pub shape_of-m : goal.shape_of-m
-shape_of-m c = c.loop-i.invariant.1.in_m.len
-
-pub shape_of-terms : goal.shape_of-terms
-shape_of-terms c = terms_length_lem c.loop-i.invariant.1
+    p
 
 pub returns : goal.returns
-returns c = terms_end c.loop-i.invariant.1 c.loop-i.invariant.0 (omega arith)
+returns c = terms_end c.loop-i.invariant.0 c.loop-i.auto.i-end (omega arith)

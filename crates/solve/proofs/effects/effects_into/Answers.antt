@@ -5,14 +5,7 @@ use Rattle.base.proofs.Rows.{row_length}
 use Rattle.base.proofs.Rows.{part_is}
 use Rattle.base.proofs.Rows.{filled_part}
 use Rattle.solve.proofs.Steps.{effects_made}
-use borrow.Author.Rules.{rules}
 use Rattle.solve.proofs.effects.effects_into.Goals as goal
-
-pub lambda_times-requires : goal.lambda_times-requires
-lambda_times-requires c = record {
-  shape_value = (c.requires.shape_value.0, c.requires.shape_value.1);
-  shape_in_bounds = (c.requires.shape_value.2, search rules, search rules);
-}
 
 pub returns : goal.returns
 returns c =

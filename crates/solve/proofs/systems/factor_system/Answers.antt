@@ -3,14 +3,7 @@ use mathlib.Core.Path.{refl}
 use native.Mathlib.Omega.{arith}
 use Rattle.base.proofs.Rows.{part_is, front_is}
 use Rattle.solve.proofs.FactoredSystem.{system_made}
-use borrow.Author.Rules.{rules}
 use Rattle.solve.proofs.systems.factor_system.Goals as goal
-
-pub system-requires : goal.system-requires
-system-requires c = record {
-  shape_value = (c.requires.ready.good, c.requires.ready.effects);
-  shape_in_bounds = (c.requires.ready.numbers, search rules, search rules);
-}
 
 pub returns : goal.returns
 returns c =

@@ -1,9 +1,7 @@
--- `stored::mark_of` meets its contract: its test is the definition's, and a number below 255 is a byte.
-use Rattle.stored.proofs.Apart.{lesser_first, lesser_second}
+-- `stored::mark_of` meets its contract: a number that is no byte is above 255.
+use mathlib.Core.Path.{◌∙◌}
+use Rattle.stored.proofs.Apart.{byte_lesser}
 use Rattle.stored.proofs.marks.mark_of.Goals as goal
 
-pub returns-then-x-lt255 : goal.returns-then-x-lt255
-returns-then-x-lt255 c = lesser_second _ _ c.if-x-lt255.true
-
 pub returns : goal.returns
-returns c = lesser_first _ _ c.if-x-lt255.false
+returns c = c.unwrap_or.ensures ∙ byte_lesser c.try_from.result c.args.x c.try_from.ensures

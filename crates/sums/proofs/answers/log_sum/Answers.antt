@@ -3,9 +3,6 @@ use mathlib.Core.Path.{sym, ◌∙◌}
 use Rattle.sums.proofs.Fronts.{sum_found, no_sum_found}
 use Rattle.sums.proofs.answers.log_sum.Goals as goal
 
-pub slice_bounds-log_sum_exp-end : goal.slice_bounds-log_sum_exp-end
-slice_bounds-log_sum_exp-end c = c.requires
-
 pub returns-then-is_finite : goal.returns-then-is_finite
 returns-then-is_finite c =
     sum_found c.args.t.now c.args.count _ c.requires c.log_sum_exp-s.ensures

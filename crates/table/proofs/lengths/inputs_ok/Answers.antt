@@ -10,48 +10,42 @@ use Rattle.table.proofs.lengths.inputs_ok.Goals as goal
 pub theta_length-requires : goal.theta_length-requires
 theta_length-requires c = let z = sized c.args.settings c.args.shape c.requires.0 in z.shape
 
-pub returns-then-theta-theta_length : goal.returns-then-theta-theta_length
-returns-then-theta-theta_length c = not_inputs _ _ _ _ (λ g. c.if-theta-theta_length.true (g.theta ∙ sym c.theta_length.ensures))
-
 pub overflow_mul-responses : goal.overflow_mul-responses
 overflow_mul-responses c = let z = sized c.args.settings c.args.shape c.requires.0 in omega (arith, many_few 512 c.requires.1 z.sizes.n_few)
-
-pub returns-then-y-responses : goal.returns-then-y-responses
-returns-then-y-responses c = not_inputs _ _ _ _ (λ g. c.if-y-responses.true g.y)
-
-pub absent_or-requires : goal.absent_or-requires
-absent_or-requires c = omega arith
 
 pub returns-then-not-absent_or : goal.returns-then-not-absent_or
 returns-then-not-absent_or c =
     not_inputs _ _ _ _
-    (λ g. true≢false (sym (or_absent _ c.args.weights.now g.weights) ∙ sym c.absent_or.ensures ∙ c.if-not-absent_or.true))
-
-pub absent_or-requires-2 : goal.absent_or-requires-2
-absent_or-requires-2 c = omega arith
+    (λ g. true≢false (sym (or_absent _ c.args.lists.now.weights.now g.weights) ∙ sym c.absent_or.ensures ∙ c.if-not-absent_or.true))
 
 pub returns-then-not-absent_or-2 : goal.returns-then-not-absent_or-2
 returns-then-not-absent_or-2 c =
     not_inputs _ _ _ _
-    (λ g. true≢false (sym (or_absent _ c.args.offset.now g.offset) ∙ sym c.absent_or-2.ensures ∙ c.if-not-absent_or-2.true))
+    (λ g. true≢false (sym (or_absent _ c.args.lists.now.offset.now g.offset) ∙ sym c.absent_or-2.ensures ∙ c.if-not-absent_or-2.true))
 
 pub overflow_mul-settings : goal.overflow_mul-settings
 overflow_mul-settings c = let z = sized c.args.settings c.args.shape c.requires.0 in omega (arith, (products z.sizes).np)
 
-pub returns-then-x-settings : goal.returns-then-x-settings
-returns-then-x-settings c = not_inputs _ _ _ _ (λ g. c.if-x-settings.true g.x)
-
 pub overflow_add-settings : goal.overflow_add-settings
 overflow_add-settings c = let z = sized c.args.settings c.args.shape c.requires.0 in omega (arith, z.sizes.q_few)
 
-pub returns-then-starts-settings : goal.returns-then-starts-settings
-returns-then-starts-settings c = not_inputs _ _ _ _ (λ g. c.if-starts-settings.true g.starts)
+pub returns-then-lists-theta_length : goal.returns-then-lists-theta_length
+returns-then-lists-theta_length c = not_inputs _ _ _ _ (λ g. c.if-lists-theta_length.true (g.theta ∙ sym c.theta_length.ensures))
 
-pub returns-then-columns-settings : goal.returns-then-columns-settings
-returns-then-columns-settings c = not_inputs _ _ _ _ (λ g. c.if-columns-settings.true g.columns)
+pub returns-then-lists-responses : goal.returns-then-lists-responses
+returns-then-lists-responses c = not_inputs _ _ _ _ (λ g. c.if-lists-responses.true g.y)
+
+pub returns-then-lists-settings : goal.returns-then-lists-settings
+returns-then-lists-settings c = not_inputs _ _ _ _ (λ g. c.if-lists-settings.true g.x)
+
+pub returns-then-lists-settings-2 : goal.returns-then-lists-settings-2
+returns-then-lists-settings-2 c = not_inputs _ _ _ _ (λ g. c.if-lists-settings-2.true g.starts)
+
+pub returns-then-lists-settings-3 : goal.returns-then-lists-settings-3
+returns-then-lists-settings-3 c = not_inputs _ _ _ _ (λ g. c.if-lists-settings-3.true g.columns)
 
 pub returns : goal.returns
 returns c =
-    inputs_when _ _ _ _ (c.if-theta-theta_length.false ∙ c.theta_length.ensures) c.if-y-responses.false
-    (sym c.absent_or.ensures ∙ c.if-not-absent_or.false) (sym c.absent_or-2.ensures ∙ c.if-not-absent_or-2.false) c.if-x-settings.false
-    c.if-starts-settings.false c.if-columns-settings.false
+    inputs_when _ _ _ _ (c.if-lists-theta_length.false ∙ c.theta_length.ensures) c.if-lists-responses.false
+    (sym c.absent_or.ensures ∙ c.if-not-absent_or.false) (sym c.absent_or-2.ensures ∙ c.if-not-absent_or-2.false) c.if-lists-settings.false
+    c.if-lists-settings-2.false c.if-lists-settings-3.false

@@ -1,17 +1,6 @@
 -- `table::results_ok` meets its contract: each test that fails is a fact that good results have, and after all others v decides.
-use native.Mathlib.Nat.{mul-le-mul}
-use native.Mathlib.Omega.{arith}
-use Rattle.table.proofs.Meant.{not_results, results_when, many_few}
+use Rattle.table.proofs.Meant.{not_results, results_when}
 use Rattle.table.proofs.lengths.results_ok.Goals as goal
-
-pub overflow_mul-fixed : goal.overflow_mul-fixed
-overflow_mul-fixed c = omega (arith, many_few 16 c.requires.1 c.requires.0.p_few)
-
-pub overflow_mul-effects : goal.overflow_mul-effects
-overflow_mul-effects c = omega (arith, many_few 32 c.requires.1 c.requires.0.q_few)
-
-pub overflow_mul-observations : goal.overflow_mul-observations
-overflow_mul-observations c = omega (arith, many_few 512 c.requires.1 c.requires.0.n_few)
 
 pub returns-then-lent-fixed : goal.returns-then-lent-fixed
 returns-then-lent-fixed c = not_results _ _ _ (λ g. c.if-lent-fixed.true g.beta)
@@ -36,9 +25,6 @@ returns-then-lent-observations-2 c = not_results _ _ _ (λ g. c.if-lent-observat
 
 pub returns-then-lent-observations-3 : goal.returns-then-lent-observations-3
 returns-then-lent-observations-3 c = not_results _ _ _ (λ g. c.if-lent-observations-3.true g.residual)
-
-pub overflow_mul-result : goal.overflow_mul-result
-overflow_mul-result c = omega (arith, mul-le-mul {n₂ = 1024} {m₂ = 16} (many_few 16 c.requires.1 c.requires.0.p_few) c.requires.0.p_few)
 
 pub returns : goal.returns
 returns c =

@@ -3,20 +3,11 @@ use native.Mathlib.Omega.{arith}
 use Rattle.table.proofs.Meant.{not_work, work_when}
 use Rattle.table.proofs.lengths.work_ok.Goals as goal
 
-pub rows_length-requires : goal.rows_length-requires
-rows_length-requires c = omega (arith, c.requires.n_few)
-
 pub returns-then-lent-rows_length : goal.returns-then-lent-rows_length
 returns-then-lent-rows_length c = not_work _ _ (λ g. omega (arith, c.if-lent-rows_length.true, c.rows_length.ensures, g.rows))
 
-pub matrices_length-requires : goal.matrices_length-requires
-matrices_length-requires c = (c.requires.p_few, c.requires.q_few)
-
 pub returns-then-lent-matrices_length : goal.returns-then-lent-matrices_length
 returns-then-lent-matrices_length c = not_work _ _ (λ g. omega (arith, c.if-lent-matrices_length.true, c.matrices_length.ensures, g.matrices))
-
-pub terms_length-requires : goal.terms_length-requires
-terms_length-requires c = omega arith
 
 pub returns : goal.returns
 returns c =

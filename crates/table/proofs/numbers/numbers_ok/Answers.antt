@@ -1,25 +1,15 @@
 -- `table::numbers_ok` meets its contract: by its six tests in order.
 use mathlib.Core.Path.{refl, sym, ◌∙◌}
-use native.Mathlib.Omega.{arith}
 use Rattle.table.specs.Tests.{finite_numbers}
 use Rattle.table.proofs.numbers.numbers_ok.Goals as goal
-
-pub list_ok-requires : goal.list_ok-requires
-list_ok-requires c = omega arith
 
 pub returns-then-not-list_ok : goal.returns-then-not-list_ok
 unfolding finite_numbers
 returns-then-not-list_ok c = rw (sym c.list_ok.ensures ∙ c.if-not-list_ok.true) refl
 
-pub list_ok-requires-2 : goal.list_ok-requires-2
-list_ok-requires-2 c = omega arith
-
 pub returns-then-not-list_ok-2 : goal.returns-then-not-list_ok-2
 unfolding finite_numbers
 returns-then-not-list_ok-2 c = rw (sym c.list_ok.ensures ∙ c.if-not-list_ok.false, sym c.list_ok-2.ensures ∙ c.if-not-list_ok-2.true) refl
-
-pub list_ok-requires-3 : goal.list_ok-requires-3
-list_ok-requires-3 c = omega arith
 
 pub returns-then-not-list_ok-3 : goal.returns-then-not-list_ok-3
 unfolding finite_numbers
@@ -29,9 +19,6 @@ returns-then-not-list_ok-3 c =
       sym c.list_ok-2.ensures ∙ c.if-not-list_ok-2.false,
       sym c.list_ok-3.ensures ∙ c.if-not-list_ok-3.true,
     ) refl
-
-pub list_ok-requires-4 : goal.list_ok-requires-4
-list_ok-requires-4 c = omega arith
 
 pub returns-then-not-list_ok-4 : goal.returns-then-not-list_ok-4
 unfolding finite_numbers
@@ -43,9 +30,6 @@ returns-then-not-list_ok-4 c =
       sym c.list_ok-4.ensures ∙ c.if-not-list_ok-4.true,
     ) refl
 
-pub list_ok-requires-5 : goal.list_ok-requires-5
-list_ok-requires-5 c = omega arith
-
 pub returns-then-not-list_ok-5 : goal.returns-then-not-list_ok-5
 unfolding finite_numbers
 returns-then-not-list_ok-5 c =
@@ -56,9 +40,6 @@ returns-then-not-list_ok-5 c =
       sym c.list_ok-4.ensures ∙ c.if-not-list_ok-4.false,
       sym c.list_ok-5.ensures ∙ c.if-not-list_ok-5.true,
     ) refl
-
-pub list_ok-requires-6 : goal.list_ok-requires-6
-list_ok-requires-6 c = omega arith
 
 pub returns : goal.returns
 unfolding finite_numbers

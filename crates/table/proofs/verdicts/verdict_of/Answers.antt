@@ -7,23 +7,11 @@ use Rattle.table.proofs.Meant.{count_fits, inputs_fit}
 use Rattle.table.proofs.Accepting.{line_1, line_8, line_2_inputs, line_2_results, line_7, line_6, line_3, line_4, line_9, line_27, past_lines}
 use Rattle.table.proofs.verdicts.verdict_of.Goals as goal
 
-pub sizes_ok-requires : goal.sizes_ok-requires
-sizes_ok-requires c = omega arith
-
 pub returns-then-not-sizes_ok : goal.returns-then-not-sizes_ok
 returns-then-not-sizes_ok c = sym (line_1 _ _ _ _ _ (sym c.sizes_ok.ensures ∙ c.if-not-sizes_ok.true))
 
-pub count_ok-requires : goal.count_ok-requires
-count_ok-requires c = omega arith
-
 pub returns-then-not-count_ok : goal.returns-then-not-count_ok
 returns-then-not-count_ok c = sym (line_8 _ _ _ _ _ (sym c.sizes_ok.ensures ∙ c.if-not-sizes_ok.false) (sym c.count_ok.ensures ∙ c.if-not-count_ok.true))
-
-pub inputs_ok-requires : goal.inputs_ok-requires
-inputs_ok-requires c = (
-  sym c.sizes_ok.ensures ∙ c.if-not-sizes_ok.false,
-  (count_fits _ (sym c.count_ok.ensures ∙ c.if-not-count_ok.false)).1,
-)
 
 pub returns-then-not-inputs_ok : goal.returns-then-not-inputs_ok
 returns-then-not-inputs_ok c =
@@ -62,18 +50,12 @@ returns-then-not-rows_ok c =
     (sym c.results_ok.ensures ∙ c.if-not-results_ok.false) (sym c.work_ok.ensures ∙ c.if-not-work_ok.false)
     (sym c.rows_ok.ensures ∙ c.if-not-rows_ok.true))
 
-pub numbers_ok-requires : goal.numbers_ok-requires
-numbers_ok-requires c = omega arith
-
 pub returns-then-not-numbers_ok : goal.returns-then-not-numbers_ok
 returns-then-not-numbers_ok c =
     sym
     (line_3 _ _ _ _ _ (sym c.sizes_ok.ensures ∙ c.if-not-sizes_ok.false) (sym c.count_ok.ensures ∙ c.if-not-count_ok.false) (sym c.inputs_ok.ensures ∙ c.if-not-inputs_ok.false)
     (sym c.results_ok.ensures ∙ c.if-not-results_ok.false) (sym c.work_ok.ensures ∙ c.if-not-work_ok.false)
     (sym c.rows_ok.ensures ∙ c.if-not-rows_ok.false) (sym c.numbers_ok.ensures ∙ c.if-not-numbers_ok.true))
-
-pub valid_for-requires : goal.valid_for-requires
-valid_for-requires c = omega arith
 
 pub returns-then-not-valid_for : goal.returns-then-not-valid_for
 returns-then-not-valid_for c =
@@ -82,12 +64,6 @@ returns-then-not-valid_for c =
     (sym c.results_ok.ensures ∙ c.if-not-results_ok.false) (sym c.work_ok.ensures ∙ c.if-not-work_ok.false)
     (sym c.rows_ok.ensures ∙ c.if-not-rows_ok.false) (sym c.numbers_ok.ensures ∙ c.if-not-numbers_ok.false)
     (sym c.valid_for.ensures ∙ c.if-not-valid_for.true))
-
-pub carried_family-carried-requires : goal.carried_family-carried-requires
-carried_family-carried-requires c = omega arith
-
-pub responses_ok-requires : goal.responses_ok-requires
-responses_ok-requires c = omega arith
 
 pub returns-then-not-responses_ok : goal.returns-then-not-responses_ok
 returns-then-not-responses_ok c =
@@ -99,9 +75,6 @@ returns-then-not-responses_ok c =
     (sym c.valid_for.ensures ∙ c.if-not-valid_for.false)
     (same ∙ sym c.responses_ok.ensures ∙ c.if-not-responses_ok.true))
 
-pub start_ok-requires : goal.start_ok-requires
-start_ok-requires c = omega arith
-
 pub returns-then-not-start_ok : goal.returns-then-not-start_ok
 returns-then-not-start_ok c =
     let same = sym c.carried_family-carried.ensures in
@@ -112,9 +85,6 @@ returns-then-not-start_ok c =
     (sym c.valid_for.ensures ∙ c.if-not-valid_for.false)
     (ap (all_in_range _) same ∙ sym c.responses_ok.ensures ∙ c.if-not-responses_ok.false)
     (ap (start_fits _ _) same ∙ sym c.start_ok.ensures ∙ c.if-not-start_ok.true))
-
-pub carried_link-requires : goal.carried_link-requires
-carried_link-requires c = omega arith
 
 pub returns : goal.returns
 returns c =

@@ -3,18 +3,18 @@ use mathlib.Core.Path.{refl}
 use Rattle.model.specs.Items.{count_of, tally}
 use Rattle.tries.proofs.search.of_try.Goals as goal
 
-pub returns-in-EtaRefused : goal.returns-in-EtaRefused
+pub returns-in-Err-Eta : goal.returns-in-Err-Eta
 unfolding tally count_of
-returns-in-EtaRefused c = rw (c.none-one.ensures, c.in-EtaRefused.is) refl
+returns-in-Err-Eta c = let f = rw c.in-Err-Eta.is at c.in-Err-Eta.field-0-is in rw (c.none-one.ensures, c.in-Err-Eta.is, f) refl
 
-pub returns-in-MeanRefused : goal.returns-in-MeanRefused
+pub returns-in-Err-Mean : goal.returns-in-Err-Mean
 unfolding tally count_of
-returns-in-MeanRefused c = rw (c.none-one.ensures, c.in-MeanRefused.is) refl
+returns-in-Err-Mean c = let f = rw c.in-Err-Mean.is at c.in-Err-Mean.field-0-is in rw (c.none-one.ensures, c.in-Err-Mean.is, f) refl
 
-pub returns-in-PwrssRefused : goal.returns-in-PwrssRefused
+pub returns-in-Err-Pwrss : goal.returns-in-Err-Pwrss
 unfolding tally count_of
-returns-in-PwrssRefused c = rw (c.none-one.ensures, c.in-PwrssRefused.is) refl
+returns-in-Err-Pwrss c = let f = rw c.in-Err-Pwrss.is at c.in-Err-Pwrss.field-0-is in rw (c.none-one.ensures, c.in-Err-Pwrss.is, f) refl
 
-pub returns-in-Accepted : goal.returns-in-Accepted
+pub returns-in-Ok : goal.returns-in-Ok
 unfolding tally count_of
-returns-in-Accepted c = rw (c.none-one.ensures, c.in-Accepted.is) refl
+returns-in-Ok c = rw (c.none-one.ensures, c.in-Ok.is) refl

@@ -1,49 +1,13 @@
 -- `working::raw_row` meets its contract: before turn i the first i places are written, and entry i of Zb is as it was lent.
-use Rattle.working.proofs.Entries.{raw_entry, optional_at}
-use Prim.Native.Nat.{◌-◌}
-use lib.ListN.{length-set}
-use Rattle.base.proofs.Fills.{fill_none, fill_step, fill_end}
-use native.Mathlib.Omega.{arith}
+use Rattle.working.proofs.Entries.{raw_entry}
+use Rattle.base.proofs.Fills.{fill_none, fill_step}
 use Rattle.working.proofs.offsets.raw_row.Goals as goal
 
 pub loop-i-init : goal.loop-i-init
-loop-i-init c = (omega arith, omega arith, fill_none _ _)
-
-pub offset-o-requires : goal.offset-o-requires
-offset-o-requires c = omega arith
-
-pub dot_from-requires : goal.dot_from-requires
-dot_from-requires c = omega arith
-
-pub offset_bounds-out-i : goal.offset_bounds-out-i
-offset_bounds-out-i c = omega arith
-
-pub bounds-out-i : goal.bounds-out-i
-bounds-out-i c = omega arith
-
-pub plus_offset-requires : goal.plus_offset-requires
-plus_offset-requires c = optional_at c.args.n c.loop-i.i c.args.offset.now c.requires.0 (omega arith)
-
-pub offset_bounds-out-i-in-loop-i : goal.offset_bounds-out-i-in-loop-i
-offset_bounds-out-i-in-loop-i c = omega arith
-
-pub bounds-out-i-in-loop-i : goal.bounds-out-i-in-loop-i
-bounds-out-i-in-loop-i c = omega arith
-
-pub overflow_add-i : goal.overflow_add-i
-overflow_add-i c = omega arith
-
-pub loop-i-smaller : goal.loop-i-smaller
-loop-i-smaller c = omega arith
+loop-i-init c = fill_none _ _
 
 pub loop-i-preserved : goal.loop-i-preserved
 loop-i-preserved c =
     let a = c.args in
     let at = c.loop-i in
-    (omega arith, simp length-set (omega arith), rw (c.plus_offset.ensures, raw_entry a.offset.now a.x.now a.p a.beta.now a.out.now at.out at.i _ _ at.invariant.2 c.offset-o.ensures.0 c.dot_from.ensures) (fill_step _ _ _ _ at.invariant.2))
-
-pub shape_of-out : goal.shape_of-out
-shape_of-out c = omega arith
-
-pub returns : goal.returns
-returns c = fill_end _ _ _ _ _ c.loop-i.invariant.2 (omega arith) (omega arith)
+    rw (c.plus_offset.ensures, raw_entry a.offset.now a.x.now a.p a.beta.now a.out.now at.out at.i _ _ at.invariant c.offset-o.ensures.0 c.dot_from.ensures) (fill_step _ _ _ _ at.invariant)

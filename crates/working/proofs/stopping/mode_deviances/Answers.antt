@@ -1,6 +1,4 @@
 -- `working::mode_deviances` meets its contract: before turn i the first i places of the row are written, and the means are as they were lent.
-use Prim.Native.Nat.{◌-◌}
-use lib.ListN.{length-set}
 use Rattle.base.proofs.Fills.{fillat_none, fillat_step}
 use Rattle.base.proofs.Rows.{fillat_wrote}
 use Rattle.working.proofs.Entries.{deviance_entry}
@@ -8,52 +6,13 @@ use native.Mathlib.Omega.{arith}
 use Rattle.working.proofs.stopping.mode_deviances.Goals as goal
 
 pub loop-i-init : goal.loop-i-init
-loop-i-init c = (omega arith, omega arith, fillat_none _ _ _)
-
-pub weight_at-wt-requires : goal.weight_at-wt-requires
-weight_at-wt-requires c = omega arith
-
-pub offset_bounds-y-i : goal.offset_bounds-y-i
-offset_bounds-y-i c = omega arith
-
-pub bounds-y-i : goal.bounds-y-i
-bounds-y-i c = omega arith
-
-pub overflow_add-mu_at : goal.overflow_add-mu_at
-overflow_add-mu_at c = omega arith
-
-pub offset_bounds-rows-mu_at : goal.offset_bounds-rows-mu_at
-offset_bounds-rows-mu_at c = omega arith
-
-pub bounds-rows-mu_at : goal.bounds-rows-mu_at
-bounds-rows-mu_at c = omega arith
-
-pub dev_resid-requires : goal.dev_resid-requires
-dev_resid-requires c = omega arith
-
-pub overflow_add-rows : goal.overflow_add-rows
-overflow_add-rows c = omega arith
-
-pub offset_bounds-rows-dev_at : goal.offset_bounds-rows-dev_at
-offset_bounds-rows-dev_at c = omega arith
-
-pub bounds-rows-dev_at : goal.bounds-rows-dev_at
-bounds-rows-dev_at c = omega arith
-
-pub overflow_add-i : goal.overflow_add-i
-overflow_add-i c = omega arith
-
-pub loop-i-smaller : goal.loop-i-smaller
-loop-i-smaller c = omega arith
+loop-i-init c = fillat_none _ _ _
 
 pub loop-i-preserved : goal.loop-i-preserved
 loop-i-preserved c =
     let a = c.args in
     let at = c.loop-i in
-    (omega arith, simp length-set (omega arith), rw (c.dev_resid.ensures, deviance_entry a.family a.y.now a.weights.now a.mu_at a.dev_at a.n at.i a.rows.now at.rows _ c.requires.1 (omega arith) (omega arith) at.invariant.2 c.weight_at-wt.ensures) (fillat_step _ _ _ _ _ at.invariant.2))
-
-pub shape_of-rows : goal.shape_of-rows
-shape_of-rows c = omega arith
+    rw (c.dev_resid.ensures, deviance_entry a.family a.y.now a.weights.now a.mu_at a.dev_at a.n at.i a.rows.now at.rows _ c.requires.1 (omega arith) (omega arith) at.invariant c.weight_at-wt.ensures) (fillat_step _ _ _ _ _ at.invariant)
 
 pub returns : goal.returns
-returns c = fillat_wrote _ _ _ _ _ _ c.loop-i.invariant.2 (omega arith) (omega arith) (omega arith)
+returns c = fillat_wrote _ _ _ _ _ _ c.loop-i.invariant (omega arith) (omega arith) (omega arith)

@@ -1,9 +1,0 @@
--- `cases_lambda::columns` is safe: there are nine columns.
-use Prim.Native.Nat.{◌-◌, ◌≤◌}
-use Rattle.cases_lambda.proofs.columns.Given as goal
-
-abbrev pub invariant-loop-j : goal.invariant-loop-j
-invariant-loop-j l = l.j ≤ 9
-
-abbrev pub decreases-loop-j : goal.decreases-loop-j
-decreases-loop-j l = 9 - l.j

@@ -1,9 +1,0 @@
--- `cases_table::main` ends: each turn counts one on towards 1000.
-use Prim.Native.Nat.{◌≤◌, ◌-◌}
-use Rattle.cases_table.proofs.main.Given as goal
-
-abbrev pub invariant-loop-i : goal.invariant-loop-i
-invariant-loop-i l = l.i ≤ 1000
-
-abbrev pub decreases-loop-i : goal.decreases-loop-i
-decreases-loop-i l = 1000 - l.i

@@ -1,0 +1,10 @@
+-- `lines::Writer::tail` meets its contract: its pieces stand behind one another. Assumes nothing.
+use native.Mathlib.Omega.{arith}
+use Rattle.lines.specs.Lines.{tail_pairs, pairs_text}
+use Rattle.lines.proofs.Pieces.{pair_and}
+use Rattle.lines.proofs.Writer.tail.Goals as goal
+
+pub returns-clause-appended : goal.returns-clause-appended
+unfolding tail_pairs pairs_text
+returns-clause-appended c =
+    pair_and c.pair.ensures.paired (pair_and c.pair-2.ensures.paired (pair_and c.pair-3.ensures.paired (pair_and c.pair-4.ensures.paired (pair_and c.pair-5.ensures.paired c.put.ensures.appended (omega arith)) (omega arith)) (omega arith)) (omega arith)) (omega arith)
