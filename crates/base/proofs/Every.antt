@@ -1,4 +1,4 @@
--- What `all` over a range and over the front of a slice answers, and what `fill` and `copy_from_slice` leave at the front of one. Assumes nothing.
+-- What `all` over a range and over the front of a slice answers, and what `fill` leaves at the front of one. Assumes nothing.
 use mathlib.Core.Path.{◌≡◌, refl, sym, ap, ◌∙◌}
 use mathlib.Core.Bool.{Bool, true, false, ◌&&◌}
 use mathlib.Core.List.{List, [], ◌∷◌, ◌++◌}

@@ -45,12 +45,14 @@ pub fn wipe(out: &mut [f64], n: usize)
     out[..n].fill(0.0);
 }
 
-// The first n numbers of a into the first n places of out.
+// The first n numbers of a into the first n places of out. A loop: by std's copy_from_slice the C archives would ask for memmove too (docs/EMBEDDED.md).
 pub fn copy(a: &[f64], out: &mut [f64], n: usize)
     requires { (n ≤ length a.now) × (n ≤ length out.old) }
     ensures { out.new ≡ fill_to n (entry_of a.now) out.old }
 {
-    out[..n].copy_from_slice(&a[..n]);
+    for i in 0..n {
+        out[i] = a[i];
+    }
 }
 
 // Whether the first n numbers of a are all finite.
