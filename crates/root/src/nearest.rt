@@ -72,7 +72,7 @@ fn downwards(s: u64, q: u64) -> u64
     requires { (0x10_0000_0000_0000 ≤ s) × (s < 0x3f_ffff_ffff_ffff) × Past s q }
     ensures { result ≡ nearest_from 53 0 (s * 0x10_0000_0000_0000) }
 {
-    for k in 0..4 {
+    for k in 0u64..4 {
         let r = q - k;
         if pronic(r - 1) < s {
             return r;

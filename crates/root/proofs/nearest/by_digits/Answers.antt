@@ -1,8 +1,13 @@
 -- `root::nearest::by_digits` meets its contract: each turn finds the next digit, as the definition does, and after 53 turns none is left.
-use Rattle.std.proofs.Common.{◌+◌, ◌-◌, ◌*◌, ◌/◌, ◌^◌, sym, ◌∙◌, arith, pow_pos}
+use Rattle.std.proofs.Common.{◌+◌, ◌-◌, ◌*◌, ◌/◌, ◌^◌, ◌<◌, sym, ◌∙◌, arith, pow_pos}
 use Rattle.root.specs.Sqrt.{half_below}
 use Rattle.root.proofs.Squares.{digit_at, digit_twice, digit_turn, digit_room, digits_done}
+use Rattle.root.proofs.nearest.by_digits.Goals.{In-loop-k}
 use Rattle.root.proofs.nearest.by_digits.Goals as goal
+
+-- at most 53 turns: they count from 0, and each of them is one of the first 53
+pub turns_few : (c : In-loop-k) → c.loop-k.k < 53
+turns_few c = c.loop-k-test.true
 
 pub with_digit-q-requires : goal.with_digit-q-requires
 with_digit-q-requires c =
