@@ -18,15 +18,23 @@ use Rattle.factor.specs.Sides.{column_at, each_column, ldl_columns_at}
 use Rattle.factor.proofs.EachColumn.{each_then}
 
 -- ---- the zeros before the head, of one column lent as a part P
-pub forward_part : (s i n a r : ℕ) (L b P : List Float) → r ≤ s → n * s ≤ length b → a < n → P ≡ row (a * s) s b → Zeros 0 r (across_term s L i (λ k. at s b a k)) → Zeros 0 r (across_term s L i (λ k. P ! k))
+pub forward_part : (s i a r : ℕ) (L b P : List Float) → r ≤ s → ((k : ℕ) → k < s → P ! k ≡ at s b a k) → Zeros 0 r (across_term s L i (λ k. at s b a k)) → Zeros 0 r (across_term s L i (λ k. P ! k))
 unfolding across_term
-forward_part s i n a r L b P h fits m q z k l w =
-    rw (ap (λ (c : List Float). c ! k) q ∙ row_at (a * s) s b (omega (arith, row_fits a n s m)) k (omega arith)) (z k l w)
+forward_part s i a r L b P h same z k l m = rw (same k (omega arith)) (z k l m)
 
-pub backward_part : (s i n a r : ℕ) (L b P : List Float) → r ≤ s → n * s ≤ length b → a < n → P ≡ row (a * s) s b → Zeros (i + 1) r (down_term s L i (λ k. at s b a k)) → Zeros (i + 1) r (down_term s L i (λ k. P ! k))
+pub backward_part : (s i a r : ℕ) (L b P : List Float) → r ≤ s → ((k : ℕ) → k < s → P ! k ≡ at s b a k) → Zeros (i + 1) r (down_term s L i (λ k. at s b a k)) → Zeros (i + 1) r (down_term s L i (λ k. P ! k))
 unfolding down_term
-backward_part s i n a r L b P h fits m q z k l w =
-    rw (ap (λ (c : List Float). c ! k) q ∙ row_at (a * s) s b (omega (arith, row_fits a n s m)) k (omega arith)) (z k l w)
+backward_part s i a r L b P h same z k l m = rw (same k (omega arith)) (z k l m)
+
+-- where the part is that column's row
+row_same : (s n a : ℕ) (b P : List Float) → n * s ≤ length b → a < n → P ≡ row (a * s) s b → (k : ℕ) → k < s → P ! k ≡ at s b a k
+row_same s n a b P fits m q k l = ap (λ (c : List Float). c ! k) q ∙ row_at (a * s) s b (omega (arith, row_fits a n s m)) k l
+
+pub forward_row : (s i n a r : ℕ) (L b P : List Float) → r ≤ s → n * s ≤ length b → a < n → P ≡ row (a * s) s b → Zeros 0 r (across_term s L i (λ k. at s b a k)) → Zeros 0 r (across_term s L i (λ k. P ! k))
+forward_row s i n a r L b P h fits m q z = forward_part s i a r L b P h (row_same s n a b P fits m q) z
+
+pub backward_row : (s i n a r : ℕ) (L b P : List Float) → r ≤ s → n * s ≤ length b → a < n → P ≡ row (a * s) s b → Zeros (i + 1) r (down_term s L i (λ k. at s b a k)) → Zeros (i + 1) r (down_term s L i (λ k. P ! k))
+backward_row s i n a r L b P h fits m q z = backward_part s i a r L b P h (row_same s n a b P fits m q) z
 
 -- ---- the last row of a pass
 pub forward_end : (s n i : ℕ) (L b X : List Float) → i ≤ s → s ≤ i → X ≡ each_column (fill_by (unit_forward_rule s L) i) s n b → X ≡ each_column (unit_forward s L) s n b

@@ -51,10 +51,19 @@ held_by G k i r m a s e x =
     let w : x.0 ≡ s = cc in
     rw w at x.2
 
--- where the inner fit has a mode, two such answers leave the same for the results
+-- where the inner fit has a mode, two such answers have a result each, and leave the same for the results
 pub left_once : (G : Given) (wish : ℕ) (phi : Float) (L : ℕ) (mu r r' r'' m m' m'' t t' t'' : List Float) (a b : InnerAnswer) (k : Mode) (i : Result (Float × Order) Decline) → (inner_of G wish phi L mu).ending ≡ with_mode k i
+    → AnswerLeft G wish phi L mu r r' m m' t t' a → AnswerLeft G wish phi L mu r r'' m m'' t t'' b
+    → (s : Answered) × (s' : Answered) × (a.outcome ≡ Ok s) × (b.outcome ≡ Ok s') × SameResults G s.in_second s'.in_second r' r'' m' m''
+left_once G wish phi L mu r r' r'' m m' m'' t t' t'' a b k i e x y =
+    let x' : AnswerTold (with_mode k i) G r' m' a = rw e at x.told in
+    let y' : AnswerTold (with_mode k i) G r'' m'' b = rw e at y.told in
+    (x'.0, y'.0, x'.1, y'.1, results_once G k (x'.0).in_second (y'.0).in_second r' r'' m' m'' x'.2.results y'.2.results)
+
+-- the same of results that are known
+pub left_of : (G : Given) (wish : ℕ) (phi : Float) (L : ℕ) (mu r r' r'' m m' m'' t t' t'' : List Float) (a b : InnerAnswer) (k : Mode) (i : Result (Float × Order) Decline) → (inner_of G wish phi L mu).ending ≡ with_mode k i
     → AnswerLeft G wish phi L mu r r' m m' t t' a → AnswerLeft G wish phi L mu r r'' m m'' t t'' b → (s s' : Answered) → a.outcome ≡ Ok s → b.outcome ≡ Ok s' → SameResults G s.in_second s'.in_second r' r'' m' m''
-left_once G wish phi L mu r r' r'' m m' m'' t t' t'' a b k i e x y s s' ea eb =
+left_of G wish phi L mu r r' r'' m m' m'' t t' t'' a b k i e x y s s' ea eb =
     let x' : AnswerTold (with_mode k i) G r' m' a = rw e at x.told in
     let y' : AnswerTold (with_mode k i) G r'' m'' b = rw e at y.told in
     let h : HoldsAnswer G k i r' m' s = held_by G k i r' m' a s ea x' in

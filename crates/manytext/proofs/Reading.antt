@@ -27,7 +27,7 @@ none_in words n e = rw e (sym (div-zero words))
 
 -- ---- what is told of a job
 -- the header of what is found, or the fault
-abbrev header_in : Result Found Fault → Result Header Fault
+abbrev pub header_in : Result Found Fault → Result Header Fault
 header_in (Ok g) = Ok g.header
 header_in (Err e) = Err e
 
@@ -36,7 +36,7 @@ unfolding found_by reading_of read_by
 by_fault (Ok t) j = refl
 by_fault (Err e) j = refl
 
-reading_is : (s : List ℕ) (b a : Inputs) (r : Result Found Fault) → roomy b ≡ true → ReadDone s b r a → header_in r ≡ reading_of (read_of s)
+pub reading_is : (s : List ℕ) (b a : Inputs) (r : Result Found Fault) → roomy b ≡ true → ReadDone s b r a → header_in r ≡ reading_of (read_of s)
 unfolding read_of
 reading_is s b a r room d = ap header_in (rw (with_room s b room) at d.says) ∙ by_fault (fault_of s) (job_of s)
 

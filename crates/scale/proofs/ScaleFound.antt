@@ -140,7 +140,7 @@ module _ (q s k place end : ℕ) (m m₁ t ys : List Float) (r : Result ⊤ ℕ)
   first = factor_made k place end (block_of q s k m) m₁ t ys r ee wrote_block.row' ht l d
 
   -- LDL' has a bad pivot
-  no_inverse : (i : ℕ) → r ≡ Err i → ScaleLeaves q s k m m₁ t (with_front k t ys) (Err Inverse)
+  pub no_inverse : (i : ℕ) → r ≡ Err i → ScaleLeaves q s k m m₁ t (with_front k t ys) (Err Inverse)
   unfolding tell_scale block_scale ldl_scale after_ldl
   no_inverse i e = record { scale = rw (← first.end, e) refl; matrices_only = w.only; terms_only = first.frame }
 
@@ -166,12 +166,12 @@ module _ (q s k place end : ℕ) (m m₁ t ys : List Float) (r : Result ⊤ ℕ)
     changed = let o : Only place (k * k) m (put_mid place (end - place) (put_mid place (end - place) m₁ zs) ws) = only_trans wrote_block.only (only_trans second.only third.frame) in rw (← ep) o
 
     -- Cholesky of the inverse has a bad pivot
-    no_factor : (i : ℕ) → z ≡ Err i → ScaleLeaves q s k m (put_mid place (end - place) (put_mid place (end - place) m₁ zs) ws) t (with_front k t ys) (Err Factor)
+    pub no_factor : (i : ℕ) → z ≡ Err i → ScaleLeaves q s k m (put_mid place (end - place) (put_mid place (end - place) m₁ zs) ws) t (with_front k t ys) (Err Factor)
     unfolding tell_scale block_scale ldl_scale after_ldl inverse_scale cholesky_scale after_cholesky
     no_factor i g = record { scale = rw (← first.end, e, ← third.end, g) refl; matrices_only = changed; terms_only = first.frame }
 
     -- the factor was found
-    scale_found : z ≡ Ok tt → ScaleLeaves q s k m (put_mid place (end - place) (put_mid place (end - place) m₁ zs) ws) t (with_front k t ys) (Ok tt)
+    pub scale_found : z ≡ Ok tt → ScaleLeaves q s k m (put_mid place (end - place) (put_mid place (end - place) m₁ zs) ws) t (with_front k t ys) (Ok tt)
     unfolding tell_scale block_scale ldl_scale after_ldl inverse_scale cholesky_scale after_cholesky
     scale_found g =
         let L : row (inverse_place q) (k * k) (put_mid place (end - place) (put_mid place (end - place) m₁ zs) ws) ≡ cholesky_of k (ldl_inverse k (factor_of_block k (block_of q s k m))) =

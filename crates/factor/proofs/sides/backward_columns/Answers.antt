@@ -9,7 +9,7 @@ use Rattle.factor.specs.Substitution.{down_term, unit_backward_rule}
 use Rattle.factor.specs.Heads.{Zeros}
 use Rattle.factor.specs.Sides.{RowEntered}
 use Rattle.base.specs.Sum.{◌!◌}
-use Rattle.factor.proofs.ColumnsSolved.{backward_part}
+use Rattle.factor.proofs.ColumnsSolved.{backward_row}
 use Rattle.factor.proofs.ZeroTerms.{head_bounds, down_zeros}
 use Rattle.factor.proofs.EachColumn.{each_none, each_down, fine_down}
 use Rattle.factor.proofs.ColumnsSolved.{backward_end}
@@ -29,7 +29,7 @@ enter_columns-fine-requires c =
       room = omega arith;
       may = λ b p l e q.
           let z : Zeros (loop.i - 1 + 1) head.result (down_term a.s a.l.now (loop.i - 1) (λ k. p.now ! k)) =
-          backward_part a.s (loop.i - 1) a.count b head.result a.l.now loop.x p.now (omega arith) (omega arith) l q
+          backward_row a.s (loop.i - 1) a.count b head.result a.l.now loop.x p.now (omega arith) (omega arith) l q
           (down_zeros a.s (loop.i - 1) a.l.now (λ k. at a.s loop.x b k) loop.fine head.result (omega arith) head.ensures (λ t k m p'. loop.invariant.3 t b k l (omega arith) p')) in
           search rules;
     }

@@ -8,7 +8,7 @@ use Rattle.factor.specs.Substitution.{across_term, unit_forward_rule}
 use Rattle.factor.specs.Heads.{Zeros}
 use Rattle.factor.specs.Sides.{RowEntered}
 use Rattle.base.specs.Sum.{◌!◌}
-use Rattle.factor.proofs.ColumnsSolved.{forward_part}
+use Rattle.factor.proofs.ColumnsSolved.{forward_row}
 use Rattle.factor.proofs.ZeroTerms.{head_bounds, across_zeros}
 use Rattle.factor.proofs.EachColumn.{each_none, each_up, fine_up}
 use Rattle.factor.proofs.ColumnsSolved.{forward_end}
@@ -29,7 +29,7 @@ enter_columns-fine-requires c =
       room = omega arith;
       may = λ b p l e q.
           let z : Zeros 0 head.result (across_term a.s a.l.now loop.i (λ k. p.now ! k)) =
-          forward_part a.s loop.i a.count b head.result a.l.now loop.x p.now (omega arith) (omega arith) l q
+          forward_row a.s loop.i a.count b head.result a.l.now loop.x p.now (omega arith) (omega arith) l q
           (across_zeros a.s loop.i a.l.now (λ k. at a.s loop.x b k) loop.fine head.result head.ensures (λ t k m. loop.invariant.2 t b k l m)) in
           search rules;
     }
